@@ -1,0 +1,7 @@
+mod Lists
+mod Seats
+mod Views
+mod Runs
+mod Outcomes
+mod Simulation
+mod Sessions
