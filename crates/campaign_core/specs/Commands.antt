@@ -1,9 +1,10 @@
 -- The command that a line is.
-use Rattle.std.specs.Prelude.{◌≡◌, ℕ, Bool, false, List, [], ◌∷◌, Option, Some, None, option_and_then, Result, Ok, Err, if◌then◌else◌, codes}
+use Rattle.std.specs.Prelude.{◌≡◌, ℕ, Bool, List, [], ◌∷◌, Option, Some, None, option_and_then, Result, Ok, Err, if◌then◌else◌, codes}
 use Rattle.std.specs.Str.{bytes_eq}
 use Rattle.serde_json.specs.Data.{Data}
 use Rattle.serde_json.specs.Find.{get, as_str}
-use Rattle.json_fields.specs.Fields.{value_of, whole_in, text_in, unknown_in}
+use Rattle.json_fields.specs.Values.{value_of}
+use Rattle.json_fields.specs.Fields.{whole_in, text_in, unknown_in}
 use Rattle.campaign_core.specs.declared.command.Command.{Command}
 use Rattle.campaign_core.specs.declared.command.Command.TheVariants.{Hello, Bye, Say}
 use Rattle.campaign_core.specs.declared.command.LineFault.{LineFault}
@@ -36,7 +37,7 @@ unless_unknown a (Some key) = Err (BadField key)
 
 unfoldable pub hello_in : Data → Result Command LineFault
 hello_in d = do
-  seat ← needed (codes "seat") (whole_in (codes "seat") 32 d)
+  seat ← needed (codes "seat") (whole_in (codes "seat") 0 32 d)
   key ← needed (codes "key") (text_in (codes "key") 1 64 d)
   unless_unknown (Hello seat key) (unknown_in (codes "do" ∷ codes "seat" ∷ codes "key" ∷ []) d)
 
@@ -77,5 +78,5 @@ hello_part (Ok (Say text)) = None
 hello_part (Err fault) = None
 
 -- the seat and key of a line that is a hello
-abbrev pub hello_of : List ℕ → Option (ℕ × List ℕ)
-hello_of bytes = hello_part (command_of bytes false)
+abbrev pub hello_of : List ℕ → Bool → Option (ℕ × List ℕ)
+hello_of bytes gm = hello_part (command_of bytes gm)
