@@ -1,4 +1,0 @@
-pub mod Keys
-pub mod OneLine
-pub mod Printed
-pub mod Reading

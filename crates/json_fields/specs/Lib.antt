@@ -1,4 +1,0 @@
-pub mod Fields
-pub mod Kinds
-pub mod Lines
-pub mod Values
