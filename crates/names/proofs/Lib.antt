@@ -1,0 +1,2 @@
+pub mod TagBytes
+pub mod IdTexts
