@@ -61,10 +61,12 @@ decimal-maker_of (tens ∷ ones ∷ []) m h =
     let range : (49 ≤ tens) × (tens ≤ 57) × (48 ≤ ones) × (ones ≤ 57) × (number_of tens ones ≤ 32) = grind (arith, nat_tests) in
     let large : 10 ≤ m = omega (arith, p.1, range) in
     let front : 48 + m / 10 ≡ tens = omega (arith, p.1, range) in
-    let last : 48 + m % 10 ≡ ones = omega (arith, p.1, range) in
-    (decimal_step m large (omega (arith, p.1, range))
-      ∙ ap (λ ds. ds ++ (48 + m % 10) ∷ []) (decimal_digit (m / 10) (omega (arith, p.1, range)))
-      ∙ (λ i. front i ∷ last i ∷ []), omega (arith, p.1, range))
+    let last : 48 + m % 10 ≡ ones = omega (arith, p.1, range) in (
+      decimal_step m large (omega (arith, p.1, range))
+          ∙ ap (λ ds. ds ++ (48 + m % 10) ∷ []) (decimal_digit (m / 10) (omega (arith, p.1, range)))
+          ∙ (λ i. front i ∷ last i ∷ []),
+      omega (arith, p.1, range),
+    )
 decimal-maker_of (tens ∷ ones ∷ more ∷ rest) m h = cc
 
 -- ---- the first colon
@@ -142,9 +144,10 @@ text_of_read bytes id h =
     let parts : (is_tag after ≡ true) × (maker_of before ≡ Some id.maker) × (after ≡ id.tag) = parts_of (is_tag after) (maker_of before) after id h in
     let found : position_or_len is_colon bytes < length bytes = tag_from_colon bytes parts.0 in
     let middle : get_or bytes (position_or_len is_colon bytes) 0 ≡ colon = (Decides-eqb (get_or bytes (position_or_len is_colon bytes) 0) colon).0 (passes_at_first is_colon bytes 0 found) in
-    let maker : (decimal id.maker ≡ before) × (id.maker ≤ 32) = decimal-maker_of before id.maker parts.1 in
-    ((λ i. maker.0 i ++ sym middle i ∷ sym parts.2 i) ∙ sym (split_at_first is_colon bytes 0 found),
-     record { maker = maker.1; tag = sym (ap is_tag parts.2) ∙ parts.0 })
+    let maker : (decimal id.maker ≡ before) × (id.maker ≤ 32) = decimal-maker_of before id.maker parts.1 in (
+      (λ i. maker.0 i ++ sym middle i ∷ sym parts.2 i) ∙ sym (split_at_first is_colon bytes 0 found),
+      record { maker = maker.1; tag = sym (ap is_tag parts.2) ∙ parts.0 },
+    )
 
 parts_read : (t : Bool) (m : Option ℕ) (id : TokenId) → t ≡ true → m ≡ Some id.maker → cond t (option_map (λ n. record { maker = n; tag = id.tag }) m) None ≡ Some id
 parts_read t m id h k = λ i. cond (h i) (option_map (λ n. record { maker = n; tag = id.tag }) (k i)) None

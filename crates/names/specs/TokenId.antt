@@ -3,8 +3,11 @@ use Rattle.std.specs.Prelude.{◌≤◌, ◌≡◌, ℕ, ◌+◌, ◌*◌, ◌-�
 use Rattle.std.specs.List.{before_first, after_first}
 use Rattle.std.specs.Char.{is_ascii_digit}
 use Rattle.std.specs.Fmt.{decimal}
+use Rattle.std.specs.Str.{bytes_eq}
+use Rattle.std.specs.declared.cmp.Ordering.{Ordering}
+use Rattle.std.specs.Ordering.{nat_cmp, on, then_cmp}
 use Rattle.names.specs.declared.token_id.TokenId.{TokenId}
-use Rattle.names.specs.Tag.{is_tag}
+use Rattle.names.specs.Tag.{is_tag, tag_cmp}
 
 abbrev pub colon : ℕ
 colon = 58
@@ -16,6 +19,13 @@ is_colon byte = byte == colon
 pub record IsTokenId (id : TokenId) : Type 0 where
   pub maker : id.maker ≤ 32
   pub tag : is_tag id.tag ≡ true
+
+abbrev pub id_eq : TokenId → TokenId → Bool
+id_eq a b = (a.maker == b.maker) && bytes_eq a.tag b.tag
+
+-- the order of ids: by maker, then by tag
+abbrev pub id_cmp : TokenId → TokenId → Ordering
+id_cmp = then_cmp (on (λ id. id.maker) nat_cmp) (on (λ id. id.tag) tag_cmp)
 
 unfoldable pub id_text : TokenId → List ℕ
 id_text id = decimal id.maker ++ colon ∷ id.tag

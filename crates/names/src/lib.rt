@@ -18,3 +18,6 @@ pub use seat_no::SeatNo;
 pub use tags::{BadTag, Tag};
 pub use texts::{LineText, Text};
 pub use token_id::TokenId;
+
+#[cfg(test)]
+mod tests;

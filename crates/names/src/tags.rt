@@ -1,10 +1,11 @@
 //! Tags: short names of maps, types, macros, properties and tokens.
-ghost use Rattle.std.specs.Prelude.{◌≡◌, ◌==◌, ◌≤◌, ◌↔◌, ℕ, length, List, Some, false, true, IfOk, IsErr, IsTrue, refl};
+ghost use Rattle.std.specs.Prelude.{◌≡◌, ◌==◌, ◌≤◌, ◌↔◌, ℕ, length, List, Some, false, true, IfOk, IsErr, IsOk, IsTrue, refl};
+ghost use Rattle.std.specs.Result.{result_ok};
 ghost use Rattle.std.specs.List.{list_all};
 ghost use Rattle.std.specs.Ordering.{nat_cmp};
 ghost use Rattle.std.specs.Cmp.{partial_equiv_from_equiv};
 ghost use Rattle.std.specs.Cmp.Lexicographic.{pointwise, slice_cmp, nat_list_eq_equiv, nat_list_cmp_total, texts_po, texts_ties};
-ghost use Rattle.names.specs.Tag.{is_tag as is_tag_lem, is_tag_byte as is_tag_byte_lem, padded as padded_lem};
+ghost use Rattle.names.specs.Tag.{is_tag as is_tag_lem, is_tag_byte as is_tag_byte_lem, padded as padded_lem, tag_of};
 
 use std::cmp::Ordering;
 use std::marker::Model;
@@ -41,8 +42,11 @@ impl Model for Tag {
 
 impl Tag {
     /// The tag of these bytes; `BadTag` exactly where they are no tag.
+    #[tactic(auto, unfolding(crate::specs::Tag::tag_of))]
     pub fn read(bytes: &[u8]) -> Result<Tag, BadTag>
-        ensures value { IfOk result (λ tag. tag ≡ bytes.now) }
+        ensures value { result_ok result ≡ tag_of bytes.now }
+        ensures ok { IfOk result (λ tag. tag ≡ bytes.now) }
+        ensures good { IsOk result ↔ IsTrue (is_tag_lem bytes.now) }
         ensures bad { IsErr result ↔ (is_tag_lem bytes.now ≡ false) }
     {
         if !is_tag(bytes) {

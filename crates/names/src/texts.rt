@@ -35,6 +35,14 @@ impl LineText {
         LineText { bytes }
     }
 
+    /// The bytes, given back without a copy.
+    pub fn into_bytes(self) -> Vec<u8>
+        ensures { result.items ≡ self }
+    {
+        let LineText { bytes } = self;
+        bytes
+    }
+
     /// The bytes.
     pub fn bytes(&self) -> &[u8]
         ensures { result.now ≡ self.now }
@@ -71,6 +79,14 @@ impl Text {
         ensures { result ≡ string_bytes text }
     {
         Text { text }
+    }
+
+    /// The text, given back without a copy.
+    pub fn into_string(self) -> String
+        ensures { string_bytes result ≡ self }
+    {
+        let Text { text } = self;
+        text
     }
 
     /// The text.

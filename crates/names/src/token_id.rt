@@ -1,18 +1,24 @@
 //! Ids of tokens.
-ghost use Rattle.std.specs.Prelude.{◌≡◌, ◌≢◌, ℕ, List, IfOk, OnErr, MatchResult, Some, None};
+ghost use Rattle.std.specs.Prelude.{◌≡◌, ◌≢◌, ℕ, List, IfOk, OnErr, Some, refl};
+ghost use Rattle.std.specs.Result.{result_ok};
+ghost use Rattle.std.proofs.Common.{rules};
+ghost use Rattle.std.specs.Cmp.{partial_order_from_own_ties};
+ghost use Rattle.std.specs.Cmp.Rules.{comparing};
+ghost use Rattle.std.specs.Ordering.{as_partial_cmp};
 ghost use Rattle.std.specs.List.{position};
 ghost use Rattle.names.specs.declared.token_id.TokenId.{TokenId};
-ghost use Rattle.names.specs.TokenId.{id_of, id_of_parts, id_text, is_colon, maker_of, IsTokenId};
+ghost use Rattle.names.specs.TokenId.{id_cmp, id_eq, id_of, id_of_parts, id_text, is_colon, maker_of, IsTokenId};
 
 use crate::memory::Memory;
 use crate::seat_no::SeatNo;
 use crate::tags::{BadTag, Tag};
 use crate::texts::Text;
 use std::alloc::Global;
+use std::cmp::Ordering;
 
 /// A token's id: the seat that made it, and a tag that this seat never used before. Ids are
 /// ordered by maker, then tag.
-#[derive(Clone, Copy, Debug, PartialEq, Eq, PartialOrd, Ord)]
+#[derive(Clone, Copy, Debug)]
 pub struct TokenId {
     pub maker: SeatNo,
     pub tag: Tag,
@@ -23,7 +29,7 @@ impl TokenId {
     /// tag. `BadTag` exactly where no id has this text.
     #[tactic(auto, using(crate::proofs::IdTexts::text_of_read, crate::proofs::IdTexts::none_read))]
     pub fn read(bytes: &[u8]) -> Result<TokenId, BadTag>
-        ensures value { MatchResult result (λ id. id_of bytes.now ≡ Some id) (λ _. id_of bytes.now ≡ None) }
+        ensures value { result_ok result ≡ id_of bytes.now }
         ensures text { IfOk result (λ id. id_text id ≡ bytes.now) }
         ensures valid { IfOk result IsTokenId }
         ensures bad { OnErr result ((id : TokenId) → IsTokenId id → id_text id ≢ bytes.now) }
@@ -40,6 +46,44 @@ impl TokenId {
             Ok(text) => Ok(Text::new(text)),
             Err(_) => Err(Memory),
         }
+    }
+}
+
+impl PartialEq for TokenId {
+    ghost eq = { id_eq };
+
+    ghost laws = { Prim.search (comparing, rules) };
+
+    fn eq(&self, other: &TokenId) -> bool {
+        self.maker == other.maker && self.tag == other.tag
+    }
+}
+
+impl Eq for TokenId {
+    ghost laws = { Prim.search (comparing, rules) };
+}
+
+impl PartialOrd for TokenId {
+    ghost partial_cmp = { as_partial_cmp id_cmp };
+
+    ghost laws = { partial_order_from_own_ties (Prim.search (comparing, rules)) (Prim.search (comparing, rules)) };
+
+    fn partial_cmp(&self, other: &TokenId) -> Option<Ordering> {
+        Some(self.cmp(other))
+    }
+}
+
+impl Ord for TokenId {
+    ghost cmp = { id_cmp };
+
+    ghost total = { Prim.search (comparing, rules) };
+
+    ghost matches_partial_cmp = { Prim.search (comparing, rules) };
+
+    ghost matches_eq = { Prim.search (comparing, rules) };
+
+    fn cmp(&self, other: &TokenId) -> Ordering {
+        self.maker.cmp(&other.maker).then(self.tag.cmp(&other.tag))
     }
 }
 
