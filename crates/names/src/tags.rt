@@ -8,6 +8,7 @@ ghost use Rattle.std.specs.Cmp.Lexicographic.{pointwise, slice_cmp, nat_list_eq_
 ghost use Rattle.names.specs.Tag.{is_tag as is_tag_lem, is_tag_byte as is_tag_byte_lem, padded as padded_lem, tag_of};
 
 use std::cmp::Ordering;
+use std::fmt;
 use std::marker::Model;
 
 /// How many bytes a tag has at most.
@@ -18,7 +19,7 @@ const LIMIT: usize = 24;
 pub struct BadTag;
 
 /// A short name: 1 to 24 bytes of `a` to `z`, `0` to `9` and `_`. Tags are ordered by their bytes.
-#[derive(Clone, Copy, Debug)]
+#[derive(Clone, Copy)]
 pub struct Tag {
     // the bytes, and then zeros
     cells: [u8; 24],
@@ -107,6 +108,20 @@ fn padded(bytes: &[u8]) -> [u8; 24]
     let mut cells = [0; 24];
     cells[..bytes.len()].copy_from_slice(bytes);
     cells
+}
+
+impl fmt::Debug for Tag {
+    fn fmt<W: fmt::Write>(&self, f: &mut fmt::Formatter<W>) -> fmt::Result {
+        f.write_str(self.text())
+    }
+}
+
+impl fmt::Display for Tag {
+    ghost output = { λ t. Some t };
+
+    fn fmt<W: fmt::Write>(&self, f: &mut fmt::Formatter<W>) -> fmt::Result {
+        f.write_str(self.text())
+    }
 }
 
 impl PartialEq for Tag {

@@ -42,7 +42,7 @@ impl TokenId {
     pub fn text(&self, alloc: Global) -> Result<Text, Memory>
         ensures { IfOk result (λ text. text ≡ id_text self.now) }
     {
-        match format!(in alloc; "{}:{}", self.maker.number(), self.tag.text()) {
+        match format!(in alloc; "{}:{}", self.maker.number(), self.tag) {
             Ok(text) => Ok(Text::new(text)),
             Err(_) => Err(Memory),
         }
