@@ -1,9 +1,12 @@
 -- The fields of an object.
-use Rattle.std.specs.Prelude.{ℕ, ℤ, Bool, List, Option, Some, None, option_and_then, if◌then◌else◌}
+use Rattle.std.specs.Prelude.{◌≡◌, ◌≢◌, ℕ, ℤ, Bool, false, List, IsSome, IfSome, Option, Some, None, option_and_then, if◌then◌else◌}
+use Rattle.std.specs.Cmp.Lexicographic.{slice_cmp}
 use Rattle.std.specs.List.{list_any}
+use Rattle.std.specs.Ordering.{nat_cmp}
+use Rattle.std.specs.declared.cmp.Ordering.TheVariants.{Less}
 use Rattle.std.specs.Str.{bytes_eq}
 use Rattle.serde_json.specs.Data.{Data, Items, Members, no_members, member}
-use Rattle.serde_json.specs.Find.{get, as_bool, as_str, as_object}
+use Rattle.serde_json.specs.Find.{get, get_member, as_bool, as_str, as_object}
 use Rattle.json_fields.specs.Kinds.{integer_from, whole_from, text_from, word_from, pair_from, rectangle_from, list_from, or_null}
 
 -- the value at the key, of a kind; none where the key is missing, or its value is of another kind
@@ -61,6 +64,13 @@ abbrev pub unknown_member : List (List ℕ) → Members → Option (List ℕ)
 unknown_member known no_members = None
 unknown_member known (member key value rest) = if list_any (λ name. bytes_eq name key) known then unknown_member known rest else Some key
 
--- an object has its keys in the order of their bytes, so this is the least of those that aren't known
 abbrev pub unknown_in : List (List ℕ) → Data → Option (List ℕ)
 unknown_in known d = option_and_then (unknown_member known) (as_object d)
+
+-- no unknown key of the members comes before the key in the order of bytes
+pub record IsLeastUnknown (known : List (List ℕ)) (members : Members) (key : List ℕ) : Type 0 where
+  pub least : (other : List ℕ) → IsSome (get_member other members) → list_any (λ name. bytes_eq name other) known ≡ false → slice_cmp nat_cmp other key ≢ Less
+
+-- the same of an object
+abbrev pub IsLeastUnknownIn : List (List ℕ) → Data → List ℕ → Type 0
+IsLeastUnknownIn known d key = IfSome (as_object d) (λ members. IsLeastUnknown known members key)

@@ -5,7 +5,7 @@ ghost use Rattle.std.specs.Prelude.{◌≡◌, ◌≤◌, ◌≤ℤ◌, map, opt
 ghost use Rattle.std.specs.List.{list_any};
 ghost use Rattle.std.specs.Str.{bytes_eq};
 ghost use Rattle.serde_json.specs.View.{view, items_view, members_view};
-ghost use Rattle.json_fields.specs.Fields.{integer_in, whole_in, text_in, string_in, boolean_in, word_in, pair_in, rectangle_in, list_in, text_or_null_in, whole_or, word_or as word_or_default, unknown_member, unknown_in};
+ghost use Rattle.json_fields.specs.Fields.{integer_in, whole_in, text_in, string_in, boolean_in, word_in, pair_in, rectangle_in, list_in, text_or_null_in, whole_or, word_or as word_or_default, unknown_member, unknown_in, IsLeastUnknown, IsLeastUnknownIn};
 
 use crate::kinds;
 use serde_json::{Map, Value};
@@ -140,15 +140,19 @@ pub fn word_or<T: Copy>(value: &Value, key: &str, default: T, table: &[(&str, T)
 /// The first key, in the order of the keys' bytes, that isn't among `known`. A value that is no object
 /// has none.
 pub fn unknown_key<'v>(value: &'v Value, known: &[&str]) -> Option<&'v str>
-    ensures { option_map (λ s. s.now) result
+    ensures first { option_map (λ s. s.now) result
         ≡ unknown_in (map (λ k. k.now) known.now) (view value.now) }
+    ensures least { IfSome result
+        (λ s. IsLeastUnknownIn (map (λ k. k.now) known.now) (view value.now) s.now) }
 {
     first_unknown(value.as_object()?, known)
 }
 
 fn first_unknown<'v>(members: &'v Map<String, Value>, known: &[&str]) -> Option<&'v str>
-    ensures { option_map (λ s. s.now) result
+    ensures first { option_map (λ s. s.now) result
         ≡ unknown_member (map (λ k. k.now) known.now) (members_view members.now.entries) }
+    ensures least { IfSome result
+        (λ s. IsLeastUnknown (map (λ k. k.now) known.now) (members_view members.now.entries) s.now) }
 {
     for (key, _) in members {
         let name = key.as_str();
