@@ -1,0 +1,5 @@
+pub mod CellsLemmas
+pub mod ScanLemmas
+pub mod RowBitsLemmas
+pub mod RunsLemmas
+pub mod MaximalLemmas
