@@ -1,14 +1,13 @@
 ghost use Rattle.std.specs.Prelude.{◌≡◌, ◌<◌, ◌≤◌, ◌↔◌, ◌^◌, IsTrue, IfOk, ◌||◌, ◌&&◌, not, true, false, slice_index};
 ghost use Rattle.cells.specs.Cell.{is_at};
-ghost use Rattle.cells.specs.Cells.{has, cells_where, count_of, IsShaped};
+ghost use Rattle.cells.specs.Cells.{has, cells_where, cells_eq, count_of, IsShaped, IsToldByCells};
 ghost use Rattle.cells.specs.Runs.{runs_of, AreMaximalRuns};
-
-use std::alloc::Global;
-use std::marker::Model;
 
 use crate::rows::{copy_rows, count_rows, fill_rows, join_rows, meet_rows, minus_rows};
 use crate::{Cell, Runs, Size};
 use names::Memory;
+use std::alloc::Global;
+use std::marker::Model;
 
 /// A set of the cells of a map.
 ///
@@ -55,8 +54,11 @@ impl CellSet {
     }
 
     /// The size of the map.
+    ///
+    /// The clause `told` holds of every set: it is the set of the cells that it has.
     pub fn size(&self) -> Size
-        ensures { result ≡ self.now.extent }
+        ensures value { result ≡ self.now.extent }
+        ensures told { IsToldByCells self.now }
     {
         self.size
     }
@@ -78,9 +80,18 @@ impl CellSet {
     }
 
     /// Whether the two sets are the same.
+    #[tactic(auto, using(crate::proofs::SetLaws::cells_eq_tells))]
     pub fn equals(&self, other: &CellSet) -> bool
         requires { other.now.extent ≡ self.now.extent }
-        ensures { IsTrue result ↔ (self.now ≡ other.now) }
+        ensures test { result ≡ cells_eq self.now other.now }
+        ensures same { IsTrue result ↔ (self.now ≡ other.now) }
+    {
+        self.passes_eq(other)
+    }
+
+    fn passes_eq(&self, other: &CellSet) -> bool
+        requires { other.now.extent ≡ self.now.extent }
+        ensures { result ≡ cells_eq self.now other.now }
     {
         self.rows.as_slice() == other.rows.as_slice()
     }
