@@ -1,0 +1,4 @@
+pub mod Keys
+pub mod OneLine
+pub mod Printed
+pub mod Reading

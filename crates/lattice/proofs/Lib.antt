@@ -1,0 +1,4 @@
+pub mod CoordinatesLemmas
+pub mod MeetLemmas
+pub mod TestLemmas
+pub mod CrossLemmas

@@ -1,0 +1,4 @@
+pub mod TagBytes
+pub mod IdTexts
+pub mod SameIds
+pub mod WordTexts

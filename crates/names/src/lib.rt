@@ -1,0 +1,23 @@
+//! Plain values that every crate speaks of: seat numbers, tags, ids of tokens, owned texts, and
+//! the small enumerations of maps, tokens, walls and properties.
+//!
+//! In contracts a `SeatNo` is its number, a `Tag`, a `Text` and a `LineText` are lists of bytes,
+//! and a `TokenId` is the record of its maker and its tag.
+#![tactic(auto)]
+
+mod kinds;
+mod memory;
+mod seat_no;
+mod tags;
+mod texts;
+mod token_id;
+
+pub use kinds::{Layer, Mode, PropClass, WallKind};
+pub use memory::Memory;
+pub use seat_no::SeatNo;
+pub use tags::{BadTag, Tag};
+pub use texts::{LineText, Text};
+pub use token_id::TokenId;
+
+#[cfg(test)]
+mod tests;

@@ -1,0 +1,98 @@
+//! Texts and lines that own their bytes.
+ghost use Rattle.std.specs.Prelude.{◌≡◌, ℕ, List, IfOk, string_bytes};
+
+use crate::memory::Memory;
+use std::alloc::Global;
+use std::marker::Model;
+
+/// Bytes that are owned, such as a line of input. They need not be UTF-8.
+#[derive(Drop)]
+pub struct LineText {
+    bytes: Vec<u8>,
+}
+
+impl Model for LineText {
+    ghost Value = { List ℕ };
+
+    ghost view = { λ t. t.bytes.items };
+}
+
+impl LineText {
+    /// The same bytes, or `Memory` for want of memory.
+    pub fn copy(alloc: Global, bytes: &[u8]) -> Result<LineText, Memory>
+        ensures { IfOk result (λ t. t ≡ bytes.now) }
+    {
+        match Vec::from_slice(alloc, bytes) {
+            Ok(bytes) => Ok(LineText { bytes }),
+            Err(_) => Err(Memory),
+        }
+    }
+
+    /// These bytes, without a copy.
+    pub fn new(bytes: Vec<u8>) -> LineText
+        ensures { result ≡ bytes.items }
+    {
+        LineText { bytes }
+    }
+
+    /// The bytes, given back without a copy.
+    pub fn into_bytes(self) -> Vec<u8>
+        ensures { result.items ≡ self }
+    {
+        let LineText { bytes } = self;
+        bytes
+    }
+
+    /// The bytes.
+    pub fn bytes(&self) -> &[u8]
+        ensures { result.now ≡ self.now }
+    {
+        self.bytes.as_slice()
+    }
+}
+
+/// A text in UTF-8 that is owned. Contracts see its bytes.
+#[derive(Drop)]
+pub struct Text {
+    text: String,
+}
+
+impl Model for Text {
+    ghost Value = { List ℕ };
+
+    ghost view = { λ t. string_bytes t.text };
+}
+
+impl Text {
+    /// The same text, or `Memory` for want of memory.
+    pub fn copy(alloc: Global, text: &str) -> Result<Text, Memory>
+        ensures { IfOk result (λ t. t ≡ text.now) }
+    {
+        match String::from_str(alloc, text) {
+            Ok(text) => Ok(Text { text }),
+            Err(_) => Err(Memory),
+        }
+    }
+
+    /// This text, without a copy.
+    pub fn new(text: String) -> Text
+        ensures { result ≡ string_bytes text }
+    {
+        Text { text }
+    }
+
+    /// The text, given back without a copy.
+    pub fn into_string(self) -> String
+        ensures { string_bytes result ≡ self }
+    {
+        let Text { text } = self;
+        text
+    }
+
+    /// The text.
+    pub fn text(&self) -> &str
+        ensures { result.now ≡ self.now }
+    {
+        self.text.as_str()
+    }
+}
