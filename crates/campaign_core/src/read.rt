@@ -5,7 +5,7 @@ ghost use Rattle.campaign_core.specs.Commands.{Gives, Fails, needed, hello_in, s
 
 use crate::command::{Command, LineFault};
 use json_fields::fields::{text, unknown_key, whole_u8};
-use json_fields::values::{ReadFault, read_value};
+use json_fields::{ReadFault, read_value};
 use names::{SeatNo, Text};
 use serde_json::Value;
 use std::alloc::Global;

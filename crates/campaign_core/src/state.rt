@@ -1,6 +1,6 @@
 //! What a running campaign keeps: each seat's book, and the lines that wait for it.
-ghost use Rattle.std.specs.Prelude.{◌≡◌, ◌≤◌, ◌==◌, ◌+◌, ◌-◌, length, slice_get, option_map, Some, IfOk, OnOk, map, drop, ◌++◌, ◌∷◌, [], if◌then◌else◌, ◌&&◌, not};
-ghost use Rattle.seats.specs.Book.{is_free as is_free_lem, is_joined as is_joined_lem};
+ghost use Rattle.std.specs.Prelude.{◌≡◌, ◌≤◌, ◌==◌, ◌+◌, ◌-◌, ◌||◌, length, slice_get, option_map, Some, IfOk, OnOk, map, drop, ◌++◌, ◌∷◌, [], if◌then◌else◌, ◌&&◌, not};
+ghost use Rattle.seats.specs.Book.{is_free as is_free_lem, is_closing as is_closing_lem};
 ghost use Rattle.campaign_core.specs.Views.{no_view};
 ghost use Rattle.campaign_core.specs.Seat.{Seat, let_go, is_let_go as is_let_go_lem};
 ghost use Rattle.campaign_core.specs.Outcome.{seat_of as seat_of_lem};
@@ -132,4 +132,134 @@ fn add_line(all: &mut Vec<LineText>, line: LineText) -> Result<(), Memory>
         Ok(()) => Ok(()),
         Err(_) => Err(Memory),
     }
+}
+
+// ---- the lines of an entry
+
+/// The reply, where it is queued.
+fn queued_reply_lines(alloc: Global, outcome: &Outcome, acts: bool) -> Result<Vec<LineText>, Memory>
+    ensures { IfOk result (λ v. v.items ≡ (if acts then queued_reply outcome.now else [])) }
+{
+    let mut lines = Vec::new(alloc);
+    if acts && !outcome.direct {
+        if let Some(reply) = &outcome.reply {
+            add_line(&mut lines, LineText::copy(alloc, reply.bytes())?)?;
+        }
+    }
+    Ok(lines)
+}
+
+/// Whether the seat is there at the entry.
+fn is_present(outcome: &Outcome, acts: bool, post: &Post) -> bool
+    ensures { result ≡ is_present_lem acts (Some post.now.seat) outcome.now }
+{
+    is_joined(post.book.state()) || (acts && outcome.joins)
+}
+
+/// The line on a view that doesn't change.
+#[tactic(auto, using(crate::proofs::Views::view_lines_unchanged, crate::proofs::Views::view_lines_full))]
+fn add_view(lines: &mut Vec<LineText>, alloc: Global, full: bool) -> Result<(), Memory>
+    ensures { OnOk result (lines.new.items ≡ lines.old.items ++ view_lines full no_view no_view) }
+{
+    if !full {
+        return Ok(());
+    }
+    add_line(lines, full_line(alloc)?)
+}
+
+#[tactic(auto, unfolding(crate::specs::World::addressed))]
+fn add_messages(lines: &mut Vec<LineText>, alloc: Global, outcome: &Outcome, seat: u8) -> Result<(), Memory>
+    ensures { OnOk result (lines.new.items ≡ lines.old.items ++ messages_to seat outcome.now) }
+{
+    let _seat = seat;
+    add_lines(lines, alloc, &outcome.messages)
+}
+
+/// The lines of the entry that are queued for a seat, where no view changes.
+fn queued(
+    alloc: Global,
+    outcome: &Outcome,
+    acts: bool,
+    post: &Post,
+    seat: u8,
+) -> Result<Vec<LineText>, Memory>
+    ensures { IfOk result (λ v. v.items ≡ queued_lines seat acts (Some post.now.seat) outcome.now no_view no_view) }
+{
+    let mut lines = queued_reply_lines(alloc, outcome, acts)?;
+    if !is_present(outcome, acts, post) {
+        return Ok(lines);
+    }
+    add_messages(&mut lines, alloc, outcome, seat)?;
+    add_view(&mut lines, alloc, acts && outcome.full)?;
+    Ok(lines)
+}
+
+// ---- a seat after an entry
+
+fn changed_book(outcome: &Outcome, acts: bool, post: &Post) -> Result<SeatBook, Memory>
+    ensures { IfOk result (λ b. b ≡ (changed outcome.now acts post.now.seat).book) }
+{
+    match &outcome.book {
+        Some(book) => {
+            if acts {
+                book.copy()
+            } else {
+                post.book.copy()
+            }
+        }
+        None => post.book.copy(),
+    }
+}
+
+fn changed_taken(outcome: &Outcome, acts: bool, post: &Post) -> u64
+    ensures { result ≡ (changed outcome.now acts post.now.seat).taken }
+{
+    if acts {
+        max(post.taken, min(outcome.taken, post.queued))
+    } else {
+        post.taken
+    }
+}
+
+/// Nothing waits for a seat that is Free, and a Closing seat is Free once nothing waits for it.
+fn is_let_go(state: SeatState, queued: u64, taken: u64) -> bool
+    ensures { result ≡ (is_free_lem state || (is_closing_lem state && (taken == queued))) }
+{
+    match state {
+        SeatState::Free => true,
+        SeatState::Joined { .. } => false,
+        SeatState::Closing { .. } => taken == queued,
+    }
+}
+
+/// The seat, or what it is once it is let go.
+fn settled(alloc: Global, mut book: SeatBook, queued: u64, taken: u64, mail: Vec<LineText>) -> Post
+    ensures seat { result.seat ≡ let_go (record { book = book; queued = queued; taken = taken }) }
+    ensures mail { result.mail ≡ (if is_free_lem result.seat.book.state then [] else mail.items) }
+{
+    if is_let_go(book.state(), queued, taken) {
+        book.free();
+        return Post {
+            book,
+            queued: 0,
+            taken: 0,
+            mail: Vec::new(alloc),
+        };
+    }
+    Post {
+        book,
+        queued,
+        taken,
+        mail,
+    }
+}
+
+/// The lines but for the first `gone`.
+fn lines_past(alloc: Global, lines: &[LineText], gone: u64) -> Result<Vec<LineText>, Memory>
+    ensures { IfOk result (λ v. v.items ≡ drop gone lines.now) }
+{
+    if gone >= lines.len() as u64 {
+        return Ok(Vec::new(alloc));
+    }
+    copied_lines(alloc, &lines[gone as usize..])
 }

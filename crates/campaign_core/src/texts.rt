@@ -5,7 +5,7 @@ ghost use Rattle.campaign_core.specs.Texts.{hello_tree, hello_line as hello_text
 ghost use Rattle.campaign_core.specs.Views.{full_tree, full_line as full_text, no_view};
 
 use crate::command::Refusal;
-use json_fields::lines::compact_line;
+use json_fields::compact_line;
 use names::{LineText, Memory, SeatNo};
 use serde_json::{Value, json};
 use std::alloc::{AllocError, Global};
