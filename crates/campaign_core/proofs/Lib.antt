@@ -5,3 +5,4 @@ mod Runs
 mod Outcomes
 mod Simulation
 mod Sessions
+mod States

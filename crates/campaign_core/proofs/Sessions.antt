@@ -116,7 +116,7 @@ session_more w ls (x ∷ h) e p = session_more (step w x) (session_after w ls x 
 
 -- ---- the state
 
-world_in-state_of : (w : World) (h : List Entry) → world_in (state_of w h) ≡ replay w h
+pub world_in-state_of : (w : World) (h : List Entry) → world_in (state_of w h) ≡ replay w h
 world_in-state_of w h = ap (λ seats. record { seats = seats; scene = (replay w h).scene }) (map-mapped_from (post_of w h) (λ post. post.seat) 0 (replay w h).seats ∙ mapped_from-itself 0 (replay w h).seats)
 
 -- what waits after one more entry

@@ -1,9 +1,9 @@
 -- What a running campaign keeps: its world, and beside each seat the lines that wait for it.
 use Rattle.std.specs.Prelude.{ℕ, ◌==◌, ◌-◌, Bool, List, ◌++◌, [], map, drop, if◌then◌else◌, Option, Some}
-use Rattle.seats.specs.Book.{is_free}
+use Rattle.seats.specs.Book.{Book, is_free}
 use Rattle.campaign_core.specs.declared.entry.Entry.{Entry}
-use Rattle.campaign_core.specs.Views.{Scene, View, view_of}
-use Rattle.campaign_core.specs.Seat.{Seat}
+use Rattle.campaign_core.specs.Views.{Scene, bare, View, view_of}
+use Rattle.campaign_core.specs.Seat.{Seat, fresh_seat}
 use Rattle.campaign_core.specs.Outcome.{Outcome, seat_of}
 use Rattle.campaign_core.specs.World.{World, outcome_of, scene_after, queued_lines, seat_by, mapped_from, replay}
 use Rattle.campaign_core.specs.Session.{session}
@@ -16,6 +16,13 @@ pub record Post : Type 0 where
 pub record State : Type 0 where
   pub posts : List Post
   pub scene : Scene
+
+abbrev pub opening_post : Book → Post
+opening_post book = record { seat = fresh_seat book; mail = [] }
+
+-- of a campaign that opens with these seats
+abbrev pub opening_state : List Book → State
+opening_state books = record { posts = map opening_post books; scene = bare }
 
 abbrev pub world_in : State → World
 world_in state = record { seats = map (λ post. post.seat) state.posts; scene = state.scene }

@@ -1,6 +1,20 @@
 //! A campaign as its callers see it: the world that it opened with, and its history.
+ghost use Rattle.std.specs.Prelude.{◌≡◌, ◌<◌, ◌≤◌, ◌++◌, ◌∷◌, [], ℕ, length, Some, IfOk, OnOk, IfErr, OnErr, map, drop, option_map};
+ghost use Rattle.std.specs.List.{AllByRecursion};
+ghost use Rattle.seats.specs.Book.{IsFresh};
+ghost use Rattle.campaign_core.specs.Seat.{fresh_seat};
+ghost use Rattle.campaign_core.specs.World.{World, seat_at};
+ghost use Rattle.campaign_core.specs.Session.{session, waiting};
+ghost use Rattle.campaign_core.specs.Law.{Course, IsOpening, IsSentAsMachine, world_of, answer_of as answer_of_lem, answer_after};
+
 use crate::command::Refusal;
-use names::LineText;
+use crate::entry::Entry;
+use crate::outcome::{Outcome, decide, steps_of};
+use crate::state::{Post, State};
+use names::{LineText, Memory, SeatNo};
+use seats::{SeatBook, SeatState};
+use std::alloc::Global;
+use std::marker::Model;
 
 /// What an entry's caller is told.
 #[derive(Drop)]
@@ -11,4 +25,160 @@ pub struct Answer {
     pub taken: u32,
     /// The reply that stands in no queue.
     pub line: Option<LineText>,
+}
+
+/// A campaign: the world that it opened with, and its history since. Its state is the replay of the
+/// history from that world.
+#[derive(Drop)]
+pub struct Campaign {
+    alloc: Global,
+    origin: State,
+    state: State,
+    history: Vec<Entry>,
+}
+
+impl Model for Campaign {
+    ghost use Rattle.std.specs.Prelude.{◌≡◌};
+    ghost use Rattle.campaign_core.specs.State.{world_in, state_of};
+    ghost use Rattle.campaign_core.specs.Law.{Course, IsOpening};
+
+    ghost Value = { Course };
+
+    ghost view = { λ c. record { origin = world_in c.origin; history = c.history.items } };
+
+    ghost invariant = { λ c. (c.state ≡ state_of (world_in c.origin) c.history.items) × IsOpening (world_in c.origin) };
+}
+
+fn told(steps: u32, outcome: Outcome) -> Answer
+    ensures { result ≡ answer_of_lem steps outcome }
+{
+    Answer {
+        refusal: outcome.refusal,
+        taken: steps,
+        line: if outcome.direct { outcome.reply } else { None },
+    }
+}
+
+impl Campaign {
+    /// A campaign of these seats, each of which is Free.
+    pub fn with_seats(alloc: Global, books: Vec<SeatBook>) -> Result<Campaign, Memory>
+        requires few { length books.items ≤ 33 }
+        requires fresh { AllByRecursion IsFresh books.items }
+        ensures seats { IfOk result (λ c. c.origin.seats ≡ map fresh_seat books.items) }
+        ensures opening { IfOk result (λ c. IsOpening c.origin) }
+        ensures history { IfOk result (λ c. c.history ≡ []) }
+    {
+        let origin = State::opening(alloc, books)?;
+        let state = origin.copy(alloc)?;
+        Ok(Campaign {
+            alloc,
+            origin,
+            state,
+            history: Vec::new(alloc),
+        })
+    }
+
+    /// Applies an entry and appends it to the history. The entry comes back only for want of memory, and
+    /// the campaign is then as before.
+    pub fn step(&mut self, entry: Entry) -> Result<Answer, Entry>
+        ensures origin { self.new.origin ≡ self.old.origin }
+        ensures history { OnOk result (self.new.history ≡ self.old.history ++ entry ∷ []) }
+        ensures answer { IfOk result (λ a. a ≡ answer_after self.old entry) }
+        ensures back { IfErr result (λ e. e ≡ entry) }
+        ensures unchanged { OnErr result (self.new ≡ self.old) }
+
+        // What each player was sent is what the machine without a world prints.
+        ensures sent { (p : ℕ) → IsSentAsMachine self.new.origin self.new.history p }
+    {
+        let steps = steps_of(&self.state, &entry);
+        let Ok(outcome) = decide(self.alloc, &self.state, steps, &entry) else {
+            return Err(entry);
+        };
+        let Ok(state) = self.state.after(self.alloc, &entry, &outcome) else {
+            return Err(entry);
+        };
+        if let Err(failed) = self.history.push(entry) {
+            return Err(failed.value);
+        }
+        self.state = state;
+        Ok(told(steps, outcome))
+    }
+
+    /// How many seats there are.
+    pub fn seat_count(&self) -> u8
+        ensures { result ≡ length self.now.origin.seats }
+    {
+        self.origin.seats()
+    }
+
+    fn post(&self, seat: SeatNo) -> &Post
+        requires { seat < length self.now.origin.seats }
+        ensures seat { Some result.now.seat ≡ seat_at (world_of self.now) seat }
+        ensures mail { result.now.mail ≡ drop result.now.seat.taken (session self.now.origin self.now.history seat) }
+    {
+        match self.state.post(seat.number()) {
+            Some(post) => post,
+            None => unreachable!(),
+        }
+    }
+
+    /// The seat's state.
+    pub fn state(&self, seat: SeatNo) -> SeatState
+        requires { seat < length self.now.origin.seats }
+        ensures { Some result ≡ option_map (λ s. s.book.state) (seat_at (world_of self.now) seat) }
+    {
+        self.post(seat).book.state()
+    }
+
+    /// How many lines were queued for the seat since its Join; 0 where it is Free.
+    pub fn queued(&self, seat: SeatNo) -> u64
+        requires { seat < length self.now.origin.seats }
+        ensures { Some result ≡ option_map (λ s. s.queued) (seat_at (world_of self.now) seat) }
+    {
+        self.post(seat).queued
+    }
+
+    /// The lines of the seat's session that weren't taken, from the number `first` on, counted from 0
+    /// at its Join. Each ends with LF.
+    pub fn lines_for(&self, seat: SeatNo, first: u64) -> Result<Vec<LineText>, Memory>
+        requires { seat < length self.now.origin.seats }
+        ensures { IfOk result (λ v. Some v.items ≡ option_map (λ s. waiting first s.taken (session self.now.origin self.now.history seat)) (seat_at (world_of self.now) seat)) }
+    {
+        let post = self.post(seat);
+        lines_from(self.alloc, &post.mail, first.saturating_sub(post.taken))
+    }
+}
+
+/// The lines but for the first `gone`, each with its LF.
+fn lines_from(alloc: Global, lines: &[LineText], gone: u64) -> Result<Vec<LineText>, Memory>
+    ensures { IfOk result (λ v. v.items ≡ map (λ line. line ++ 10 ∷ []) (drop gone lines.now)) }
+{
+    if gone >= lines.len() as u64 {
+        return Ok(Vec::new(alloc));
+    }
+    with_ends(alloc, &lines[gone as usize..])
+}
+
+fn with_ends(alloc: Global, lines: &[LineText]) -> Result<Vec<LineText>, Memory>
+    ensures { IfOk result (λ v. v.items ≡ map (λ line. line ++ 10 ∷ []) lines.now) }
+{
+    let mut all = Vec::new(alloc);
+    for line in lines {
+        if all.push(with_end(alloc, line.bytes())?).is_err() {
+            return Err(Memory);
+        }
+    }
+    Ok(all)
+}
+
+fn with_end(alloc: Global, line: &[u8]) -> Result<LineText, Memory>
+    ensures { IfOk result (λ t. t ≡ line.now ++ 10 ∷ []) }
+{
+    let Ok(mut bytes) = Vec::from_slice(alloc, line) else {
+        return Err(Memory);
+    };
+    if bytes.push(b'\n').is_err() {
+        return Err(Memory);
+    }
+    Ok(LineText::new(bytes))
 }

@@ -3,12 +3,12 @@ ghost use Rattle.std.specs.Prelude.{◌≡◌, ◌≤◌, ◌==◌, ◌+◌, ◌
 ghost use Rattle.seats.specs.Book.{is_free as is_free_lem, is_closing as is_closing_lem};
 ghost use Rattle.campaign_core.specs.Views.{no_view};
 ghost use Rattle.campaign_core.specs.Seat.{Seat, let_go, is_let_go as is_let_go_lem};
-ghost use Rattle.campaign_core.specs.Outcome.{seat_of as seat_of_lem};
+
 ghost use Rattle.campaign_core.specs.World.{queued_lines, queued_reply, view_lines, changed, messages_to, mapped_from, outcome_of, is_present as is_present_lem};
-ghost use Rattle.campaign_core.specs.State.{world_in, post_by, state_after};
+ghost use Rattle.campaign_core.specs.State.{world_in, post_by, opening_post, opening_state, state_after};
 
 use crate::entry::Entry;
-use crate::outcome::{Outcome, is_joined};
+use crate::outcome::{Outcome, is_joined, seat_of};
 use crate::texts::full_line;
 use names::{LineText, Memory};
 use seats::{SeatBook, SeatState};
@@ -72,6 +72,16 @@ impl Model for State {
 }
 
 impl State {
+    /// The state of a campaign that opens with these seats.
+    pub(crate) fn opening(alloc: Global, books: Vec<SeatBook>) -> Result<State, Memory>
+        requires { length books.items ≤ 33 }
+        ensures { IfOk result (λ s. s ≡ opening_state books.items) }
+    {
+        Ok(State {
+            posts: opening_posts(alloc, books)?,
+        })
+    }
+
     /// How many seats there are.
     pub(crate) fn seats(&self) -> u8
         ensures { result ≡ length self.now.posts }
@@ -94,6 +104,24 @@ impl State {
             posts: copied_posts(alloc, &self.posts)?,
         })
     }
+}
+
+fn opening_posts(alloc: Global, books: Vec<SeatBook>) -> Result<Vec<Post>, Memory>
+    ensures { IfOk result (λ v. v.items ≡ map opening_post books.items) }
+{
+    let mut posts = Vec::new(alloc);
+    for book in books {
+        let post = Post {
+            book,
+            queued: 0,
+            taken: 0,
+            mail: Vec::new(alloc),
+        };
+        if posts.push(post).is_err() {
+            return Err(Memory);
+        }
+    }
+    Ok(posts)
 }
 
 fn copied_posts(alloc: Global, posts: &[Post]) -> Result<Vec<Post>, Memory>
@@ -262,4 +290,72 @@ fn lines_past(alloc: Global, lines: &[LineText], gone: u64) -> Result<Vec<LineTe
         return Ok(Vec::new(alloc));
     }
     copied_lines(alloc, &lines[gone as usize..])
+}
+
+/// What waits for a seat after an entry that queued these lines, `gone` more being taken.
+fn mail_with(alloc: Global, mail: &[LineText], gone: u64, lines: &[LineText]) -> Result<Vec<LineText>, Memory>
+    ensures { IfOk result (λ v. v.items ≡ drop gone mail.now ++ lines.now) }
+{
+    let mut all = lines_past(alloc, mail, gone)?;
+    add_lines(&mut all, alloc, lines)?;
+    Ok(all)
+}
+
+/// The seat's post after an entry that changes no view.
+fn next_post(
+    alloc: Global,
+    outcome: &Outcome,
+    acts: bool,
+    post: &Post,
+    seat: u8,
+) -> Result<Post, Memory>
+    ensures { IfOk result (λ p. p ≡ post_by seat acts outcome.now no_view no_view post.now) }
+{
+    let lines = queued(alloc, outcome, acts, post, seat)?;
+    let book = changed_book(outcome, acts, post)?;
+    let taken = changed_taken(outcome, acts, post);
+    let mail = mail_with(alloc, &post.mail, taken.saturating_sub(post.taken), &lines)?;
+    let Some(queued) = post.queued.checked_add(lines.len() as u64) else {
+        return Err(Memory);
+    };
+    Ok(settled(alloc, book, queued, taken, mail))
+}
+
+/// Each seat's post after an entry of the seat `actor` that changes no view.
+fn next_posts(
+    alloc: Global,
+    outcome: &Outcome,
+    actor: u8,
+    posts: &[Post],
+) -> Result<Vec<Post>, Memory>
+    requires { length posts.now ≤ 33 }
+    ensures { IfOk result (λ v. v.items ≡ mapped_from (λ seat post. post_by seat (actor == seat) outcome.now no_view no_view post) 0 posts.now) }
+{
+    let mut next = Vec::new(alloc);
+    let mut seat: u8 = 0;
+    for post in posts {
+        let after = next_post(alloc, outcome, actor == seat, post, seat)?;
+        if next.push(after).is_err() {
+            return Err(Memory);
+        }
+        seat += 1;
+    }
+    Ok(next)
+}
+
+impl State {
+    /// The state after an entry of the seat `actor` that has this outcome.
+    pub(crate) fn after(
+        &self,
+        alloc: Global,
+        entry: &Entry,
+        outcome: &Outcome,
+    ) -> Result<State, Memory>
+        requires { outcome.now ≡ outcome_of (world_in self.now) entry.now }
+        ensures { IfOk result (λ s. s ≡ state_after self.now entry.now) }
+    {
+        Ok(State {
+            posts: next_posts(alloc, outcome, seat_of(entry), &self.posts)?,
+        })
+    }
 }
