@@ -25,15 +25,11 @@ pub fn whole(value: &Value, least: u64, most: u64) -> Option<u64>
     ensures least { IfSome result (λ n. least ≤ n) }
     ensures most { IfSome result (λ n. n ≤ most) }
 {
-    let number = value.as_i64()?;
-    if number < 0 {
+    let whole = u64::try_from(value.as_i64()?).ok()?;
+    if whole < least || whole > most {
         return None;
     }
-    let number = number as u64;
-    if number < least || number > most {
-        return None;
-    }
-    Some(number)
+    Some(whole)
 }
 
 /// A whole number from `least` to `most`.
