@@ -2,8 +2,9 @@
 ghost use Rattle.std.specs.Prelude.{◌≡◌, ◌≤◌, ◌≤ℤ◌, map, option_map, IfSome};
 ghost use Rattle.std.specs.Option.{option_zip};
 ghost use Rattle.serde_json.specs.View.{view, items_view};
-ghost use Rattle.json_fields.specs.Kinds.{integer_from, whole_from, text_from, word_from, word_among, list_from, is_counted as counted_test, has_items as items_test, item_in, pair_from, rectangle_from, or_null};
+ghost use Rattle.json_fields.specs.Kinds.{integer_from, whole_from, text_from, word_from, word_among, list_from, is_counted as counted_test, has_items as items_test, item_in, pair_from, rectangle_from, or_null, tag_from, id_from, mode_from, layer_from, wall_kind_from, class_from};
 
+use names::{Layer, Mode, PropClass, Tag, TokenId, WallKind};
 use serde_json::Value;
 
 /// An integer from `least` to `most`.
@@ -61,6 +62,58 @@ pub fn text(value: &Value, least: usize, most: usize) -> Option<&str>
         return None;
     }
     Some(text)
+}
+
+/// A tag.
+pub fn tag(value: &Value) -> Option<Tag>
+    ensures { result ≡ tag_from (view value.now) }
+{
+    Tag::read(value.as_str()?.as_bytes()).ok()
+}
+
+/// A tag, or null, which gives `Some(None)`.
+pub fn tag_or_null(value: &Value) -> Option<Option<Tag>>
+    ensures { result ≡ or_null tag_from (view value.now) }
+{
+    match value {
+        Value::Null => Some(None),
+        _ => Some(Some(tag(value)?)),
+    }
+}
+
+/// The text of a token's id.
+pub fn id(value: &Value) -> Option<TokenId>
+    ensures { result ≡ id_from (view value.now) }
+{
+    TokenId::read(value.as_str()?.as_bytes()).ok()
+}
+
+/// The word of a mode.
+pub fn mode(value: &Value) -> Option<Mode>
+    ensures { result ≡ mode_from (view value.now) }
+{
+    Mode::read(value.as_str()?)
+}
+
+/// The word of a layer.
+pub fn layer(value: &Value) -> Option<Layer>
+    ensures { result ≡ layer_from (view value.now) }
+{
+    Layer::read(value.as_str()?)
+}
+
+/// The word of a kind of wall.
+pub fn wall_kind(value: &Value) -> Option<WallKind>
+    ensures { result ≡ wall_kind_from (view value.now) }
+{
+    WallKind::read(value.as_str()?)
+}
+
+/// The word of a class that a command names.
+pub fn class(value: &Value) -> Option<PropClass>
+    ensures { result ≡ class_from (view value.now) }
+{
+    PropClass::read(value.as_str()?)
 }
 
 /// A word of the table.
