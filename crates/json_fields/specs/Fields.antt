@@ -5,9 +5,14 @@ use Rattle.std.specs.List.{list_any}
 use Rattle.std.specs.Ordering.{nat_cmp}
 use Rattle.std.specs.declared.cmp.Ordering.TheVariants.{Less}
 use Rattle.std.specs.Str.{bytes_eq}
+use Rattle.names.specs.declared.kinds.Layer.{Layer}
+use Rattle.names.specs.declared.kinds.Mode.{Mode}
+use Rattle.names.specs.declared.kinds.PropClass.{PropClass}
+use Rattle.names.specs.declared.kinds.WallKind.{WallKind}
+use Rattle.names.specs.declared.token_id.TokenId.{TokenId}
 use Rattle.serde_json.specs.Data.{Data, Items, Members, no_members, member}
 use Rattle.serde_json.specs.Find.{get, get_member, as_bool, as_str, as_object}
-use Rattle.json_fields.specs.Kinds.{integer_from, whole_from, text_from, word_from, pair_from, rectangle_from, list_from, or_null}
+use Rattle.json_fields.specs.Kinds.{integer_from, whole_from, text_from, word_from, pair_from, rectangle_from, list_from, tag_from, id_from, mode_from, layer_from, wall_kind_from, class_from, or_null}
 
 -- the value at the key, of a kind; none where the key is missing, or its value is of another kind
 abbrev pub field_in : {A : Type 0} → (Data → Option A) → List ℕ → Data → Option A
@@ -45,6 +50,30 @@ list_in key least most d = field_in (list_from least most) key d
 abbrev pub text_or_null_in : List ℕ → ℕ → ℕ → Data → Option (Option (List ℕ))
 text_or_null_in key least most d = field_in (or_null (text_from least most)) key d
 
+-- a tag, and the text of a token's id
+abbrev pub tag_in : List ℕ → Data → Option (List ℕ)
+tag_in key d = field_in tag_from key d
+
+abbrev pub id_in : List ℕ → Data → Option TokenId
+id_in key d = field_in id_from key d
+
+-- a tag, or null
+abbrev pub tag_or_null_in : List ℕ → Data → Option (Option (List ℕ))
+tag_or_null_in key d = field_in (or_null tag_from) key d
+
+-- the words of maps, tokens, walls and properties
+abbrev pub mode_in : List ℕ → Data → Option Mode
+mode_in key d = field_in mode_from key d
+
+abbrev pub layer_in : List ℕ → Data → Option Layer
+layer_in key d = field_in layer_from key d
+
+abbrev pub wall_kind_in : List ℕ → Data → Option WallKind
+wall_kind_in key d = field_in wall_kind_from key d
+
+abbrev pub class_in : List ℕ → Data → Option PropClass
+class_in key d = field_in class_from key d
+
 abbrev pub kind_or : {A : Type 0} → A → (Data → Option A) → Option Data → Option A
 kind_or default kind None = Some default
 kind_or default kind (Some value) = kind value
@@ -55,6 +84,9 @@ field_or default kind key d = kind_or default kind (get key d)
 
 abbrev pub whole_or : List ℕ → ℕ → ℕ → ℕ → Data → Option ℕ
 whole_or key default least most d = field_or default (whole_from least most) key d
+
+abbrev pub layer_or : List ℕ → Layer → Data → Option Layer
+layer_or key default d = field_or default layer_from key d
 
 abbrev pub word_or : {A : Type 0} → List ℕ → A → List (List ℕ × A) → Data → Option A
 word_or key default rows d = field_or default (word_from rows) key d

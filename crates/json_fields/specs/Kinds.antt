@@ -2,6 +2,14 @@
 use Rattle.std.specs.Prelude.{ℕ, ◌&&◌, is_some, Bool, List, [], ◌∷◌, length, nat_le, int_le, ℤ, pos, negsuc, Option, Some, None, option_and_then, option_map, if◌then◌else◌}
 use Rattle.std.specs.Option.{option_zip}
 use Rattle.std.specs.Str.{bytes_eq}
+use Rattle.names.specs.declared.kinds.Layer.{Layer}
+use Rattle.names.specs.declared.kinds.Mode.{Mode}
+use Rattle.names.specs.declared.kinds.PropClass.{PropClass}
+use Rattle.names.specs.declared.kinds.WallKind.{WallKind}
+use Rattle.names.specs.declared.token_id.TokenId.{TokenId}
+use Rattle.names.specs.Tag.{tag_of}
+use Rattle.names.specs.TokenId.{id_of}
+use Rattle.names.specs.Words.{mode_of, layer_of, wall_of, class_of}
 use Rattle.serde_json.specs.Data.{Data, null, boolean, number, string, array, object, Items}
 use Rattle.serde_json.specs.Events.{items_len}
 use Rattle.serde_json.specs.Find.{as_number, as_str, as_array, as_i64, at}
@@ -31,6 +39,27 @@ sized least most text = if nat_le least (length text) && nat_le (length text) mo
 -- a text of least to most bytes of UTF-8
 abbrev pub text_from : ℕ → ℕ → Data → Option (List ℕ)
 text_from least most d = option_and_then (sized least most) (as_str d)
+
+-- a tag
+abbrev pub tag_from : Data → Option (List ℕ)
+tag_from d = option_and_then tag_of (as_str d)
+
+-- the text of a token's id
+abbrev pub id_from : Data → Option TokenId
+id_from d = option_and_then id_of (as_str d)
+
+-- the word of a mode, a layer, a kind of wall, a class of property
+abbrev pub mode_from : Data → Option Mode
+mode_from d = option_and_then mode_of (as_str d)
+
+abbrev pub layer_from : Data → Option Layer
+layer_from d = option_and_then layer_of (as_str d)
+
+abbrev pub wall_kind_from : Data → Option WallKind
+wall_kind_from d = option_and_then wall_of (as_str d)
+
+abbrev pub class_from : Data → Option PropClass
+class_from d = option_and_then class_of (as_str d)
 
 -- what the word stands for in a table
 abbrev pub word_among : {A : Type 0} → List (List ℕ × A) → List ℕ → Option A

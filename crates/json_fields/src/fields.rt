@@ -5,9 +5,10 @@ ghost use Rattle.std.specs.Prelude.{◌≡◌, ◌≤◌, ◌≤ℤ◌, map, opt
 ghost use Rattle.std.specs.List.{list_any};
 ghost use Rattle.std.specs.Str.{bytes_eq};
 ghost use Rattle.serde_json.specs.View.{view, items_view, members_view};
-ghost use Rattle.json_fields.specs.Fields.{integer_in, whole_in, text_in, string_in, boolean_in, word_in, pair_in, rectangle_in, list_in, text_or_null_in, whole_or, word_or as word_or_default, unknown_member, unknown_in, IsLeastUnknown, IsLeastUnknownIn};
+ghost use Rattle.json_fields.specs.Fields.{integer_in, whole_in, text_in, string_in, boolean_in, word_in, pair_in, rectangle_in, list_in, text_or_null_in, tag_in, tag_or_null_in, id_in, mode_in, layer_in, wall_kind_in, class_in, layer_or as layer_or_default, whole_or, word_or as word_or_default, unknown_member, unknown_in, IsLeastUnknown, IsLeastUnknownIn};
 
 use crate::kinds;
+use names::{Layer, Mode, PropClass, Tag, TokenId, WallKind};
 use serde_json::{Map, Value};
 
 /// An integer from `least` to `most`.
@@ -58,6 +59,55 @@ pub fn string<'v>(value: &'v Value, key: &str) -> Option<&'v str>
     ensures { option_map (λ s. s.now) result ≡ string_in key.now (view value.now) }
 {
     value.get(key)?.as_str()
+}
+
+/// A tag.
+pub fn tag(value: &Value, key: &str) -> Option<Tag>
+    ensures { result ≡ tag_in key.now (view value.now) }
+{
+    kinds::tag(value.get(key)?)
+}
+
+/// A tag, or null, which gives `Some(None)`.
+pub fn tag_or_null(value: &Value, key: &str) -> Option<Option<Tag>>
+    ensures { result ≡ tag_or_null_in key.now (view value.now) }
+{
+    kinds::tag_or_null(value.get(key)?)
+}
+
+/// The text of a token's id.
+pub fn id(value: &Value, key: &str) -> Option<TokenId>
+    ensures { result ≡ id_in key.now (view value.now) }
+{
+    kinds::id(value.get(key)?)
+}
+
+/// The word of a mode.
+pub fn mode(value: &Value, key: &str) -> Option<Mode>
+    ensures { result ≡ mode_in key.now (view value.now) }
+{
+    kinds::mode(value.get(key)?)
+}
+
+/// The word of a layer.
+pub fn layer(value: &Value, key: &str) -> Option<Layer>
+    ensures { result ≡ layer_in key.now (view value.now) }
+{
+    kinds::layer(value.get(key)?)
+}
+
+/// The word of a kind of wall.
+pub fn wall_kind(value: &Value, key: &str) -> Option<WallKind>
+    ensures { result ≡ wall_kind_in key.now (view value.now) }
+{
+    kinds::wall_kind(value.get(key)?)
+}
+
+/// The word of a class that a command names.
+pub fn class(value: &Value, key: &str) -> Option<PropClass>
+    ensures { result ≡ class_in key.now (view value.now) }
+{
+    kinds::class(value.get(key)?)
 }
 
 /// True or false.
@@ -122,6 +172,16 @@ pub fn whole_u8_or(value: &Value, key: &str, default: u8, least: u8, most: u8) -
 {
     match value.get(key) {
         Some(field) => kinds::whole_u8(field, least, most),
+        None => Some(default),
+    }
+}
+
+/// The word of a layer, or `default` where the key is missing.
+pub fn layer_or(value: &Value, key: &str, default: Layer) -> Option<Layer>
+    ensures { result ≡ layer_or_default key.now default (view value.now) }
+{
+    match value.get(key) {
+        Some(field) => kinds::layer(field),
         None => Some(default),
     }
 }

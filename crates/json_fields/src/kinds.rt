@@ -2,8 +2,9 @@
 ghost use Rattle.std.specs.Prelude.{◌≡◌, ◌≤◌, ◌≤ℤ◌, map, option_map, IfSome};
 ghost use Rattle.std.specs.Option.{option_zip};
 ghost use Rattle.serde_json.specs.View.{view, items_view};
-ghost use Rattle.json_fields.specs.Kinds.{integer_from, whole_from, text_from, word_from, word_among, list_from, is_counted as counted_test, has_items as items_test, item_in, pair_from, rectangle_from, or_null};
+ghost use Rattle.json_fields.specs.Kinds.{integer_from, whole_from, text_from, word_from, word_among, list_from, is_counted as counted_test, has_items as items_test, item_in, pair_from, rectangle_from, or_null, tag_from, id_from, mode_from, layer_from, wall_kind_from, class_from};
 
+use names::{Layer, Mode, PropClass, Tag, TokenId, WallKind};
 use serde_json::Value;
 
 /// An integer from `least` to `most`.
@@ -25,15 +26,11 @@ pub fn whole(value: &Value, least: u64, most: u64) -> Option<u64>
     ensures least { IfSome result (λ n. least ≤ n) }
     ensures most { IfSome result (λ n. n ≤ most) }
 {
-    let number = value.as_i64()?;
-    if number < 0 {
+    let whole = u64::try_from(value.as_i64()?).ok()?;
+    if whole < least || whole > most {
         return None;
     }
-    let number = number as u64;
-    if number < least || number > most {
-        return None;
-    }
-    Some(number)
+    Some(whole)
 }
 
 /// A whole number from `least` to `most`.
@@ -65,6 +62,58 @@ pub fn text(value: &Value, least: usize, most: usize) -> Option<&str>
         return None;
     }
     Some(text)
+}
+
+/// A tag.
+pub fn tag(value: &Value) -> Option<Tag>
+    ensures { result ≡ tag_from (view value.now) }
+{
+    Tag::read(value.as_str()?.as_bytes()).ok()
+}
+
+/// A tag, or null, which gives `Some(None)`.
+pub fn tag_or_null(value: &Value) -> Option<Option<Tag>>
+    ensures { result ≡ or_null tag_from (view value.now) }
+{
+    match value {
+        Value::Null => Some(None),
+        _ => Some(Some(tag(value)?)),
+    }
+}
+
+/// The text of a token's id.
+pub fn id(value: &Value) -> Option<TokenId>
+    ensures { result ≡ id_from (view value.now) }
+{
+    TokenId::read(value.as_str()?.as_bytes()).ok()
+}
+
+/// The word of a mode.
+pub fn mode(value: &Value) -> Option<Mode>
+    ensures { result ≡ mode_from (view value.now) }
+{
+    Mode::read(value.as_str()?)
+}
+
+/// The word of a layer.
+pub fn layer(value: &Value) -> Option<Layer>
+    ensures { result ≡ layer_from (view value.now) }
+{
+    Layer::read(value.as_str()?)
+}
+
+/// The word of a kind of wall.
+pub fn wall_kind(value: &Value) -> Option<WallKind>
+    ensures { result ≡ wall_kind_from (view value.now) }
+{
+    WallKind::read(value.as_str()?)
+}
+
+/// The word of a class that a command names.
+pub fn class(value: &Value) -> Option<PropClass>
+    ensures { result ≡ class_from (view value.now) }
+{
+    PropClass::read(value.as_str()?)
 }
 
 /// A word of the table.

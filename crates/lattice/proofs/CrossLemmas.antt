@@ -1,8 +1,7 @@
-use Rattle.std.proofs.Common.{◌≡◌, ℕ, ◌+◌, ◌*◌, ◌<◌, ◌≤◌, refl, ap, arith, ◌∙◌, sym, ℤ, pos, negsuc, ◌-ℤ◌, ◌*ℤ◌, ◌<ℤ◌, ◌↔◌}
+use Rattle.std.proofs.Common.{◌≡◌, ℕ, ◌+◌, ◌*◌, ◌<◌, ap, arith, pos, ◌-ℤ◌, ◌*ℤ◌, ◌<ℤ◌, ◌↔◌}
 use Rattle.std.proofs.lemmas.Int.{ints}
 use borrow.Author.Differences.{up, down}
 use Rattle.lattice.specs.Coordinates.{Coordinates}
-
 use Rattle.lattice.specs.Turning.{cross_product, left_sum, right_sum}
 
 -- the product of two differences, by the parts of each

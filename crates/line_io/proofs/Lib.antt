@@ -1,0 +1,5 @@
+pub mod AnswerLemmas
+pub mod BufferLemmas
+pub mod LinesLemmas
+pub mod ScriptLemmas
+pub mod ToldLemmas

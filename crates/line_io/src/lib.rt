@@ -1,0 +1,33 @@
+//! The outside as traits: sources of bytes, sinks, desks of named texts, and a reader of lines.
+//!
+//! Each trait counts the faults of its object, and an answer `Failed` comes only where that count
+//! rose in the call. What an object has left or holds is told by those in memory, and not by files,
+//! terminals and sockets: contracts see it as an `Option` of bytes.
+#![tactic(auto)]
+
+pub use adapters::{ReaderSource, WriterSink};
+pub use desks::{Desk, DeskFault, FETCH_LIMIT};
+pub use faults::Failed;
+pub use files::FileDesk;
+pub use lines::{LineReader, NextLine};
+pub use memory_desks::MemDesk;
+pub use memory_sinks::MemSink;
+pub use memory_sources::MemSource;
+pub use scripts::{COMMAND_LIMIT, split_script_line};
+pub use sinks::{Sink, write_whole};
+pub use sources::Source;
+
+mod adapters;
+mod desks;
+mod fault_plans;
+mod faults;
+mod files;
+mod lines;
+mod memory_desks;
+mod memory_sinks;
+mod memory_sources;
+mod scripts;
+mod sinks;
+mod sources;
+#[cfg(test)]
+mod tests;

@@ -1,0 +1,4 @@
+pub mod Order
+pub mod WallLists
+pub mod WallFaults
+pub mod Sight

@@ -1,0 +1,192 @@
+ghost use Rattle.std.specs.Prelude.{◌≡◌, ◌<◌, ◌≤◌, ◌↔◌, length, slice_get, Some, None, IfOk, IfErr, OnOk, OnErr, is_ok, if◌then◌else◌, [], IsTrue};
+ghost use Rattle.topology.specs.Order.{wall_between};
+ghost use Rattle.topology.specs.WallLists.{AreWalls, IsOnMap, has_wall, on_map_test, place_of, walls_of, with_wall, with_walls};
+ghost use Rattle.topology.specs.WallFaults.{IsFaultOf, wall_fault};
+
+use crate::Wall;
+use cells::Size;
+use lattice::Point;
+use names::{Memory, WallKind};
+use std::alloc::Global;
+use std::marker::Model;
+
+/// How many walls of each kind a map has at most.
+pub const MOST_WALLS: usize = 2048;
+
+/// Why a wall isn't added. The checks are made in this order.
+#[derive(Clone, Copy, Debug, PartialEq, Eq)]
+pub enum WallFault {
+    /// An end isn't on the map.
+    OffMap,
+    /// The ends are the same point.
+    DegenerateWall,
+    /// The map has the wall, of that kind.
+    WallThere,
+    /// The map has 2,048 walls of that kind.
+    WallLimit,
+    /// Want of memory.
+    Memory,
+}
+
+/// The walls of a map, of both kinds, each in order of the four numbers of their ends.
+#[derive(Drop)]
+pub struct Walls {
+    size: Size,
+    vbl: Vec<Wall>,
+    mbl: Vec<Wall>,
+}
+
+impl Model for Walls {
+    ghost use Rattle.topology.specs.WallLists.{WallLists, AreWalls};
+
+    ghost Value = { WallLists };
+
+    ghost view = { λ w. record { extent = w.size; vbl = w.vbl.items; mbl = w.mbl.items } };
+
+    ghost invariant = { λ w. AreWalls w.size w.vbl.items × AreWalls w.size w.mbl.items };
+}
+
+impl Walls {
+    /// No walls, on a map of that size.
+    pub fn new(alloc: Global, size: Size) -> Walls
+        ensures { result ≡ record { extent = size; vbl = []; mbl = [] } }
+    {
+        Walls {
+            size,
+            vbl: Vec::new(alloc),
+            mbl: Vec::new(alloc),
+        }
+    }
+
+    /// The same walls once more.
+    pub fn copy(&self) -> Result<Walls, Memory>
+        ensures { IfOk result (λ w. w ≡ self.now) }
+    {
+        let vbl = copy_list(&self.vbl)?;
+        let mbl = copy_list(&self.mbl)?;
+        Ok(Walls {
+            size: self.size,
+            vbl,
+            mbl,
+        })
+    }
+
+    /// The size of the map.
+    pub fn size(&self) -> Size
+        ensures { result ≡ self.now.extent }
+    {
+        self.size
+    }
+
+    /// How many walls of that kind there are, at most 2,048.
+    pub fn count(&self, kind: WallKind) -> usize
+        ensures value { result ≡ length (walls_of self.now kind) }
+        ensures valid { AreWalls self.now.extent (walls_of self.now kind) }
+    {
+        match kind {
+            WallKind::Vbl => self.vbl.len(),
+            WallKind::Mbl => self.mbl.len(),
+        }
+    }
+
+    /// The walls of that kind, in order of their four numbers.
+    pub fn list(&self, kind: WallKind) -> &[Wall]
+        ensures { result.now ≡ walls_of self.now kind }
+    {
+        match kind {
+            WallKind::Vbl => &self.vbl,
+            WallKind::Mbl => &self.mbl,
+        }
+    }
+
+    /// The ends of the wall of that kind at that place, the lesser first; walls stand in order of their four numbers.
+    pub fn wall(&self, kind: WallKind, place: usize) -> (Point, Point)
+        requires { place < length (walls_of self.now kind) }
+        ensures { slice_get (walls_of self.now kind) place ≡ Some (record { first = result.0; second = result.1 }) }
+    {
+        let wall = self.list(kind)[place];
+        (wall.first, wall.second)
+    }
+
+    /// Adds a wall of that kind between two points, in its place.
+    ///
+    /// The checks are made in the order of `WallFault`; after a fault the walls are as before.
+    pub fn add_wall(&mut self, kind: WallKind, a: Point, b: Point) -> Result<(), WallFault>
+        ensures added { OnOk result (self.new ≡ with_walls self.old kind (with_wall (wall_between a b) (walls_of self.old kind))) }
+        ensures ok { OnOk result (wall_fault self.old kind a b ≡ None) }
+        ensures fault { IfErr result (IsFaultOf (wall_fault self.old kind a b)) }
+        ensures unchanged { OnErr result (self.new ≡ self.old) }
+    {
+        if let Some(fault) = self.broken_check(kind, a, b) {
+            return Err(fault);
+        }
+        let wall = Wall::between(a, b);
+        match kind {
+            WallKind::Vbl => insert_wall(&mut self.vbl, wall),
+            WallKind::Mbl => insert_wall(&mut self.mbl, wall),
+        }
+    }
+
+    fn broken_check(&self, kind: WallKind, a: Point, b: Point) -> Option<WallFault>
+        ensures { result ≡ wall_fault self.now kind a b }
+    {
+        let walls = self.list(kind);
+        if !is_on_map(self.size, a) || !is_on_map(self.size, b) {
+            Some(WallFault::OffMap)
+        } else if a == b {
+            Some(WallFault::DegenerateWall)
+        } else if contains(walls, Wall::between(a, b)) {
+            Some(WallFault::WallThere)
+        } else if walls.len() >= MOST_WALLS {
+            Some(WallFault::WallLimit)
+        } else {
+            None
+        }
+    }
+}
+
+/// Whether the point is on a map of that size, its edges included.
+pub fn is_on_map(size: Size, point: Point) -> bool
+    ensures test { result ≡ on_map_test size point }
+    ensures on_map { IsTrue result ↔ IsOnMap size point }
+{
+    point.x() <= 2 * size.w() as i32 && point.y() <= 2 * size.h() as i32
+}
+
+fn copy_list(walls: &Vec<Wall>) -> Result<Vec<Wall>, Memory>
+    ensures { IfOk result (λ list. list.items ≡ walls.now.items) }
+{
+    match walls.clone() {
+        Ok(list) => Ok(list),
+        Err(_) => Err(Memory),
+    }
+}
+
+fn contains(walls: &[Wall], wall: Wall) -> bool
+    ensures { result ≡ has_wall wall walls.now }
+{
+    walls.iter().any(|other| wall.is_same(*other))
+}
+
+fn insert_wall(walls: &mut Vec<Wall>, wall: Wall) -> Result<(), WallFault>
+    ensures items { walls.new.items ≡ (if is_ok result then with_wall wall walls.old.items else walls.old.items) }
+    ensures fault { IfErr result (λ fault. fault ≡ WallFault.Memory) }
+{
+    let place = place_of(walls, &wall);
+    match walls.insert(place, wall) {
+        Ok(()) => Ok(()),
+        Err(_) => Err(WallFault::Memory),
+    }
+}
+
+fn place_of(walls: &[Wall], wall: &Wall) -> usize
+    ensures value { result ≡ place_of wall.now walls.now }
+    ensures bound { result ≤ length walls.now }
+{
+    for (place, other) in walls.iter().enumerate() {
+        if !other.is_before(*wall) {
+            return place;
+        }
+    }
+    walls.len()
+}
