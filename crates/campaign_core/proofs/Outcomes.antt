@@ -2,11 +2,12 @@
 use Rattle.std.proofs.Common.{◌≡◌, ℕ, ◌+◌, ◌<◌, ◌≤◌, Bool, true, false, cond, ◌&&◌, ◌||◌, eqb, List, [], ◌∷◌, length, Some, None, refl, sym, ◌∙◌, ap, arith, ◌⊎◌, inl, inr}
 use Rattle.std.specs.Prelude.{option_map, Option, unwrap_or, Result, Ok, Err, not}
 use Rattle.std.specs.Str.{bytes_eq}
-use Rattle.seats.specs.declared.SeatState.{SeatState}
-use Rattle.seats.specs.declared.SeatState.TheVariants.{Free, Joined, Closing}
-use Rattle.seats.specs.declared.JoinRefusal.{JoinRefusal}
-use Rattle.seats.specs.declared.JoinRefusal.TheVariants as joins
-use Rattle.seats.specs.Book.{Book, is_free, is_joined, is_closing, closed, counted, joined, left, blank_state, blank_book, line_limit, join_refusal}
+use Rattle.seats.specs.declared.seat_state.SeatState.{SeatState}
+use Rattle.seats.specs.declared.seat_state.SeatState.TheVariants.{Free, Joined, Closing}
+use Rattle.seats.specs.declared.seat_state.JoinRefusal.{JoinRefusal}
+use Rattle.seats.specs.declared.seat_state.JoinRefusal.TheVariants as joins
+use Rattle.seats.specs.Book.{Book, counted, joined, left, blank_book, line_limit, join_refusal}
+use Rattle.seats.specs.SeatState.{is_free, is_joined, is_closing, closed, blank_state}
 use Rattle.campaign_core.specs.declared.entry.Entry.{Entry}
 use Rattle.campaign_core.specs.declared.entry.Entry.TheVariants.{Join, Line, Taken}
 use Rattle.campaign_core.specs.declared.command.Command.{Command}
@@ -19,33 +20,12 @@ use Rattle.campaign_core.specs.Commands.{command_of}
 use Rattle.campaign_core.specs.Seat.{Seat, blank_seat, was_joined, taken_to}
 use Rattle.campaign_core.specs.Outcome.{Outcome, nothing, outcome_at, join_outcome, line_outcome, read_outcome, rule_of, book_done, accepted, decided, command_outcome, refused_direct, refused_line, refusal_of_join, count_if_joined, blank_entry, seat_of}
 use Rattle.campaign_core.specs.World.{changed, is_present, queued_reply}
-use Rattle.campaign_core.proofs.Seats.{is_free-blank, is_joined-blank, is_closing-blank, joined_not_closing, joined_not_free, Stays, grown, joined_stays, waiting_stays}
+use Rattle.seats.proofs.Books.{is_joined-blank, counted-blank, joined-blank, left-blank, join_refusal-blank}
 
 -- ---- decides alike: each part, without pass numbers
 
 abbrev pub blank_outcome : Outcome → Outcome
 blank_outcome o = record o { book = option_map blank_book o.book }
-
-closed-blank : (s : SeatState) → closed (blank_state s) ≡ blank_state (closed s)
-closed-blank Free = refl
-closed-blank (Joined r w) = refl
-closed-blank (Closing r w) = refl
-
-closed_if-blank : (t : Bool) (s : SeatState) → cond t (closed (blank_state s)) (blank_state s) ≡ blank_state (cond t (closed s) s)
-closed_if-blank true s = closed-blank s
-closed_if-blank false s = refl
-
-counted-blank : (b : Book) → counted (blank_book b) ≡ blank_book (counted b)
-counted-blank b = ap (λ s. record b { lines = b.lines + 1; state = s }) (closed_if-blank (eqb (b.lines + 1) line_limit) b.state)
-
-left-blank : (b : Book) → left (blank_book b) ≡ blank_book (left b)
-left-blank b = ap (λ s. record b { state = s }) (closed-blank b.state)
-
-joined-blank : (b : Book) (reader writer : ℕ) → joined (blank_book b) 0 0 ≡ blank_book (joined b reader writer)
-joined-blank b reader writer = counted-blank (record b { state = Joined reader writer })
-
-join_refusal-blank : (b : Book) (key : List ℕ) → join_refusal (blank_book b) key ≡ join_refusal b key
-join_refusal-blank b key = ap (λ f. cond (not (bytes_eq b.key key)) (Some joins.BadKey) (cond (not f) (Some joins.SeatTaken) (cond (eqb b.lines line_limit) (Some joins.Spent) None))) (is_free-blank b.state)
 
 join_outcome-blank : (asked : Asked) (b : Book) (reader writer : ℕ) (refusal : Option JoinRefusal) → join_outcome asked (blank_book b) 0 0 refusal ≡ blank_outcome (join_outcome asked b reader writer refusal)
 join_outcome-blank asked b reader writer None = ap (λ c. record (join_outcome asked b 0 0 None) { book = Some c }) (joined-blank b reader writer)

@@ -1,7 +1,7 @@
 -- Runs of the machine, over parts of a trace.
 use Rattle.std.proofs.Common.{◌≡◌, ℕ, ◌+◌, Bool, true, false, cond, List, [], ◌∷◌, ◌++◌, map, length, Some, None, refl, sym, ◌∙◌, ap, append_assoc, arith}
 use Rattle.std.specs.Prelude.{is_some, option_map, Option, IfSome}
-use Rattle.seats.specs.Book.{is_joined}
+use Rattle.seats.specs.SeatState.{is_joined}
 use Rattle.campaign_core.specs.Views.{View, full_line, change_line}
 use Rattle.campaign_core.specs.Seat.{Seat, settled}
 use Rattle.campaign_core.specs.World.{view_lines, some_to_list}

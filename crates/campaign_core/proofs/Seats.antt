@@ -1,35 +1,12 @@
 -- What settling does to a seat.
 use Rattle.std.proofs.Common.{◌≡◌, ℕ, ◌+◌, ◌<◌, ◌≤◌, Bool, true, false, cond, ◌&&◌, ◌||◌, eqb, refl, sym, ◌∙◌, ap, arith, add-zero, ◌⊎◌, inl, inr}
 use Rattle.std.proofs.lemmas.Bool.Decides.{nat_tests}
-use Rattle.seats.specs.declared.SeatState.{SeatState}
-use Rattle.seats.specs.declared.SeatState.TheVariants.{Free, Joined, Closing}
-use Rattle.seats.specs.Book.{Book, is_free, is_joined, is_closing, blank_state, blank_book, freed}
+use Rattle.seats.specs.declared.seat_state.SeatState.{SeatState}
+use Rattle.seats.specs.declared.seat_state.SeatState.TheVariants.{Free, Joined, Closing}
+use Rattle.seats.specs.Book.{Book, blank_book, freed}
+use Rattle.seats.specs.SeatState.{is_free, is_joined, is_closing, blank_state}
+use Rattle.seats.proofs.Books.{is_free-blank, is_closing-blank, joined_not_closing, joined_not_free}
 use Rattle.campaign_core.specs.Seat.{Seat, blank_seat, freed_seat, is_let_go, let_go, settled}
-
-pub is_free-blank : (s : SeatState) → is_free (blank_state s) ≡ is_free s
-is_free-blank Free = refl
-is_free-blank (Joined r w) = refl
-is_free-blank (Closing r w) = refl
-
-pub is_closing-blank : (s : SeatState) → is_closing (blank_state s) ≡ is_closing s
-is_closing-blank Free = refl
-is_closing-blank (Joined r w) = refl
-is_closing-blank (Closing r w) = refl
-
-pub is_joined-blank : (s : SeatState) → is_joined (blank_state s) ≡ is_joined s
-is_joined-blank Free = refl
-is_joined-blank (Joined r w) = refl
-is_joined-blank (Closing r w) = refl
-
-pub joined_not_closing : (s : SeatState) → is_joined s ≡ true → is_closing s ≡ false
-joined_not_closing Free h = refl
-joined_not_closing (Joined r w) h = refl
-joined_not_closing (Closing r w) h = cc
-
-pub joined_not_free : (s : SeatState) → is_joined s ≡ true → is_free s ≡ false
-joined_not_free Free h = cc
-joined_not_free (Joined r w) h = refl
-joined_not_free (Closing r w) h = refl
 
 -- ---- without pass numbers
 

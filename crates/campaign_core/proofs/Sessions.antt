@@ -3,7 +3,7 @@ use Rattle.std.proofs.Common.{◌≡◌, ℕ, ◌+◌, ◌-◌, ◌<◌, ◌≤�
 use Rattle.std.specs.Prelude.{Option, option_map, IfSome, slice_get}
 use Rattle.std.specs.List.{AllByRecursion}
 use Rattle.std.proofs.lemmas.List.{drop-append-le, drop-drop}
-use Rattle.seats.specs.Book.{is_free, is_joined}
+use Rattle.seats.specs.SeatState.{is_free, is_joined}
 use Rattle.campaign_core.specs.declared.entry.Entry.{Entry}
 use Rattle.campaign_core.specs.Views.{view_of}
 use Rattle.campaign_core.specs.Seat.{Seat, IsFreshSeat, freed_seat, is_let_go, settled}

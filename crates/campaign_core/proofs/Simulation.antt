@@ -3,7 +3,9 @@ use Rattle.std.proofs.Common.{◌≡◌, ℕ, zero, suc, ◌+◌, ◌<◌, ◌�
 use Rattle.std.specs.Prelude.{option_map, Option, IfSome, slice_get, unwrap_or}
 use Rattle.std.specs.List.{AllByRecursion}
 use Rattle.std.proofs.lemmas.Bool.{eqb-true}
-use Rattle.seats.specs.Book.{Book, is_free, is_joined, is_closing, blank_book}
+use Rattle.seats.specs.Book.{Book, blank_book}
+use Rattle.seats.specs.SeatState.{is_free, is_joined, is_closing}
+use Rattle.seats.proofs.Books.{is_joined-blank}
 use Rattle.campaign_core.specs.declared.entry.Entry.{Entry}
 use Rattle.campaign_core.specs.Views.{View, view_of, no_view}
 use Rattle.campaign_core.specs.Asked.{Asked}
@@ -13,7 +15,7 @@ use Rattle.campaign_core.specs.World.{World, seat_at, asked_of, outcome_of, step
 use Rattle.campaign_core.specs.Player.{Item, own, message, view, view_items, items_if_present, entry_items, items_of, trace, Machine, asked_of_view, own_outcome, own_messages, after_own, run, opening, started}
 use Rattle.campaign_core.specs.Law.{IsSentAsMachine, IsOpening, SentIsMachine, Agree, AgreeingSendAlike}
 use Rattle.campaign_core.proofs.Lists.{ap₂, slice_get-mapped_from, length-mapped_from}
-use Rattle.campaign_core.proofs.Seats.{is_joined-blank, settled-blank, Stays, settled-settled, settled_again, settled-none, IsSound, settled-IsSound, joined_stays, waiting_stays, joined_before}
+use Rattle.campaign_core.proofs.Seats.{settled-blank, Stays, settled-settled, settled_again, settled-none, IsSound, settled-IsSound, joined_stays, waiting_stays, joined_before}
 use Rattle.campaign_core.proofs.Runs.{run-messages, run-append, after_all, after_all-append, after_messages, seen, seen_view}
 use Rattle.campaign_core.proofs.Outcomes.{blank_outcome, outcome_at-blank, outcome_at-unasked, IsFit, outcome_fits, absent_joins, absent_full, seat_of-blank, taken_within}
 
@@ -276,7 +278,7 @@ sent_is_run w (e ∷ h) p m f =
 
 pub fresh_sound : (s : Seat) → IsFreshSeat s → IsSound s
 fresh_sound s f = record {
-  settled = settled-none s ∙ ap (λ x. cond (is_free x || (is_closing x && eqb s.taken s.queued)) (freed_seat s) s) f.book.free ∙ (λ i. record { book = record s.book { state = sym f.book.free i }; queued = sym f.queued i; taken = sym f.taken i });
+  settled = settled-none s ∙ ap (λ x. cond (is_free x || (is_closing x && eqb s.taken s.queued)) (freed_seat s) s) f.book.state ∙ (λ i. record { book = record s.book { state = sym f.book.state i }; queued = sym f.queued i; taken = sym f.taken i });
   taken = omega (arith, f.queued, f.taken);
 }
 
@@ -292,7 +294,7 @@ fresh_started (Some s) f = λ i. Some (record { book = blank_book s.book; queued
 
 fresh_follows : (seats : ℕ) (before : Option Seat) (v : View) → IfSome before IsFreshSeat → Follows seats before v (at seats before no_view)
 fresh_follows seats None v f = record { last = no_view; is = refl; seen = λ h. cc; sound = tt }
-fresh_follows seats (Some s) v f = record { last = no_view; is = refl; seen = λ h. let e : false ≡ true = sym (ap is_joined f.book.free) ∙ h in cc; sound = fresh_sound s f }
+fresh_follows seats (Some s) v f = record { last = no_view; is = refl; seen = λ h. let e : false ≡ true = sym (ap is_joined f.book.state) ∙ h in cc; sound = fresh_sound s f }
 
 started_follows : (w : World) (p : ℕ) → IsOpening w → FollowsWorld w p (started (opening w p))
 started_follows w p fresh =

@@ -1,8 +1,9 @@
 -- What an entry does to its own seat, from what it asks. A world and a player machine decide by the same definition.
 use Rattle.std.specs.Prelude.{ℕ, ◌+◌, ◌==◌, Bool, true, false, List, [], ◌∷◌, if◌then◌else◌, Option, Some, None, Result, Ok, Err, codes}
-use Rattle.seats.specs.Book.{Book, is_joined, joined, left, counted, join_refusal}
-use Rattle.seats.specs.declared.JoinRefusal.{JoinRefusal}
-use Rattle.seats.specs.declared.JoinRefusal.TheVariants as joins
+use Rattle.seats.specs.Book.{Book, joined, left, counted, join_refusal}
+use Rattle.seats.specs.SeatState.{is_joined}
+use Rattle.seats.specs.declared.seat_state.JoinRefusal.{JoinRefusal}
+use Rattle.seats.specs.declared.seat_state.JoinRefusal.TheVariants as joins
 use Rattle.campaign_core.specs.declared.entry.Entry.{Entry}
 use Rattle.campaign_core.specs.declared.entry.Entry.TheVariants.{Join, Line, Taken}
 use Rattle.campaign_core.specs.declared.command.Command.{Command}

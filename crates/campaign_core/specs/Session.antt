@@ -1,6 +1,6 @@
 -- A seat's present session: the lines that were queued for it since its Join, and those that wait.
 use Rattle.std.specs.Prelude.{ℕ, ◌==◌, List, [], ◌∷◌, ◌++◌, drop, map, max, if◌then◌else◌, Option, Some, None}
-use Rattle.seats.specs.Book.{is_free}
+use Rattle.seats.specs.SeatState.{is_free}
 use Rattle.campaign_core.specs.declared.entry.Entry.{Entry}
 use Rattle.campaign_core.specs.Views.{view_of}
 use Rattle.campaign_core.specs.Seat.{Seat}

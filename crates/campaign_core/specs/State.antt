@@ -1,6 +1,7 @@
 -- What a running campaign keeps: its world, and beside each seat the lines that wait for it.
 use Rattle.std.specs.Prelude.{ℕ, ◌==◌, ◌-◌, Bool, List, ◌++◌, [], map, drop, if◌then◌else◌, Option, Some}
-use Rattle.seats.specs.Book.{Book, is_free}
+use Rattle.seats.specs.Book.{Book}
+use Rattle.seats.specs.SeatState.{is_free}
 use Rattle.campaign_core.specs.declared.entry.Entry.{Entry}
 use Rattle.campaign_core.specs.Views.{Scene, bare, View, view_of}
 use Rattle.campaign_core.specs.Seat.{Seat, fresh_seat}

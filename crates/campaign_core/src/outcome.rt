@@ -1,6 +1,6 @@
 //! What an entry does to its own seat.
 ghost use Rattle.std.specs.Prelude.{◌≡◌, ◌<◌, ◌≤◌, ◌∷◌, [], ℕ, Some, None, IfOk, IfSome, IfNone, ◌==◌, ◌≢◌, true};
-ghost use Rattle.seats.specs.Book.{is_joined as is_joined_lem, join_refusal};
+ghost use Rattle.seats.specs.Book.{join_refusal};
 ghost use Rattle.campaign_core.specs.Asked.{Asked};
 ghost use Rattle.campaign_core.specs.Commands.{command_of};
 ghost use Rattle.campaign_core.specs.Outcome.{nothing as nothing_lem, refused_direct as refused_direct_lem, refused_line as refused_line_lem, refusal_of_join as refusal_of_join_lem, join_outcome as join_outcome_lem, rule_of as rule_of_lem, book_done as book_done_lem, reply_line as reply_line_lem, messages_by as messages_by_lem, is_look as is_look_lem, accepted as accepted_lem, command_outcome as command_outcome_lem, refusal_of_line as refusal_of_line_lem, read_outcome as read_outcome_lem, absent_outcome as absent_outcome_lem, present_outcome as present_outcome_lem, seat_of as seat_of_lem, count_if_joined as count_if_joined_lem};
@@ -13,7 +13,7 @@ use crate::read::read_line;
 use crate::state::State;
 use crate::texts::{hello_line, message_line, ok_line, refusal_line};
 use names::{LineText, Memory, SeatNo};
-use seats::{JoinRefusal, SeatBook, SeatState};
+use seats::{JoinRefusal, SeatBook};
 use std::alloc::Global;
 use std::marker::Model;
 
@@ -44,12 +44,6 @@ impl Model for Outcome {
     ghost Value = { Outcome };
 
     ghost view = { λ o. record { refusal = o.refusal; book = o.book; taken = o.taken; reply = some_to_list o.reply; direct = o.direct; messages = o.messages.items; joins = o.joins; full = o.full; done = o.done } };
-}
-
-pub(crate) fn is_joined(state: SeatState) -> bool
-    ensures { result ≡ is_joined_lem state }
-{
-    matches!(state, SeatState::Joined { .. })
 }
 
 fn nothing(alloc: Global) -> Outcome
@@ -107,7 +101,7 @@ fn refusal_of_join(refusal: JoinRefusal) -> Refusal
 fn count_if_joined(book: &SeatBook) -> u32
     ensures { result ≡ count_if_joined_lem book.now }
 {
-    if is_joined(book.state()) { book.lines() } else { 0 }
+    if book.state().is_joined() { book.lines() } else { 0 }
 }
 
 #[tactic(auto, unfolding(crate::specs::World::asked_of))]
@@ -297,7 +291,7 @@ fn present_outcome(
         } => join_outcome(alloc, state, *seat, book, key.bytes(), *reader, *writer),
         Entry::Line { bytes, .. } => {
             let _lines = book.lines();
-            if is_joined(book.state()) {
+            if book.state().is_joined() {
                 read_outcome(alloc, state, steps, book, bytes.bytes())
             } else {
                 refused_direct(alloc, 0, Refusal::NoHello)

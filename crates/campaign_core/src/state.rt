@@ -1,6 +1,6 @@
 //! What a running campaign keeps: each seat's book, and the lines that wait for it.
 ghost use Rattle.std.specs.Prelude.{◌≡◌, ◌≤◌, ◌==◌, ◌+◌, ◌-◌, ◌||◌, length, slice_get, option_map, Some, IfOk, OnOk, map, drop, ◌++◌, ◌∷◌, [], if◌then◌else◌, ◌&&◌, not};
-ghost use Rattle.seats.specs.Book.{is_free as is_free_lem, is_closing as is_closing_lem};
+ghost use Rattle.seats.specs.SeatState.{is_free as is_free_lem, is_closing as is_closing_lem};
 ghost use Rattle.campaign_core.specs.Views.{no_view};
 ghost use Rattle.campaign_core.specs.Seat.{Seat, let_go, is_let_go as is_let_go_lem};
 
@@ -8,7 +8,7 @@ ghost use Rattle.campaign_core.specs.World.{queued_lines, queued_reply, view_lin
 ghost use Rattle.campaign_core.specs.State.{world_in, post_by, opening_post, opening_state, state_after};
 
 use crate::entry::Entry;
-use crate::outcome::{Outcome, is_joined, seat_of};
+use crate::outcome::{Outcome, seat_of};
 use crate::texts::full_line;
 use names::{LineText, Memory};
 use seats::{SeatBook, SeatState};
@@ -32,12 +32,6 @@ impl Model for Post {
     ghost Value = { Post };
 
     ghost view = { λ p. record { seat = record { book = p.book; queued = p.queued; taken = p.taken }; mail = p.mail.items } };
-}
-
-fn is_free(state: SeatState) -> bool
-    ensures { result ≡ is_free_lem state }
-{
-    matches!(state, SeatState::Free)
 }
 
 impl Post {
@@ -181,7 +175,7 @@ fn queued_reply_lines(alloc: Global, outcome: &Outcome, acts: bool) -> Result<Ve
 fn is_present(outcome: &Outcome, acts: bool, post: &Post) -> bool
     ensures { result ≡ is_present_lem acts (Some post.now.seat) outcome.now }
 {
-    is_joined(post.book.state()) || (acts && outcome.joins)
+    post.book.state().is_joined() || (acts && outcome.joins)
 }
 
 /// The line on a view that doesn't change.
