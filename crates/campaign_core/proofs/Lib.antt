@@ -6,3 +6,5 @@ mod Outcomes
 mod Simulation
 mod Sessions
 mod States
+mod OneLines
+mod Refused

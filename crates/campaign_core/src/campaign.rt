@@ -1,11 +1,11 @@
 //! A campaign as its callers see it: the world that it opened with, and its history.
-ghost use Rattle.std.specs.Prelude.{◌≡◌, ◌<◌, ◌≤◌, ◌++◌, ◌∷◌, [], ℕ, length, Some, IfOk, OnOk, IfErr, OnErr, map, drop, option_map};
+ghost use Rattle.std.specs.Prelude.{◌≡◌, ◌<◌, ◌≤◌, ◌++◌, ◌∷◌, [], ℕ, length, Some, IfOk, OnOk, IfErr, OnErr, map, drop, option_map, is_some, true};
 ghost use Rattle.std.specs.List.{AllByRecursion};
 ghost use Rattle.seats.specs.Book.{IsFresh};
 ghost use Rattle.campaign_core.specs.Seat.{fresh_seat};
 ghost use Rattle.campaign_core.specs.World.{World, seat_at};
 ghost use Rattle.campaign_core.specs.Session.{session, waiting};
-ghost use Rattle.campaign_core.specs.Law.{Course, IsOpening, IsSentAsMachine, world_of, answer_of as answer_of_lem, answer_after};
+ghost use Rattle.campaign_core.specs.Law.{Course, IsOpening, IsSentAsMachine, ChangesLittle, world_of, answer_of as answer_of_lem, answer_after};
 
 use crate::command::Refusal;
 use crate::entry::Entry;
@@ -86,6 +86,7 @@ impl Campaign {
         ensures answer { IfOk result (λ a. a ≡ answer_after self.old entry) }
         ensures back { IfErr result (λ e. e ≡ entry) }
         ensures unchanged { OnErr result (self.new ≡ self.old) }
+        ensures refused { IfOk result (λ a. is_some a.refusal ≡ true → ChangesLittle (world_of self.old) entry) }
 
         // What each player was sent is what the machine without a world prints.
         ensures sent { (p : ℕ) → IsSentAsMachine self.new.origin self.new.history p }
