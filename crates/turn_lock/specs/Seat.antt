@@ -1,5 +1,5 @@
 -- What the steps of a turn say of the table and of a seat.
-use Rattle.std.specs.Prelude.{◌≡◌, ℕ, false, [], ◌∷◌, Some}
+use Rattle.std.specs.Prelude.{◌≡◌, ℕ, ◌+◌, ◌^◌, ◌<◌, false, List, [], ◌∷◌, ◌++◌, length, Some}
 use Rattle.atomic_table.specs.Table.{Me}
 use Rattle.atomic_table.specs.Seated.{TableId}
 use Rattle.atomic_table.specs.declared.shared.Seat.{Seat}
@@ -35,3 +35,13 @@ module _ {O Entry Origin : Type 0} where
   -- the seat has the object, of which the fact holds
   abbrev pub HasObject : Me O (SeatView Entry Origin) → (O → Type 0) → Type 0
   HasObject me Fact = (object : O) × (me.1 ≡ (0, object) ∷ []) × Fact object
+
+module _ {O Entry Origin : Type 0} (origin : O → Origin) (history : O → List Entry) where
+  -- the seat has the object, whose origin is `start` and whose history is the front
+  abbrev pub HoldsObject : Origin → Me O (SeatView Entry Origin) → Type 0
+  HoldsObject start me = HasObject me (λ object. (origin object ≡ start) × (history object ≡ me.0.front))
+
+  -- the seat has the object, whose origin is `start` and whose history is longer than the front by these entries, `more` in number
+  abbrev pub HoldsMore : Origin → List Entry → ℕ → Me O (SeatView Entry Origin) → Type 0
+  HoldsMore start entries more me =
+      HasObject me (λ object. (origin object ≡ start) × (history object ≡ me.0.front ++ entries) × (length (history object) < 2 ^ 64) × (length me.0.front + more ≡ length (history object)))

@@ -6,23 +6,22 @@ ghost use Rattle.turn_lock.specs.Seat.{IsSized, IsResting, hall_state, pass_stat
 ghost use Rattle.turn_lock.specs.SeatView.{first_view};
 
 use crate::object::{Job, Object};
-use crate::order::Order;
 use crate::turns::{
     HallSeat, HallTable, close_table, join_seats, load_made, split_seat, turn, wait_made_past,
 };
-use crate::view::SeatView;
-use atomic_table::{Refused, Seat, Table};
+use atomic_table::{Refused, Table};
 use std::alloc::Global;
 use std::marker::Model;
 use std::snapshot::Snapshot;
 use std::sync::Wait;
 
-/// A lock round an object. Threads share it by `&`, and each acts on the object through a pass of its own.
+/// A lock round an object. Threads share it by `&`, and each acts on the object through a pass of
+/// its own.
 ///
 /// Contracts see which hall it is and the origin of its object.
 #[derive(Drop)]
 pub struct Hall<O: Object> {
-    table: Table<O, SeatView<O::Entry, O::Origin>, Snapshot<O>, Order<O>, Global>,
+    table: HallTable<O>,
 }
 
 impl<O: Object> Model for Hall<O> {
@@ -33,7 +32,8 @@ impl<O: Object> Model for Hall<O> {
     ghost invariant = { λ hall. IsSized hall.table.shared.table_id };
 }
 
-/// What gives further passes their numbers. A hall has one, and its count only rises, so it gives each number once.
+/// What gives further passes their numbers. A hall has one, and its count only rises, so it gives
+/// each number once.
 ///
 /// Contracts see its hall and its count, the number that it gives next.
 pub struct Usher<O: Object> {
@@ -47,12 +47,14 @@ impl<O: Object> Model for Usher<O> {
     ghost view = { λ usher. record { hall = usher.hall.value; count = usher.count } };
 }
 
-/// The right of one thread at a time to act on a hall's object, and what that thread knows of the history.
+/// The right of one thread at a time to act on a hall's object, and what that thread knows of the
+/// history.
 ///
-/// Contracts see its hall, its number, its front (the prefix of the history that it has seen), its own places (those
-/// of the front at which its turns appended) and the greatest length of the history that it has heard of.
+/// Contracts see its hall, its number, its front (the prefix of the history that it has seen), its
+/// own places (those of the front at which its turns appended) and the greatest length of the
+/// history that it has heard of.
 pub struct Pass<O: Object> {
-    seat: Seat<O, SeatView<O::Entry, O::Origin>>,
+    seat: HallSeat<O>,
     number: u64,
 }
 
@@ -65,10 +67,10 @@ impl<O: Object> Model for Pass<O> {
 }
 
 impl<O: Object> Pass<O> {
-    /// The pass's number.
+    /// The pass's number. Its own places are places of its front.
     pub fn number(&self) -> u64
         ensures number { result ≡ self.now.number }
-        ensures own { OwnsWithin self.now.front self.now.own }
+        ensures within { OwnsWithin self.now.front self.now.own }
     {
         self.number
     }
@@ -104,8 +106,8 @@ impl<O: Object> Drop for Usher<O> {
 }
 
 impl<O: Object> Hall<O> {
-    /// A hall for the object, its usher and its first pass, whose number is 0 and whose front is the object's history.
-    /// The object comes back only for want of memory.
+    /// A hall for the object, its usher, whose count is 1, and its first pass, whose number is 0 and
+    /// whose front is the object's history. The object comes back only for want of memory.
     pub fn open(alloc: Global, object: O) -> Result<(Hall<O>, Usher<O>, Pass<O>), O>
         ensures origin { IfOk result (λ opened. opened.0.origin ≡ O.origin object) }
         ensures usher { IfOk result (λ opened. IsUsherOf opened.0 opened.1 × (opened.1.count ≡ 1)) }
@@ -144,9 +146,9 @@ impl<O: Object> Hall<O> {
         (hall, usher, Pass { seat, number: 0 })
     }
 
-    /// Makes two passes of one. Both have its front and have heard of as much. The left has its number and its own
-    /// places. The right has no own places, and its number is the usher's count, which then rises by one.
-    /// The pass comes back only for want of memory.
+    /// Makes two passes of one. Both have its front and have heard of as much. The left has its
+    /// number and its own places. The right has no own places, and its number is the usher's count,
+    /// which then rises by one. The pass comes back only for want of memory.
     pub fn split(&self, usher: &mut Usher<O>, pass: Pass<O>) -> Result<(Pass<O>, Pass<O>), Pass<O>>
         requires hall { IsPassOf self.now pass × IsUsherOf self.now usher.old }
         requires number { (pass.number < usher.old.count) × (usher.old.count < 2 ^ 64 - 1) }
@@ -166,9 +168,9 @@ impl<O: Object> Hall<O> {
         Ok((Pass { seat, number }, right))
     }
 
-    /// Makes one pass of two. Of their fronts one begins with the other, and it is the front of the result, which has
-    /// the left's number, the left's own places and then the right's, and the greater length of those that they had
-    /// heard of. It takes no memory.
+    /// Makes one pass of two. Of their fronts one begins with the other, and it is the front of the
+    /// result, which has the left's number, the left's own places and then the right's, and the
+    /// greater length of those that they had heard of. It takes no memory.
     pub fn meet(&self, left: Pass<O>, right: Pass<O>) -> Pass<O>
         requires { IsPassOf self.now left × IsPassOf self.now right }
         ensures hall { IsPassOf self.now result }
@@ -186,22 +188,25 @@ impl<O: Object> Hall<O> {
         Pass { seat, number }
     }
 
-    /// Waits for its turn and runs the job once on the object. The turn finds a history that begins with the pass's
-    /// front and is at least as long as what it had heard of. The front becomes that history with the job's entries
-    /// behind it, whose places join the own places. It refuses nothing.
+    /// Waits for its turn and runs the job once on the object. The turn finds a history that begins
+    /// with the pass's front and is at least as long as what it had heard of. The front becomes
+    /// that history with the job's entries behind it, whose places join the own places. It refuses
+    /// nothing.
     pub fn act<R: Wait, J: Job<O>>(&self, rt: &R, pass: &mut Pass<O>, job: &mut J)
         requires { IsPassOf self.now pass.old }
         ensures hall { IsPassOf self.now pass.new }
         ensures number { pass.new.number ≡ pass.old.number }
         ensures front { IsPrefix pass.old.front pass.new.front }
-        ensures turn { HasTurn (λ before after. J.ran self.now.origin job.old before job.new after) (J.entries job.old job.new) (known pass.old) (known pass.new) }
+        ensures turn { HasTurn (λ found left. J.ran self.now.origin job.old found job.new left)
+            (J.entries job.old job.new) (known pass.old) (known pass.new) }
         ensures within { OwnsWithin pass.new.front pass.new.own }
     {
         turn(&self.table.shared, rt, &mut pass.seat, job);
     }
 
-    /// A length of the history, at least that of the pass's front and at least what it had heard of. The pass has then
-    /// heard of it, so its next turn finds a history that is at least so long. It doesn't wait and takes no memory.
+    /// A length of the history, at least that of the pass's front and at least what it had heard
+    /// of. The pass has then heard of it, so its next turn finds a history that is at least so
+    /// long. It doesn't wait and takes no memory.
     pub fn progress(&self, pass: &mut Pass<O>) -> u64
         requires { IsPassOf self.now pass.old }
         ensures pass { pass.new ≡ hears pass.old result }
@@ -222,8 +227,8 @@ impl<O: Object> Hall<O> {
         wait_made_past(&self.table.shared, rt, &mut pass.seat, known)
     }
 
-    /// Waits for its turn and gives the object. Its history begins with the pass's front and is at least as long as
-    /// what the pass had heard of. It takes no memory.
+    /// Waits for its turn and gives the object. Its history begins with the pass's front and is at
+    /// least as long as what the pass had heard of. It takes no memory.
     pub fn close<R: Wait>(self, rt: &R, pass: Pass<O>) -> O
         requires { IsPassOf self pass }
         ensures origin { O.origin result ≡ self.origin }

@@ -1,8 +1,8 @@
 //! What each kind of atomic step tells the seat that takes it.
 //!
-//! The kinds are seven: take the turn, take the object out of its slot, add to the count of entries, give the object
-//! back, pass the turn, load the count, and split or join seats. A join has a second half, in which the seat compares
-//! the two fronts that it then has.
+//! The kinds are seven: take the turn, take the object out of its slot, add to the count of
+//! entries, give the object back, pass the turn, load the count, and split or join seats. A join
+//! has a second half, in which the seat compares the two fronts that it then has.
 ghost use Rattle.turn_lock.specs.SeatView.{newcomer, joined, spent};
 ghost use Rattle.turn_lock.specs.Steps.{TakesTurn, TakesObject, AddsEntries, GivesObject, PassesTurn, LoadsMade, ComparesFronts};
 

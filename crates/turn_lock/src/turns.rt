@@ -3,7 +3,7 @@ ghost use Rattle.std.specs.Prelude.{◌≡◌, ◌+◌, ◌^◌, ◌<◌, ◌≤
 ghost use mathlib.Core.List.{IsPrefix};
 ghost use Rattle.turn_lock.specs.Pass.{HasTurn, OwnsWithin};
 ghost use Rattle.turn_lock.specs.SeatView.{with_turn, with_object, grown, without_object, without_turn, informed, newcomer};
-ghost use Rattle.turn_lock.specs.Seat.{IsSized, hall_state, known_of, IsSeatOf, IsIdle, IsResting, HasObject};
+ghost use Rattle.turn_lock.specs.Seat.{IsSized, hall_state, known_of, IsSeatOf, IsIdle, IsResting, HasObject, HoldsObject, HoldsMore};
 
 use crate::object::{Job, Object};
 use crate::order::{BUSY, MADE, OBJECT, Order};
@@ -63,7 +63,7 @@ pub fn take_object<O: Object>(shared: &SharedTable<O>, seat: &mut HallSeat<O>)
     requires turn { (seat.old.me.0.turn ≡ true) × (seat.old.me.0.out ≡ false) × (seat.old.me.1 ≡ []) }
     ensures table { (seat.new.table_id ≡ seat.old.table_id) × (seat.new.id ≡ seat.old.id) }
     ensures view { seat.new.me.0 ≡ with_object seat.old.me.0 }
-    ensures object { HasObject seat.new.me (λ object. (O.origin object ≡ O.origin shared.now.key.value) × (O.history object ≡ seat.old.me.0.front)) }
+    ensures object { HoldsObject O.origin O.history (O.origin shared.now.key.value) seat.new.me }
 {
     shared.load::<TakeObject>(seat, MADE);
 }
@@ -76,11 +76,12 @@ pub fn run_job<O: Object, J: Job<O>>(
 ) -> u64
     requires sized { IsSized shared.now.table_id }
     requires table { seat.old.table_id ≡ shared.now.table_id }
-    requires object { HasObject seat.old.me (λ object. (O.origin object ≡ O.origin shared.now.key.value) × (O.history object ≡ seat.old.me.0.front)) }
+    requires object { HoldsObject O.origin O.history (O.origin shared.now.key.value) seat.old.me }
     ensures table { (seat.new.table_id ≡ seat.old.table_id) × (seat.new.id ≡ seat.old.id) }
     ensures view { seat.new.me.0 ≡ seat.old.me.0 }
-    ensures object { HasObject seat.new.me (λ object. (O.origin object ≡ O.origin shared.now.key.value) × (O.history object ≡ seat.old.me.0.front ++ J.entries job.old job.new) × (length (O.history object) < 2 ^ 64) × (length seat.old.me.0.front + result ≡ length (O.history object))) }
-    ensures ran { J.ran (O.origin shared.now.key.value) job.old seat.old.me.0.front job.new (seat.old.me.0.front ++ J.entries job.old job.new) }
+    ensures object { HoldsMore O.origin O.history (O.origin shared.now.key.value) (J.entries job.old job.new) result seat.new.me }
+    ensures ran { J.ran (O.origin shared.now.key.value) job.old seat.old.me.0.front
+        job.new (seat.old.me.0.front ++ J.entries job.old job.new) }
 {
     let object = seat.slot_mut(shared, OBJECT);
     let before = object.length();
@@ -93,7 +94,9 @@ pub fn add_entries<O: Object>(shared: &SharedTable<O>, seat: &mut HallSeat<O>, m
     requires sized { IsSized shared.now.table_id }
     requires table { seat.old.table_id ≡ shared.now.table_id }
     requires turn { (seat.old.me.0.turn ≡ true) × (seat.old.me.0.out ≡ true) }
-    requires object { HasObject seat.old.me (λ object. IsPrefix seat.old.me.0.front (O.history object) × (length (O.history object) < 2 ^ 64) × (length seat.old.me.0.front + more ≡ length (O.history object))) }
+    requires object { HasObject seat.old.me (λ object.
+        IsPrefix seat.old.me.0.front (O.history object) × (length (O.history object) < 2 ^ 64)
+        × (length seat.old.me.0.front + more ≡ length (O.history object))) }
     ensures table { (seat.new.table_id ≡ seat.old.table_id) × (seat.new.id ≡ seat.old.id) }
     ensures object { HasObject seat.old.me (λ object. seat.new.me ≡ (grown seat.old.me.0 (O.history object), seat.old.me.1)) }
 {
@@ -106,7 +109,7 @@ pub fn give_object<O: Object>(shared: &SharedTable<O>, seat: &mut HallSeat<O>)
     requires sized { IsSized shared.now.table_id }
     requires hall { IsSeatOf (hall_state shared.now.table_id (O.origin shared.now.key.value)) seat.old }
     requires turn { seat.old.me.0.turn ≡ true }
-    requires object { HasObject seat.old.me (λ object. (O.origin object ≡ O.origin shared.now.key.value) × (O.history object ≡ seat.old.me.0.front)) }
+    requires object { HoldsObject O.origin O.history (O.origin shared.now.key.value) seat.old.me }
     ensures table { (seat.new.table_id ≡ seat.old.table_id) × (seat.new.id ≡ seat.old.id) }
     ensures given { seat.new.me ≡ (without_object seat.old.me.0, []) }
 {
@@ -138,7 +141,8 @@ pub fn turn<O: Object, R: Wait, J: Job<O>>(
     ensures hall { IsSeatOf (hall_state shared.now.table_id (O.origin shared.now.key.value)) seat.new }
     ensures idle { IsIdle seat.new.me }
     ensures within { OwnsWithin seat.new.me.0.front seat.new.me.0.own }
-    ensures turn { HasTurn (λ before after. J.ran (O.origin shared.now.key.value) job.old before job.new after) (J.entries job.old job.new) (known_of seat.old.me.0) (known_of seat.new.me.0) }
+    ensures turn { HasTurn (λ found left. J.ran (O.origin shared.now.key.value) job.old found job.new left)
+        (J.entries job.old job.new) (known_of seat.old.me.0) (known_of seat.new.me.0) }
 {
     take_turn(shared, rt, seat);
     take_object(shared, seat);
@@ -205,7 +209,8 @@ pub fn close_table<O: Object, R: Wait>(table: HallTable<O>, rt: &R, mut seat: Ha
 /// Takes in another seat. The front is then the longer of the two.
 pub fn join_seats<O: Object>(shared: &SharedTable<O>, seat: &mut HallSeat<O>, other: HallSeat<O>)
     requires sized { IsSized shared.now.table_id }
-    requires hall { IsSeatOf (hall_state shared.now.table_id (O.origin shared.now.key.value)) seat.old × (other.table_id ≡ shared.now.table_id) }
+    requires hall { IsSeatOf (hall_state shared.now.table_id (O.origin shared.now.key.value)) seat.old }
+    requires table { other.table_id ≡ shared.now.table_id }
     requires resting { IsResting seat.old.me × IsResting other.me }
     ensures hall { IsSeatOf (hall_state shared.now.table_id (O.origin shared.now.key.value)) seat.new }
     ensures idle { IsIdle seat.new.me }
