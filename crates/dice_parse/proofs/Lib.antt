@@ -1,0 +1,4 @@
+pub mod Words
+pub mod Back
+pub mod Turns
+pub mod Exact
