@@ -58,11 +58,11 @@ suffix_free (b ∷ r) h =
       die = or_left (nat_eq 100 b) _ (or_right (nat_eq 107 b) _ kind);
     }
 
-free_explode : (test : ℕ → Bool) (s r : List ℕ) (e : Bool) → test 101 ≡ false → IsExplode s e → Free test r → Free test (s ++ r)
+pub free_explode : (test : ℕ → Bool) (s r : List ℕ) (e : Bool) → test 101 ≡ false → IsExplode s e → Free test r → Free test (s ++ r)
 free_explode test s r true t h free = rw h t
 free_explode test s r false t h free = rw h free
 
-free_again : (test : ℕ → Bool) (s r : List ℕ) (a : Option ℕ) → test 114 ≡ false → IsAgain s a → Free test r → Free test (s ++ r)
+pub free_again : (test : ℕ → Bool) (s r : List ℕ) (a : Option ℕ) → test 114 ≡ false → IsAgain s a → Free test r → Free test (s ++ r)
 free_again test s r None t h free = rw h free
 free_again test s r (Some n) t (u, e, h) free = rw e t
 

@@ -72,16 +72,16 @@ die_of count sides explode again tail = record { count = count; sides = sides; e
 abbrev pub IsDieOf : ℕ → List ℕ → Group → Type 0
 IsDieOf count s g = IsDie s g × (g.count ≡ count)
 
-abbrev AfterAgain : ℕ → ℕ → Bool → Option ℕ → List ℕ → Group → Type 0
+abbrev pub AfterAgain : ℕ → ℕ → Bool → Option ℕ → List ℕ → Group → Type 0
 AfterAgain count sides explode again = Wrapped (die_of count sides explode again) IsTail
 
-abbrev AfterExplode : ℕ → ℕ → Bool → List ℕ → Group → Type 0
+abbrev pub AfterExplode : ℕ → ℕ → Bool → List ℕ → Group → Type 0
 AfterExplode count sides explode = Then IsAgain (AfterAgain count sides explode)
 
-abbrev AfterSides : ℕ → ℕ → List ℕ → Group → Type 0
+abbrev pub AfterSides : ℕ → ℕ → List ℕ → Group → Type 0
 AfterSides count sides = Then IsExplode (AfterExplode count sides)
 
-abbrev WholeDie : ℕ → List ℕ → Group → Type 0
+abbrev pub WholeDie : ℕ → List ℕ → Group → Type 0
 WholeDie count = Then IsNum (AfterSides count)
 
 end-again : (count sides : ℕ) (e : Bool) (a : Option ℕ) → (b : List ℕ) × (y : Group) × AfterAgain count sides e a b y
@@ -93,7 +93,7 @@ end-explode count sides e = ([], die_of count sides e None None, ([], [], None, 
 end-sides : (count sides : ℕ) → (b : List ℕ) × (y : Group) × AfterSides count sides b y
 end-sides count sides = ([], die_of count sides false None None, ([], [], false, refl, refl, ([], [], None, refl, refl, (None, refl, refl))))
 
-whole_die : (count : ℕ) (s : List ℕ) (g : Group) → WholeDie count s g → IsDieOf count s g
+pub whole_die : (count : ℕ) (s : List ℕ) (g : Group) → WholeDie count s g → IsDieOf count s g
 whole_die count s g (sides, r0, n, e0, h0, (ex, r1, x, e1, h1, (ag, tl, a, e2, h2, (t, h3, v)))) =
     let e : s ≡ sides ++ (ex ++ (ag ++ tl)) = rw (← e2, ← e1) e0 in
     rw v (record { sides = sides; explode = ex; again = ag; tail = tl; parts = e; sides-is = h0; explode-is = h1; again-is = h2; tail-is = h3 }, refl)

@@ -5,10 +5,12 @@
 //! grammars.
 #![tactic(auto)]
 
+mod groups;
 mod parts;
 mod readers;
 mod texts;
 
+pub use groups::read_group;
 pub use parts::{Group, Part, Tail, Term};
 pub use readers::die;
 pub use texts::{Dice, DiceFault, one_reading, read_dice};
