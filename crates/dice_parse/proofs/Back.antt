@@ -1,6 +1,5 @@
 -- Each word of the grammar is read again, whatever follows it that doesn't make it longer.
-use Rattle.std.proofs.Common.{◌≡◌, ℕ, zero, suc, ◌+◌, ◌-◌, ◌*◌, ◌<◌, ◌≤◌, Bool, true, false, ◌||◌, List, [], ◌∷◌, ◌++◌, length, Option, Some, None, refl, ap, append_assoc, arith, inl, inr}
-use Rattle.std.proofs.lemmas.Bool.Decides.{nat_tests}
+use Rattle.std.proofs.Common.{◌≡◌, ℕ, zero, suc, ◌+◌, ◌<◌, Bool, true, false, ◌||◌, List, [], ◌∷◌, ◌++◌, length, Option, Some, None, refl, ap, append_assoc, arith}
 use Rattle.std.proofs.lemmas.List.{length-append}
 use Rattle.std.specs.Prelude.{nat_eq}
 use Rattle.dice_parse.specs.declared.parts.Tail.{Tail}
@@ -9,8 +8,8 @@ use Rattle.dice_parse.specs.declared.parts.Group.{Group}
 use Rattle.dice_parse.specs.declared.parts.Part.{Part}
 use Rattle.dice_parse.specs.declared.parts.Part.TheVariants.{Group as AGroup, Number as ANumber}
 use Rattle.dice_parse.specs.declared.parts.Term.{Term}
-use Rattle.reading.specs.Reading.{Read, done, bind, on_head, item}
-use Rattle.dice_parse.specs.Grammar.{IsNum, IsCount, IsExplode, IsAgain, IsTail, IsDie, IsPart, AreMore, IsDice, sign}
+use Rattle.reading.specs.Reading.{done, bind, item}
+use Rattle.dice_parse.specs.Grammar.{IsCount, IsExplode, IsAgain, IsTail, IsDie, IsPart, AreMore, IsDice, sign}
 use Rattle.dice_parse.specs.Readers.{num_at, explode_at, again_at, is_kind, kind_of, tail_at, die_at, group_at, part_at, is_sign, more_at, dice_at}
 use Rattle.reading.specs.Number.{is_digit}
 use Rattle.reading.proofs.Pairs.{Free, head_free, or_left, or_right}

@@ -1,19 +1,19 @@
 -- Reading a group with its count takes the longest one.
-use Rattle.std.proofs.Common.{◌≡◌, ℕ, zero, suc, ◌+◌, ◌-◌, ◌*◌, ◌<◌, ◌≤◌, Bool, true, false, cond, List, [], ◌∷◌, ◌++◌, length, take, drop, Option, Some, None, refl, sym, ap, subst, ◌∙◌, append_assoc, append-nil, arith, inl, inr}
+use Rattle.std.proofs.Common.{◌≡◌, ℕ, zero, suc, ◌+◌, ◌-◌, ◌*◌, ◌≤◌, Bool, true, false, cond, List, [], ◌∷◌, ◌++◌, length, take, drop, Option, Some, None, refl, sym, ap, ◌∙◌, append_assoc, arith, inl, inr}
 use Rattle.std.proofs.lemmas.Bool.Decides.{nat_tests}
 use Rattle.std.proofs.lemmas.List.{length-append, length-drop, take-append-drop, take_all}
 use Rattle.std.proofs.Math.Seq.{take-append_seam}
 use Rattle.std.specs.Prelude.{nat_eq}
 use Rattle.reading.specs.Reading.{Read, done, carry, bind, on_head, item}
-use Rattle.reading.specs.Number.{IsDigit, AreDigits, value_after, is_digit, digits_at, number_at}
-use Rattle.reading.proofs.Pairs.{got, none_some_pair, same_pair, eq_means, Free, head_free}
+use Rattle.reading.specs.Number.{AreDigits, is_digit, digits_at, number_at}
+use Rattle.reading.proofs.Pairs.{got, none_some_pair, same_pair, eq_means, Free}
 use Rattle.reading.proofs.Laws.{Fate, Reads, reads_item, IsItem}
 use Rattle.reading.proofs.Combine.{only, Then, Wrapped}
 use Rattle.reading.proofs.Number.{means_digit, lead_digit, number_back, reads_number}
 use Rattle.dice_parse.specs.declared.parts.Tail.{Tail}
 use Rattle.dice_parse.specs.declared.parts.Tail.TheVariants.{Keep, Lose, Succeed}
 use Rattle.dice_parse.specs.declared.parts.Group.{Group}
-use Rattle.dice_parse.specs.Grammar.{IsNum, IsExplode, IsAgain, IsTail, IsDie, letter}
+use Rattle.dice_parse.specs.Grammar.{IsNum, IsExplode, IsAgain, IsTail, letter}
 use Rattle.dice_parse.specs.Readers.{num_at, explode_at, again_at, is_kind, kind_of, tail_at}
 use Rattle.dice_parse.specs.Groups.{IsCounted, IsLongestGroup, NoGroup, digit_behind, before_digit, suffixes_at, counted_at}
 use Rattle.dice_parse.proofs.Back.{free_explode, free_again}
@@ -252,9 +252,9 @@ suffixes_leave count sides explode again tail z e a x he ha hx =
     let free114 = tail_free (nat_eq 114) tail x refl refl refl hx in
     let digit = tail_free is_digit tail x refl refl refl hx in
     let last : (c : Bool) (b : Option ℕ) → Leaves (bind (before_digit tail_at) (λ t. done (die_of count sides c b t))) (tail ++ z) (length z)
-          = λ c b. always_bind (before_digit tail_at) (λ t. done (die_of count sides c b t)) (tail ++ z) (length z) (tail_leaves tail z x hx) (λ y r. (die_of count sides c b y, r, refl, omega arith)) in
+    = λ c b. always_bind (before_digit tail_at) (λ t. done (die_of count sides c b t)) (tail ++ z) (length z) (tail_leaves tail z x hx) (λ y r. (die_of count sides c b y, r, refl, omega arith)) in
     let behind : (c : Bool) → Leaves (bind (before_digit again_at) (λ b. bind (before_digit tail_at) (λ t. done (die_of count sides c b t)))) ((again ++ tail) ++ z) (length z)
-          = λ c. rw append_assoc (again_then (λ b. bind (before_digit tail_at) (λ t. done (die_of count sides c b t))) again tail z a ha free114 digit (behind_again count sides c) (last c)) in
+    = λ c. rw append_assoc (again_then (λ b. bind (before_digit tail_at) (λ t. done (die_of count sides c b t))) again tail z a ha free114 digit (behind_again count sides c) (last c)) in
     explode_then (λ c. bind (before_digit again_at) (λ b. bind (before_digit tail_at) (λ t. done (die_of count sides c b t)))) explode (again ++ tail) z e he free101 (behind_explode count sides) behind
 
 counted_leaves : (f z : List ℕ) (g : Group) → IsCounted f g → Leaves counted_at (f ++ z) (length z)

@@ -1,6 +1,5 @@
 -- Dice as they are read, against the grammar's.
-use Rattle.std.proofs.Common.{◌≡◌, ℕ, zero, suc, Bool, true, false, ◌||◌, cond, List, [], ◌∷◌, ◌++◌, Option, Some, None, refl, sym, ap, append-nil, arith}
-use Rattle.std.proofs.lemmas.Bool.Decides.{nat_tests}
+use Rattle.std.proofs.Common.{◌≡◌, ℕ, zero, suc, Bool, true, false, ◌||◌, cond, List, [], ◌∷◌, ◌++◌, Option, Some, None, refl, sym, ap, append-nil}
 use Rattle.std.specs.Prelude.{nat_eq}
 use Rattle.dice_parse.specs.declared.parts.Tail.{Tail}
 use Rattle.dice_parse.specs.declared.parts.Tail.TheVariants.{Keep, Lose, Succeed}
@@ -8,7 +7,7 @@ use Rattle.dice_parse.specs.declared.parts.Group.{Group}
 use Rattle.dice_parse.specs.declared.parts.Part.{Part}
 use Rattle.dice_parse.specs.declared.parts.Part.TheVariants.{Group as AGroup, Number as ANumber}
 use Rattle.dice_parse.specs.declared.parts.Term.{Term}
-use Rattle.reading.specs.Reading.{Read, done, bind, on_head, item}
+use Rattle.reading.specs.Reading.{done, bind, on_head, item}
 use Rattle.dice_parse.specs.Grammar.{IsNum, IsCount, IsExplode, IsAgain, IsTail, IsDie, IsPart, AreMore, IsDice, letter, sign}
 use Rattle.dice_parse.specs.Readers.{num_at, explode_at, again_at, is_kind, kind_of, tail_at, die_at, group_at, part_at, is_sign, ended, more_at, dice_at}
 use Rattle.reading.proofs.Laws.{Reads, Sequence, reads_done, reads_bind, reads_as, reads_item, reads_head, IsItem, SomeItem}

@@ -1,8 +1,7 @@
 -- A group with its count, alone at a place of a text.
-use Rattle.std.specs.Prelude.{◌≡◌, ℕ, ◌<◌, ◌≤◌, Bool, true, false, cond, List, [], ◌∷◌, ◌++◌, length, take, Option, Some, None, nat_eq}
+use Rattle.std.specs.Prelude.{◌≡◌, ℕ, ◌<◌, ◌≤◌, Bool, false, cond, List, [], ◌∷◌, ◌++◌, length, take, Option, Some, None, nat_eq}
 use Rattle.reading.specs.Reading.{Read, done, bind, item}
 use Rattle.reading.specs.Number.{is_digit}
-use Rattle.dice_parse.specs.declared.parts.Tail.{Tail}
 use Rattle.dice_parse.specs.declared.parts.Group.{Group}
 use Rattle.dice_parse.specs.Grammar.{IsNum, IsDie}
 use Rattle.dice_parse.specs.Readers.{num_at, explode_at, again_at, tail_at}

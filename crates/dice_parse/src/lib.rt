@@ -14,3 +14,6 @@ pub use groups::read_group;
 pub use parts::{Group, Part, Tail, Term};
 pub use readers::die;
 pub use texts::{Dice, DiceFault, one_reading, read_dice};
+
+#[cfg(test)]
+mod tests;

@@ -1,5 +1,5 @@
 -- Terms are rolled one by one, and few words are used.
-use Rattle.std.proofs.Common.{◌≡◌, ℕ, zero, suc, ◌+◌, ◌-◌, ◌*◌, ◌%◌, ◌^◌, ◌<◌, ◌≤◌, Bool, true, false, cond, List, [], ◌∷◌, ◌++◌, length, take, drop, get_or, Option, Some, None, refl, sym, ap, ◌∙◌, arith, pos, ◌+ℤ◌, neg_ℤ, ◌≤ℤ◌, ℤ, add_assoc, zero-add, add-zero, add-one, inl, inr, ◌⊎◌}
+use Rattle.std.proofs.Common.{◌≡◌, ℕ, zero, suc, ◌+◌, ◌-◌, ◌*◌, ◌%◌, ◌^◌, ◌<◌, ◌≤◌, Bool, true, false, cond, List, [], ◌∷◌, length, drop, get_or, refl, sym, ap, ◌∙◌, arith, pos, neg_ℤ, ◌≤ℤ◌, ℤ, add_assoc, zero-add, add-zero, add-one, inl, inr, ◌⊎◌}
 use Rattle.std.specs.Prelude.{nat_eq, All}
 use Rattle.std.proofs.lemmas.List.{length-append, drop_all}
 use Rattle.std.proofs.lemmas.List.Elements.{All-head, All-tail}
@@ -11,7 +11,7 @@ use Rattle.dice_parse.specs.declared.parts.Group.{Group}
 use Rattle.dice_parse.specs.declared.parts.Part.{Part}
 use Rattle.dice_parse.specs.declared.parts.Part.TheVariants.{Group as AGroup, Number as ANumber}
 use Rattle.dice_parse.specs.declared.parts.Term.{Term}
-use Rattle.dice_parse.specs.Grammar.{GroupFits, PartFits, IsWithin}
+use Rattle.dice_parse.specs.Grammar.{PartFits, IsWithin}
 use Rattle.seat_random.specs.Stream.{Stream, word_of, after, shown}
 use Rattle.seat_random.proofs.Ahead.{words_after, after_after}
 use Rattle.dice_roll.specs.Rolling.{later, is_again, first_value, first_used, further, die_further, die_values, die_used, dice_values, dice_used, total_of, total_from, words_used, total_with, part_value, part_used}

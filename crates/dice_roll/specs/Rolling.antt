@@ -1,5 +1,5 @@
 -- What dice mean. `word k` is the word that lies k places ahead; each part says what it is worth and how many words it uses.
-use Rattle.std.specs.Prelude.{◌≡◌, ℕ, zero, suc, ◌+◌, ◌-◌, Bool, true, false, cond, List, [], ◌∷◌, ◌++◌, length, sum, count_by, drop, Option, Some, None, nat_le, nat_eq, ℤ, pos, ◌+ℤ◌, ◌-ℤ◌}
+use Rattle.std.specs.Prelude.{ℕ, zero, suc, ◌+◌, ◌-◌, Bool, true, false, cond, List, [], ◌∷◌, ◌++◌, length, sum, count_by, drop, Option, Some, None, nat_le, nat_eq, ℤ, pos, ◌+ℤ◌, ◌-ℤ◌}
 use Rattle.dice_parse.specs.declared.parts.Tail.{Tail}
 use Rattle.dice_parse.specs.declared.parts.Tail.TheVariants.{Keep, Lose, Succeed}
 use Rattle.dice_parse.specs.declared.parts.Group.{Group}

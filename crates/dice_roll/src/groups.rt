@@ -26,32 +26,9 @@ fn first(group: &Group, stream: &mut SeatStream) -> u32
 
 /// How many further values a die may have.
 fn most_further_of(group: &Group) -> u32
-    ensures value { result ≡ most_further group.now }
-    ensures bound { result ≤ 10 }
+    ensures { result ≡ most_further group.now }
 {
     if group.explode { 10 } else { 0 }
-}
-
-/// Draws further values of a die, as long as the last one is the greatest, and at most so many.
-fn more(
-    sides: u32,
-    most: u32,
-    last: u32,
-    stream: &mut SeatStream,
-    values: &mut Vec<u32>,
-) -> Result<(), AllocError>
-    requires some { 1 ≤ sides }
-    requires few { sides ≤ 1000 }
-    ensures values { OnOk result (values.new.items ≡ values.old.items ++ further (word_of stream.old) sides most last) }
-    ensures stream { OnOk result (stream.new ≡ after stream.old (length (further (word_of stream.old) sides most last))) }
-    ensures small { OnOk result (All (λ x. x ≤ 1000) values.old.items → All (λ x. x ≤ 1000) values.new.items) }
-{
-    if most == 0 || last != sides {
-        return Ok(());
-    }
-    let value = stream.die(sides);
-    values.push(value)?;
-    more(sides, most - 1, value, stream, values)
 }
 
 /// Rolls one die of a group, and puts what it shows at the end.
@@ -61,28 +38,34 @@ fn one_die(group: &Group, stream: &mut SeatStream, values: &mut Vec<u32>) -> Res
     ensures stream { OnOk result (stream.new ≡ after stream.old (die_used (word_of stream.old) group.now)) }
     ensures small { OnOk result (All (λ x. x ≤ 1000) values.old.items → All (λ x. x ≤ 1000) values.new.items) }
 {
-    let value = first(group, stream);
-    values.push(value)?;
-    more(group.sides, most_further_of(group), value, stream, values)
+    let mut last = first(group, stream);
+    values.push(last)?;
+    let most = most_further_of(group);
+    for _turn in 0..most {
+        if last != group.sides {
+            break;
+        }
+        last = stream.die(group.sides);
+        values.push(last)?;
+    }
+    Ok(())
 }
 
-/// Rolls so many dice of a group.
-fn dice(
+/// Rolls the dice of a group, and puts what they show at the end.
+fn roll_group(
     group: &Group,
-    count: u32,
     stream: &mut SeatStream,
     values: &mut Vec<u32>,
 ) -> Result<(), AllocError>
     requires { GroupFits group.now }
-    ensures values { OnOk result (values.new.items ≡ values.old.items ++ dice_values (word_of stream.old) group.now count) }
-    ensures stream { OnOk result (stream.new ≡ after stream.old (dice_used (word_of stream.old) group.now count)) }
+    ensures values { OnOk result (values.new.items ≡ values.old.items ++ dice_values (word_of stream.old) group.now group.now.count) }
+    ensures stream { OnOk result (stream.new ≡ after stream.old (dice_used (word_of stream.old) group.now group.now.count)) }
     ensures small { OnOk result (All (λ x. x ≤ 1000) values.old.items → All (λ x. x ≤ 1000) values.new.items) }
 {
-    if count == 0 {
-        return Ok(());
+    for _die in 0..group.count {
+        one_die(group, stream, values)?;
     }
-    one_die(group, stream, values)?;
-    dice(group, count - 1, stream, values)
+    Ok(())
 }
 
 /// What a part is worth, with the words that its dice use drawn.
@@ -99,7 +82,7 @@ pub(crate) fn part_worth(
         Part::Number(number) => Ok(*number),
         Part::Group(group) => {
             let mut values = Vec::new(alloc);
-            dice(group, group.count, stream, &mut values)?;
+            roll_group(group, stream, &mut values)?;
             Ok(worth(&mut values, group.tail))
         }
     }

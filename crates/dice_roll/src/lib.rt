@@ -11,3 +11,6 @@ mod values;
 
 pub use totals::{Rolled, roll};
 pub use values::ascending_order;
+
+#[cfg(test)]
+mod tests;

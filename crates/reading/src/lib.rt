@@ -53,7 +53,7 @@ impl Cursor<'_> {
         ensures shrinks { length self.new.rest.now ≤ length self.old.rest.now }
     {
         let mut value = first;
-        for place in 0..further {
+        for _place in 0..further {
             let Some(digit) = self.digit() else {
                 return value;
             };

@@ -81,3 +81,37 @@ impl SeatStream {
         self.drawn
     }
 }
+
+#[cfg(test)]
+mod tests {
+    use super::*;
+
+    // The keystream of RFC 8439, appendix A.1, test vectors 1 and 2, as little-endian words.
+    #[test]
+    fn first_words_of_the_zero_seed(rt: HostRuntime) {
+        let words = [
+            0xade0b876u32,
+            0x903df1a0,
+            0xe56a5d40,
+            0x28bd8653,
+            0xb819d2bd,
+        ];
+        for (place, wanted) in words.iter().enumerate() {
+            assert!(rt; word([0; 32], place as u64) == *wanted);
+        }
+        assert!(rt; word([0; 32], 16) == 0xbee7079f);
+    }
+
+    #[test]
+    fn dice_of_six_of_the_zero_seed(rt: HostRuntime) {
+        let mut stream = SeatStream::new([0; 32], 0);
+        for wanted in [5, 4, 6, 1] {
+            assert!(rt; stream.die(6) == wanted);
+        }
+        assert!(rt; stream.drawn() == 4);
+        assert!(rt; stream.seed() == [0; 32]);
+        let mut last = SeatStream::new([0; 32], (1 << 62) - 1);
+        let _die = last.die(6);
+        assert!(rt; last.drawn() == 0);
+    }
+}

@@ -1,4 +1,4 @@
-use Rattle.std.proofs.Common.{◌≡◌, refl, Bool, true, false}
+use Rattle.std.proofs.Common.{◌≡◌, Bool, true, false}
 use Rattle.dice_parse.proofs.Exact.{found_dice, no_dice}
 use Rattle.dice_parse.proofs.texts.read_dice.Goals as goal
 

@@ -1,4 +1,4 @@
-use Rattle.std.proofs.Common.{◌≡◌, ◌^◌, ◌<◌, ◌≤◌, arith}
+use Rattle.std.proofs.Common.{◌≡◌, ◌≤◌, arith}
 use Rattle.seat_random.specs.Stream.{word_of, after}
 use Rattle.dice_roll.specs.Rolling.{words_used}
 use Rattle.dice_roll.proofs.RollingTerms.{rolled_ahead}
