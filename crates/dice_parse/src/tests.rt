@@ -13,7 +13,7 @@ fn places_where_texts_leave_the_grammar(rt: HostRuntime) {
         ("12d", 3),
         ("1234567890", 9),
         ("1+", 2),
-        ("D6", 0),
+        ("4D6", 1),
         ("1d6k2k1", 5),
         ("1d6k2r1", 5),
         ("1d6ee", 4),
