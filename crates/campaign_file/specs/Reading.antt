@@ -18,7 +18,7 @@ abbrev pub needed : {A : Type 0} → Rule → Option A → Result A BadCampaign
 needed rule None = broken rule
 needed rule (Some a) = Ok a
 
--- the JSON pointer of what lies at the path within the part at the token
+-- the JSON pointer (RFC 6901) of what lies at the path within the part at the token: no key of the format has a ~ or a /, which would be escaped
 abbrev pub pointer : List ℕ → List ℕ → List ℕ
 pointer token path = codes "/" ++ token ++ path
 

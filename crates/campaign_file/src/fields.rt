@@ -1,9 +1,10 @@
 //! The fields of an object. Each function reads the value at a key, and gives its first breach as one of
 //! the object.
-ghost use Rattle.std.specs.Prelude.{◌≡◌, ◌≤◌, map, IfOk};
+ghost use Rattle.std.specs.Prelude.{◌≡◌, ◌≤◌, [], map, Some, None, IfOk, IfErr};
+ghost use Rattle.serde_json.specs.Find.{get};
 ghost use Rattle.serde_json.specs.View.{view};
 ghost use Rattle.json_fields.specs.Objects.{Gives};
-ghost use Rattle.campaign_file.specs.Reading.{Fails, here, needed, field};
+ghost use Rattle.campaign_file.specs.Reading.{pointer, field, Fails, IsBreach};
 ghost use Rattle.campaign_file.specs.Kinds.{whole as whole_lem, text as text_lem, seed as seed_lem, only as only_lem, object as object_lem, empty_list as empty_list_lem, empty_object as empty_object_lem};
 
 use crate::faults::{FileFault, Rule, broken, broken_at};
@@ -16,7 +17,7 @@ pub(crate) fn check_object(alloc: Global, value: &Value) -> Result<(), FileFault
     ensures { Gives Fails (λ u. u) result (object_lem (view value.now)) }
 {
     match kinds::object(value) {
-        Ok(_) => Ok(()),
+        Ok(()) => Ok(()),
         Err(rule) => Err(broken(alloc, rule)),
     }
 }
@@ -31,6 +32,18 @@ pub(crate) fn check_only(alloc: Global, value: &Value, known: &[&str]) -> Result
     }
 }
 
+/// The value at the key, or the breach that the key is missing.
+pub(crate) fn needed<'v>(alloc: Global, value: &'v Value, key: &str) -> Result<&'v Value, FileFault>
+    ensures ok { IfOk result (λ found. get key.now (view value.now) ≡ Some (view found.now)) }
+    ensures err { IfErr result (λ fault. (get key.now (view value.now) ≡ None)
+        × IsBreach (record { path = pointer key.now []; rule = Rule.Missing }) fault) }
+{
+    match value.get(key) {
+        Some(found) => Ok(found),
+        None => Err(broken_at(alloc, key, Rule::Missing)),
+    }
+}
+
 /// A whole number from `least` to `most`.
 pub(crate) fn whole(
     alloc: Global,
@@ -42,9 +55,7 @@ pub(crate) fn whole(
     ensures value { Gives Fails (λ n. n) result (field key.now (whole_lem least most) (view value.now)) }
     ensures most { IfOk result (λ n. n ≤ most) }
 {
-    let Some(field) = value.get(key) else {
-        return Err(broken_at(alloc, key, Rule::Missing));
-    };
+    let field = needed(alloc, value, key)?;
     match kinds::whole(field, least, most) {
         Ok(number) => Ok(number),
         Err(rule) => Err(broken_at(alloc, key, rule)),
@@ -61,9 +72,7 @@ pub(crate) fn text<'v>(
 ) -> Result<&'v str, FileFault>
     ensures { Gives Fails (λ s. s.now) result (field key.now (text_lem least most) (view value.now)) }
 {
-    let Some(field) = value.get(key) else {
-        return Err(broken_at(alloc, key, Rule::Missing));
-    };
+    let field = needed(alloc, value, key)?;
     match kinds::text(field, least, most) {
         Ok(text) => Ok(text),
         Err(rule) => Err(broken_at(alloc, key, rule)),
@@ -74,9 +83,7 @@ pub(crate) fn text<'v>(
 pub(crate) fn seed(alloc: Global, value: &Value, key: &str) -> Result<[u8; 32], FileFault>
     ensures { Gives Fails (λ s. s) result (field key.now seed_lem (view value.now)) }
 {
-    let Some(field) = value.get(key) else {
-        return Err(broken_at(alloc, key, Rule::Missing));
-    };
+    let field = needed(alloc, value, key)?;
     match kinds::seed(field) {
         Ok(seed) => Ok(seed),
         Err(rule) => Err(broken_at(alloc, key, rule)),
@@ -87,9 +94,7 @@ pub(crate) fn seed(alloc: Global, value: &Value, key: &str) -> Result<[u8; 32], 
 pub(crate) fn empty_list(alloc: Global, value: &Value, key: &str) -> Result<(), FileFault>
     ensures { Gives Fails (λ u. u) result (field key.now empty_list_lem (view value.now)) }
 {
-    let Some(field) = value.get(key) else {
-        return Err(broken_at(alloc, key, Rule::Missing));
-    };
+    let field = needed(alloc, value, key)?;
     match kinds::empty_list(field) {
         Ok(()) => Ok(()),
         Err(rule) => Err(broken_at(alloc, key, rule)),
@@ -100,9 +105,7 @@ pub(crate) fn empty_list(alloc: Global, value: &Value, key: &str) -> Result<(), 
 pub(crate) fn empty_object(alloc: Global, value: &Value, key: &str) -> Result<(), FileFault>
     ensures { Gives Fails (λ u. u) result (field key.now empty_object_lem (view value.now)) }
 {
-    let Some(field) = value.get(key) else {
-        return Err(broken_at(alloc, key, Rule::Missing));
-    };
+    let field = needed(alloc, value, key)?;
     match kinds::empty_object(field) {
         Ok(()) => Ok(()),
         Err(rule) => Err(broken_at(alloc, key, rule)),

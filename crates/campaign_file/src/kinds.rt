@@ -1,6 +1,6 @@
 //! Kinds of value: each function gives what a value of its kind stands for, or the rule that the
 //! value breaks first. None takes memory.
-ghost use Rattle.std.specs.Prelude.{◌≡◌, ◌≤◌, ◌∷◌, [], map, option_map, length, IfOk};
+ghost use Rattle.std.specs.Prelude.{◌≡◌, ◌≤◌, map, length, IfOk};
 ghost use Rattle.std.specs.List.{list_all};
 ghost use Rattle.std.specs.Result.{result_ok};
 ghost use Rattle.hex.specs.Hex.{decode_sized};
@@ -18,30 +18,20 @@ pub(crate) fn whole(value: &Value, least: u64, most: u64) -> Result<u64, Rule>
     ensures value { here (λ n. n) result ≡ whole_lem least most (view value.now) }
     ensures most { IfOk result (λ n. n ≤ most) }
 {
-    let Some(number) = value.as_i64() else {
+    if value.as_i64().is_none() {
         return Err(Rule::Kind);
-    };
-    if number < 0 {
-        return Err(Rule::Range);
     }
-    let number = number as u64;
-    if number < least || number > most {
-        return Err(Rule::Range);
-    }
-    Ok(number)
+    json_fields::kinds::whole(value, least, most).ok_or(Rule::Range)
 }
 
 /// A text of `least` to `most` bytes.
 pub(crate) fn text(value: &Value, least: usize, most: usize) -> Result<&str, Rule>
     ensures { here (λ s. s.now) result ≡ text_lem least most (view value.now) }
 {
-    let Some(text) = value.as_str() else {
+    if !value.is_string() {
         return Err(Rule::Kind);
-    };
-    if text.len() < least || text.len() > most {
-        return Err(Rule::Range);
     }
-    Ok(text)
+    json_fields::kinds::text(value, least, most).ok_or(Rule::Range)
 }
 
 /// The items of a list of `least` to `most` items.

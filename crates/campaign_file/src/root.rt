@@ -5,7 +5,7 @@ ghost use Rattle.json_fields.specs.Objects.{Gives};
 ghost use Rattle.campaign_file.specs.Reading.{Fails, field};
 ghost use Rattle.campaign_file.specs.Campaign.{campaign as campaign_lem, campaign_of, seats as seats_lem, IsOpening};
 
-use crate::faults::{FileFault, Rule, broken, broken_at};
+use crate::faults::{FileFault, Rule, broken};
 use crate::fields::{self, check_object, check_only};
 use crate::seat::read_seats;
 use json_fields::{ReadFault, read_value};
@@ -16,9 +16,11 @@ use std::alloc::Global;
 /// The keys of the whole.
 const CAMPAIGN_KEYS: [&str; 6] = ["format", "lights", "sights", "maps", "seats", "tokens"];
 
-/// The books of the seats of a campaign text, fresh and each numbered by its place, or the first breach.
+/// The books of a campaign text's seats: 1 to 33 fresh ones, each numbered by its place. Seat 0 is the
+/// game master's.
 ///
-/// `Bad` comes exactly where the text is off the format, with the first breach.
+/// `Bad` comes exactly where the text is off the format, with the path and the rule of its first breach.
+/// `Memory` is want of memory.
 #[tactic(auto, unfolding(crate::specs::Campaign::campaign_of))]
 pub fn read_campaign(alloc: Global, text: &[u8]) -> Result<Vec<SeatBook>, FileFault>
     ensures exact { Gives Fails (λ books. books.items) result (campaign_of text.now) }
@@ -52,10 +54,7 @@ fn seats_field(alloc: Global, value: &Value) -> Result<Vec<SeatBook>, FileFault>
         (field (codes "seats") seats_lem (view value.now)) }
     ensures opening { IfOk result (λ books. IsOpening books.items) }
 {
-    let Some(seats) = value.get("seats") else {
-        return Err(broken_at(alloc, "seats", Rule::Missing));
-    };
-    match read_seats(alloc, seats) {
+    match read_seats(alloc, fields::needed(alloc, value, "seats")?) {
         Ok(books) => Ok(books),
         Err(fault) => Err(fault.under_key(alloc, "seats")),
     }
