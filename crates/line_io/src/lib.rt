@@ -9,7 +9,7 @@ pub use adapters::{ReaderSource, WriterSink};
 pub use desks::{Desk, DeskFault, FETCH_LIMIT};
 pub use faults::Failed;
 pub use files::FileDesk;
-pub use lines::{LineReader, NextLine};
+pub use lines::{CAP_LIMIT, LineReader, NextLine};
 pub use memory_desks::MemDesk;
 pub use memory_sinks::MemSink;
 pub use memory_sources::MemSource;

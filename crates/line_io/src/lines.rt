@@ -10,6 +10,9 @@ use names::{LineText, Memory};
 use std::alloc::Global;
 use std::marker::Model;
 
+/// The greatest `cap` of a reader of lines.
+pub const CAP_LIMIT: u32 = 8_192;
+
 const LF: u8 = b'\n';
 
 /// What a reader of lines answers.
@@ -54,10 +57,10 @@ impl LineReader {
     ghost use Rattle.line_io.specs.ReaderState.{ReaderState};
     ghost use Rattle.line_io.specs.LineTaken.{GivesLine};
 
-    /// A reader of lines of at most `cap` bytes.
+    /// A reader of lines of at most `cap` bytes, which is 1 to `CAP_LIMIT`.
     pub fn new(alloc: Global, cap: u32) -> Result<LineReader, Memory>
         requires some { 1 ≤ cap }
-        requires few { cap ≤ 8192 }
+        requires few { cap ≤ CAP_LIMIT }
         ensures { IfOk result (λ reader. reader ≡ record { cap = cap; pending = []; ended = false }) }
     {
         match vec![in alloc; 0; cap as usize + 1] {

@@ -1,13 +1,12 @@
-use Rattle.std.proofs.Common.{◌≡◌, ℕ, ◌*◌, ◌≤◌, Bool, not, refl}
+use Rattle.std.proofs.Common.{ℕ, ◌*◌, not, refl}
 use Rattle.std.specs.Bool.{Decides}
-use Rattle.std.specs.List.{list_all, All}
+use Rattle.std.specs.List.{list_all}
 use Rattle.std.proofs.lemmas.Bool.Decides.{Decides-and, Decides-or, Decides-not, Decides-by_and}
 use Rattle.lattice.specs.Coordinates.{Coordinates, centre_of}
 use Rattle.lattice.specs.Segments.{SegmentsMeet}
 use Rattle.lattice.specs.Turning.{meet_test}
 use Rattle.lattice.proofs.CoordinatesLemmas.{within_test_tells}
 use Rattle.lattice.proofs.TestLemmas.{meet_test_tells}
-use Rattle.cells.specs.Cells.{Extent, has, cells_where}
 use Rattle.cells.proofs.SetLaws.{has-cells_where}
 use Rattle.topology.specs.declared.wall.Wall.{Wall}
 use Rattle.topology.specs.WallLists.{WallLists}

@@ -1,11 +1,11 @@
-use Rattle.std.specs.Prelude.{ℕ, ◌≡◌, ◌≤◌, ◌*◌, Bool, true, not, nat_le, ◌&&◌, ◌||◌, if◌then◌else◌, List, length, All, AllPairs, IsTrue, Option, Some, None, insert}
+use Rattle.std.specs.Prelude.{ℕ, ◌≤◌, ◌*◌, Bool, not, nat_le, ◌&&◌, List, length, All, AllPairs, IsTrue, insert}
 use Rattle.std.specs.List.{list_any, position_or_len}
 use Rattle.names.specs.declared.kinds.WallKind.{WallKind}
 use Rattle.names.specs.declared.kinds.WallKind.TheVariants.{Vbl, Mbl}
 use Rattle.lattice.specs.Coordinates.{Coordinates}
 use Rattle.cells.specs.Cells.{Extent}
 use Rattle.topology.specs.declared.wall.Wall.{Wall}
-use Rattle.topology.specs.Order.{point_eq, point_before, wall_eq, wall_before, wall_between}
+use Rattle.topology.specs.Order.{point_before, wall_eq, wall_before}
 
 -- the walls of a map of that size: those that block sight, and those that block movement
 pub record WallLists : Type 0 where

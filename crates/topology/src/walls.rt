@@ -9,22 +9,28 @@ use lattice::Point;
 use names::{Memory, WallKind};
 use std::alloc::Global;
 use std::marker::Model;
+use thiserror::Error;
 
 /// How many walls of each kind a map has at most.
 pub const MOST_WALLS: usize = 2048;
 
 /// Why a wall isn't added. The checks are made in this order.
-#[derive(Clone, Copy, Debug, PartialEq, Eq)]
+#[derive(Clone, Copy, Debug, PartialEq, Eq, Error)]
 pub enum WallFault {
     /// An end isn't on the map.
+    #[error("an end of the wall is not on the map")]
     OffMap,
     /// The ends are the same point.
+    #[error("the ends of the wall are the same point")]
     DegenerateWall,
     /// The map has the wall, of that kind.
+    #[error("the wall is there")]
     WallThere,
     /// The map has 2,048 walls of that kind.
+    #[error("the map has as many walls of that kind as it may have")]
     WallLimit,
     /// Want of memory.
+    #[error("want of memory")]
     Memory,
 }
 

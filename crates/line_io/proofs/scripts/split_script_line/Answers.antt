@@ -1,6 +1,6 @@
 use Rattle.std.proofs.Common.{arith, ◌≡◌, ◌∙◌, sym, ap, ◌+◌, take, drop, length}
 use Rattle.std.proofs.lemmas.List.{take_rest}
-use Rattle.line_io.proofs.ScriptLemmas.{parts_some, parts_long, parts_no_seat, parts_no_space}
+use Rattle.line_io.proofs.ScriptLemmas.{parts_some, parts_no_seat, parts_no_space}
 use Rattle.line_io.proofs.scripts.split_script_line.Goals as goal
 
 pub returns-in_err-at : goal.returns-in_err-at

@@ -1,5 +1,5 @@
-use Rattle.std.proofs.Common.{◌≡◌, ℕ, ◌≤◌, ◌∙◌, sym, ap, arith}
-use Rattle.cells.specs.Cells.{Extent, Cells, cells_where}
+use Rattle.std.proofs.Common.{◌≡◌, ◌∙◌, sym, ap, arith}
+use Rattle.cells.specs.Cells.{Extent, cells_where}
 use Rattle.cells.specs.Scan.{scanned}
 use Rattle.cells.proofs.ScanLemmas.{scanned_row, scanned_all, scanned_past, scanned_more}
 use Rattle.topology.specs.Sight.{field_test}

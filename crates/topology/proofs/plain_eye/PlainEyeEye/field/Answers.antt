@@ -1,4 +1,3 @@
-use Rattle.std.proofs.Common.{◌≡◌}
 use Rattle.topology.proofs.SightLemmas.{IsField-field_of}
 use Rattle.topology.proofs.plain_eye.PlainEyeEye.field.Goals as goal
 

@@ -1,4 +1,3 @@
-use Rattle.std.proofs.Common.{◌≡◌}
 use Rattle.std.specs.Prelude.{is_ok}
 use Rattle.names.specs.declared.kinds.WallKind.TheVariants.{Vbl, Mbl}
 use Rattle.topology.specs.contracts.walls.Walls.{the_view}

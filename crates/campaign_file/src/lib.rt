@@ -1,0 +1,22 @@
+//! The campaign text: one JSON text with the whole opening state of a campaign.
+//!
+//! Any JSON spelling that `serde_json` reads is taken. All keys of an object are required, and no
+//! others are allowed. The fields of an object are read in a fixed order, each whole before the next,
+//! and the first breach is the answer, with its path (a JSON pointer, RFC 6901) and its rule. All else
+//! of the format is this project's own.
+//!
+//! Seats are read for now. Lights, sights, maps, tokens, and each seat's tags, macros and fog have to
+//! be empty.
+#![tactic(auto)]
+
+mod faults;
+mod fields;
+mod kinds;
+mod root;
+mod seat;
+
+pub use faults::{BadCampaign, FileFault, Rule};
+pub use root::read_campaign;
+
+#[cfg(test)]
+mod tests;

@@ -1,0 +1,62 @@
+//! What dice are made of.
+
+ghost use Rattle.std.specs.Prelude.{◌↔◌, IsTrue};
+ghost use Rattle.dice_parse.specs.Grammar.{PartFits, IsWithin};
+
+/// Which shown values of a group count.
+#[derive(Clone, Copy, Debug, PartialEq, Eq)]
+pub enum Tail {
+    /// `k`: the sum of the greatest.
+    Keep,
+    /// `d`: the sum without the least.
+    Lose,
+    /// `s`: how many are at least a number.
+    Succeed,
+}
+
+/// Dice that are rolled together.
+#[derive(Clone, Copy, Debug, PartialEq, Eq)]
+pub struct Group {
+    /// How many dice.
+    pub count: u32,
+    /// How many sides each has.
+    pub sides: u32,
+    /// `e`: a die that shows its greatest value is rolled further.
+    pub explode: bool,
+    /// `r`: a die that shows at most this is rolled once again.
+    pub again: Option<u32>,
+    pub tail: Option<(Tail, u32)>,
+}
+
+/// Dice or a number.
+#[derive(Clone, Copy, Debug, PartialEq, Eq)]
+pub enum Part {
+    Group(Group),
+    Number(u32),
+}
+
+/// A part that is added, or taken away.
+#[derive(Clone, Copy, Debug, PartialEq, Eq)]
+pub struct Term {
+    pub minus: bool,
+    pub part: Part,
+}
+
+/// Whether a term is within the limits.
+fn fits(term: &Term) -> bool
+    ensures { IsTrue result ↔ PartFits term.now.part }
+{
+    match term.part {
+        Part::Group(group) => {
+            1 <= group.count && group.count <= 100 && 1 <= group.sides && group.sides <= 1000
+        }
+        Part::Number(_) => true,
+    }
+}
+
+/// Whether all terms are within the limits, and neither none nor too many.
+pub(crate) fn within(terms: &[Term]) -> bool
+    ensures { IsTrue result ↔ IsWithin terms.now }
+{
+    !terms.is_empty() && terms.len() <= 16 && terms.iter().all(fits)
+}

@@ -1,0 +1,4 @@
+pub mod Prefixes
+pub mod Places
+pub mod SeatChanges
+pub mod RuledSteps

@@ -1,0 +1,5 @@
+pub mod Pass
+pub mod SeatView
+pub mod Seat
+pub mod Order
+pub mod Steps
