@@ -2,7 +2,8 @@
 use Rattle.std.proofs.Common.{◌≡◌, ℕ, zero, suc, ◌+◌, ◌<◌, eqb, List, [], ◌∷◌, length, map, drop, Some, None, refl, sym, ◌∙◌, ap, arith, zero-add}
 use Rattle.std.specs.Prelude.{Option, option_map, slice_get}
 use Rattle.std.specs.List.{AllByRecursion}
-use Rattle.seats.specs.Book.{Book, IsFresh}
+use Rattle.seats.specs.Book.{Book}
+use Rattle.campaign_file.specs.Campaign.{AreFreshFrom, IsOpening as IsOpeningList}
 use Rattle.campaign_core.specs.declared.entry.Entry.{Entry}
 use Rattle.campaign_core.specs.Views.{Scene, bare, no_view, view_of}
 use Rattle.campaign_core.specs.Seat.{Seat, fresh_seat, IsFreshSeat}
@@ -10,6 +11,7 @@ use Rattle.campaign_core.specs.Outcome.{Outcome, seat_of}
 use Rattle.campaign_core.specs.World.{World, seat_at, outcome_of, scene_after, seat_after, mapped_from, step, replay}
 use Rattle.campaign_core.specs.Session.{session}
 use Rattle.campaign_core.specs.State.{Post, State, opening_post, opening_state, world_in, post_by, post_after, state_after, post_of, state_of}
+use Rattle.campaign_core.specs.Opening.{opening_world}
 use Rattle.campaign_core.specs.Law.{IsOpening}
 use Rattle.campaign_core.proofs.Lists.{length-mapped_from, slice_get-mapped_from}
 
@@ -62,13 +64,16 @@ opening_posts (b ∷ books) k w = ap (λ posts. opening_post b ∷ posts) (openi
 pub opened : (books : List Book) → opening_state books ≡ state_of (world_in (opening_state books)) []
 opened books = ap (λ posts. record { posts = posts; scene = bare }) (sym (opening_posts books 0 (world_in (opening_state books))))
 
-pub opening_seats : (books : List Book) → (world_in (opening_state books)).seats ≡ map fresh_seat books
-opening_seats [] = refl
-opening_seats (b ∷ books) = ap (λ seats. fresh_seat b ∷ seats) (opening_seats books)
+posts_seats : (books : List Book) → map (λ post. post.seat) (map opening_post books) ≡ map fresh_seat books
+posts_seats [] = refl
+posts_seats (b ∷ books) = ap (λ seats. fresh_seat b ∷ seats) (posts_seats books)
 
-fresh_seats : (books : List Book) → AllByRecursion IsFresh books → AllByRecursion IsFreshSeat (map (λ post. post.seat) (map opening_post books))
-fresh_seats [] f = f
-fresh_seats (b ∷ books) f = (record { book = f.0; queued = refl; taken = refl }, fresh_seats books f.1)
+pub opening_world_in : (books : List Book) → world_in (opening_state books) ≡ opening_world books
+opening_world_in books = ap (λ seats. record { seats = seats; scene = bare }) (posts_seats books)
 
-pub opening_is : (books : List Book) → AllByRecursion IsFresh books → IsOpening (world_in (opening_state books))
-opening_is books f = fresh_seats books f
+fresh_seats : (place : ℕ) (books : List Book) → AreFreshFrom place books → AllByRecursion IsFreshSeat (map (λ post. post.seat) (map opening_post books))
+fresh_seats place [] f = tt
+fresh_seats place (b ∷ books) f = (record { book = f.0.fresh; queued = refl; taken = refl }, fresh_seats (place + 1) books f.1)
+
+pub opening_is : (books : List Book) → IsOpeningList books → IsOpening (world_in (opening_state books))
+opening_is books f = fresh_seats 0 books f.fresh

@@ -3,6 +3,7 @@ use Rattle.std.specs.Prelude.{◌≡◌, ℕ, Bool, List, [], ◌∷◌, Option,
 use Rattle.std.specs.Str.{bytes_eq}
 use Rattle.serde_json.specs.Data.{Data}
 use Rattle.serde_json.specs.Find.{get, as_str}
+use Rattle.json_fields.specs.Objects.{◌>>=◌, needed, unless_unknown}
 use Rattle.json_fields.specs.Values.{value_of}
 use Rattle.json_fields.specs.Fields.{whole_in, text_in, unknown_in}
 use Rattle.campaign_core.specs.declared.command.Command.{Command}
@@ -10,44 +11,26 @@ use Rattle.campaign_core.specs.declared.command.Command.TheVariants.{Hello, Bye,
 use Rattle.campaign_core.specs.declared.command.LineFault.{LineFault}
 use Rattle.campaign_core.specs.declared.command.LineFault.TheVariants.{BadJson, BadCommand, BadField, Memory}
 
-infixl 10 ◌>>=◌
-abbrev pub ◌>>=◌ : {A B : Type 0} → Result A LineFault → (A → Result B LineFault) → Result B LineFault
-(Ok x) >>= f = f x
-(Err e) >>= f = Err e
-
--- what a function answered is what reading gives, unless memory ran out
+-- reading gives the fault, unless memory ran out
 abbrev pub Fails : {Y : Type 0} → LineFault → Result Y LineFault → Type 0
 Fails BadJson r = r ≡ Err BadJson
 Fails BadCommand r = r ≡ Err BadCommand
 Fails (BadField name) r = r ≡ Err (BadField name)
 Fails Memory r = Unit {0}
 
-abbrev pub Gives : {X Y : Type 0} → (X → Y) → Result X LineFault → Result Y LineFault → Type 0
-Gives view (Ok x) r = r ≡ Ok (view x)
-Gives view (Err e) r = Fails e r
-
--- a field, or the fault that names it
-abbrev pub needed : {A : Type 0} → List ℕ → Option A → Result A LineFault
-needed key None = Err (BadField key)
-needed key (Some a) = Ok a
-
-abbrev pub unless_unknown : {A : Type 0} → A → Option (List ℕ) → Result A LineFault
-unless_unknown a None = Ok a
-unless_unknown a (Some key) = Err (BadField key)
-
 unfoldable pub hello_in : Data → Result Command LineFault
 hello_in d = do
-  seat ← needed (codes "seat") (whole_in (codes "seat") 0 32 d)
-  key ← needed (codes "key") (text_in (codes "key") 1 64 d)
-  unless_unknown (Hello seat key) (unknown_in (codes "do" ∷ codes "seat" ∷ codes "key" ∷ []) d)
+  seat ← needed BadField (codes "seat") (whole_in (codes "seat") 0 32 d)
+  key ← needed BadField (codes "key") (text_in (codes "key") 1 64 d)
+  unless_unknown BadField (unknown_in (codes "do" ∷ codes "seat" ∷ codes "key" ∷ []) d) (Hello seat key)
 
 unfoldable pub say_in : Data → Result Command LineFault
 say_in d = do
-  text ← needed (codes "text") (text_in (codes "text") 1 1000 d)
-  unless_unknown (Say text) (unknown_in (codes "do" ∷ codes "text" ∷ []) d)
+  text ← needed BadField (codes "text") (text_in (codes "text") 1 1000 d)
+  unless_unknown BadField (unknown_in (codes "do" ∷ codes "text" ∷ []) d) (Say text)
 
 unfoldable pub bye_in : Data → Result Command LineFault
-bye_in d = unless_unknown Bye (unknown_in (codes "do" ∷ []) d)
+bye_in d = unless_unknown BadField (unknown_in (codes "do" ∷ []) d) Bye
 
 abbrev pub named : List ℕ → Data → Result Command LineFault
 named name d =

@@ -8,4 +8,5 @@ pub mod World
 pub mod Session
 pub mod State
 pub mod Player
+pub mod Opening
 pub mod Law

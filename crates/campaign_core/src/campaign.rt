@@ -1,17 +1,17 @@
 //! A campaign as its callers see it: the world that it opened with, and its history.
 ghost use Rattle.std.specs.Prelude.{◌≡◌, ◌<◌, ◌≤◌, ◌++◌, ◌∷◌, [], ℕ, length, Some, IfOk, OnOk, IfErr, OnErr, map, drop, option_map, is_some, true};
-ghost use Rattle.std.specs.List.{AllByRecursion};
-ghost use Rattle.seats.specs.Book.{IsFresh};
-ghost use Rattle.campaign_core.specs.Seat.{fresh_seat};
-ghost use Rattle.campaign_core.specs.World.{World, seat_at};
+ghost use Rattle.campaign_file.specs.Campaign.{IsOpening as IsOpeningList};
+ghost use Rattle.campaign_core.specs.Opening.{opening_world, world_of_text, IsOpenFault, IsBadForm};
+ghost use Rattle.campaign_core.specs.World.{seat_at};
 ghost use Rattle.campaign_core.specs.Session.{session, waiting};
-ghost use Rattle.campaign_core.specs.Law.{Course, IsOpening, IsSentAsMachine, ChangesLittle, world_of, answer_of as answer_of_lem, answer_after};
+ghost use Rattle.campaign_core.specs.Law.{IsOpening, IsSentAsMachine, ChangesLittle, world_of, answer_of as answer_of_lem, answer_after};
 
 use crate::command::Refusal;
 use crate::entry::Entry;
 use crate::outcome::{Outcome, decide, steps_of};
 use crate::state::{Post, State};
-use names::{LineText, Memory, SeatNo};
+use campaign_file::{BadCampaign, FileFault, Rule, read_campaign};
+use names::{LineText, Memory, SeatNo, Text};
 use seats::{SeatBook, SeatState};
 use std::alloc::Global;
 use std::marker::Model;
@@ -49,6 +49,27 @@ impl Model for Campaign {
     ghost invariant = { λ c. (c.state ≡ state_of (world_in c.origin) c.history.items) × IsOpening (world_in c.origin) };
 }
 
+/// Why no campaign opens.
+#[derive(Drop)]
+pub enum OpenFault {
+    /// The text is off the format.
+    Bad(BadCampaign),
+    /// Want of memory.
+    Memory,
+}
+
+fn bad_form(alloc: Global) -> OpenFault
+    ensures { IsBadForm result }
+{
+    match Text::copy(alloc, "") {
+        Ok(path) => OpenFault::Bad(BadCampaign {
+            path,
+            rule: Rule::Form,
+        }),
+        Err(_) => OpenFault::Memory,
+    }
+}
+
 fn told(steps: u32, outcome: Outcome) -> Answer
     ensures { result ≡ answer_of_lem steps outcome }
 {
@@ -60,11 +81,29 @@ fn told(steps: u32, outcome: Outcome) -> Answer
 }
 
 impl Campaign {
+    /// The campaign of a text: its world, and no entry. `Bad` exactly where the text is off the format
+    /// (`docs/CAMPAIGN.md`), with an empty path and the rule `Form` until the whole format is read.
+    pub fn open(alloc: Global, text: &[u8]) -> Result<Campaign, OpenFault>
+        ensures world { IfOk result (λ c. world_of_text text.now ≡ Some c.origin) }
+        ensures opening { IfOk result (λ c. IsOpening c.origin) }
+        ensures history { IfOk result (λ c. c.history ≡ []) }
+        ensures seats { IfOk result (λ c. (1 ≤ length c.origin.seats) × (length c.origin.seats ≤ 33)) }
+        ensures bad { IfErr result (IsOpenFault text.now) }
+    {
+        match read_campaign(alloc, text) {
+            Ok(books) => match Campaign::with_seats(alloc, books) {
+                Ok(campaign) => Ok(campaign),
+                Err(_) => Err(OpenFault::Memory),
+            },
+            Err(FileFault::Bad(_)) => Err(bad_form(alloc)),
+            Err(FileFault::Memory) => Err(OpenFault::Memory),
+        }
+    }
+
     /// A campaign of these seats, each of which is Free.
-    pub fn with_seats(alloc: Global, books: Vec<SeatBook>) -> Result<Campaign, Memory>
-        requires few { length books.items ≤ 33 }
-        requires fresh { AllByRecursion IsFresh books.items }
-        ensures seats { IfOk result (λ c. c.origin.seats ≡ map fresh_seat books.items) }
+    fn with_seats(alloc: Global, books: Vec<SeatBook>) -> Result<Campaign, Memory>
+        requires { IsOpeningList books.items }
+        ensures world { IfOk result (λ c. c.origin ≡ opening_world books.items) }
         ensures opening { IfOk result (λ c. IsOpening c.origin) }
         ensures history { IfOk result (λ c. c.history ≡ []) }
     {

@@ -11,7 +11,7 @@ mod read;
 mod state;
 mod texts;
 
-pub use campaign::{Answer, Campaign};
+pub use campaign::{Answer, Campaign, OpenFault};
 pub use command::{Command, LineFault, Refusal};
 pub use entry::Entry;
 pub use read::read_line;

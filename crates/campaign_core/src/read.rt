@@ -1,7 +1,8 @@
 //! From a line to its command.
 ghost use Rattle.std.specs.Prelude.{◌≡◌, ℕ, None};
 ghost use Rattle.serde_json.specs.View.{view};
-ghost use Rattle.campaign_core.specs.Commands.{Gives, Fails, needed, hello_in, say_in, bye_in, command_in, command_of};
+ghost use Rattle.json_fields.specs.Objects.{Gives, needed};
+ghost use Rattle.campaign_core.specs.Commands.{Fails, hello_in, say_in, bye_in, command_in, command_of};
 
 use crate::command::{Command, LineFault};
 use json_fields::fields::{text, unknown_key, whole_u8};
@@ -11,7 +12,7 @@ use serde_json::Value;
 use std::alloc::Global;
 
 fn bad_field(alloc: Global, name: &str) -> LineFault
-    ensures { Fails result (needed {A = ℕ} name.now None) }
+    ensures { Fails result (needed {A = ℕ} LineFault.BadField name.now None) }
 {
     match Text::copy(alloc, name) {
         Ok(name) => LineFault::BadField { name },
@@ -21,7 +22,7 @@ fn bad_field(alloc: Global, name: &str) -> LineFault
 
 #[tactic(auto, unfolding(crate::specs::Commands::bye_in))]
 fn bye_of(alloc: Global, value: &Value) -> Result<Command, LineFault>
-    ensures { Gives (λ c. c) result (bye_in (view value.now)) }
+    ensures { Gives Fails (λ c. c) result (bye_in (view value.now)) }
 {
     match unknown_key(value, &["do"]) {
         Some(key) => Err(bad_field(alloc, key)),
@@ -31,7 +32,7 @@ fn bye_of(alloc: Global, value: &Value) -> Result<Command, LineFault>
 
 #[tactic(auto, unfolding(crate::specs::Commands::hello_in))]
 fn hello_of(alloc: Global, value: &Value) -> Result<Command, LineFault>
-    ensures { Gives (λ c. c) result (hello_in (view value.now)) }
+    ensures { Gives Fails (λ c. c) result (hello_in (view value.now)) }
 {
     let Some(seat) = whole_u8(value, "seat", 0, 32).and_then(SeatNo::new) else {
         return Err(bad_field(alloc, "seat"));
@@ -50,7 +51,7 @@ fn hello_of(alloc: Global, value: &Value) -> Result<Command, LineFault>
 
 #[tactic(auto, unfolding(crate::specs::Commands::say_in))]
 fn say_of(alloc: Global, value: &Value) -> Result<Command, LineFault>
-    ensures { Gives (λ c. c) result (say_in (view value.now)) }
+    ensures { Gives Fails (λ c. c) result (say_in (view value.now)) }
 {
     let Some(text) = text(value, "text", 1, 1000) else {
         return Err(bad_field(alloc, "text"));
@@ -66,7 +67,7 @@ fn say_of(alloc: Global, value: &Value) -> Result<Command, LineFault>
 
 #[tactic(auto, unfolding(crate::specs::Commands::command_in))]
 fn command_of_value(alloc: Global, value: &Value) -> Result<Command, LineFault>
-    ensures { Gives (λ c. c) result (command_in (view value.now)) }
+    ensures { Gives Fails (λ c. c) result (command_in (view value.now)) }
 {
     match value.get("do").and_then(Value::as_str) {
         Some("hello") => hello_of(alloc, value),
@@ -81,7 +82,7 @@ fn command_of_value(alloc: Global, value: &Value) -> Result<Command, LineFault>
 /// command's fields in their order, then keys that it doesn't know.
 #[tactic(auto, unfolding(crate::specs::Commands::command_of))]
 pub fn read_line(alloc: Global, line: &[u8], gm: bool) -> Result<Command, LineFault>
-    ensures { Gives (λ c. c) result (command_of line.now gm) }
+    ensures { Gives Fails (λ c. c) result (command_of line.now gm) }
 {
     match read_value(alloc, line) {
         Ok(value) => command_of_value(alloc, &value),
