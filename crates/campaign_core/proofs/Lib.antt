@@ -1,10 +1,10 @@
-mod Lists
-mod Seats
-mod Views
-mod Runs
-mod Outcomes
-mod Simulation
-mod Sessions
-mod States
-mod OneLines
-mod Refused
+pub mod Lists
+pub mod Seats
+pub mod Views
+pub mod Runs
+pub mod Outcomes
+pub mod Simulation
+pub mod Sessions
+pub mod States
+pub mod OneLines
+pub mod Refused

@@ -81,6 +81,7 @@ waiting_stays n s h k = by_free (is_free s.book.state) refl
   where
     more : (is_closing s.book.state && eqb s.taken (s.queued + n)) ≡ false
     more = and_false (is_closing s.book.state) (eqb s.taken (s.queued + n)) (grind (arith, nat_tests))
+
     by_free : (f : Bool) → is_free s.book.state ≡ f → Stays n s
     by_free true e = inl e
     by_free false e = inr (λ i. e i || more i)

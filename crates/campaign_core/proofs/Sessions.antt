@@ -44,9 +44,9 @@ let_go_false_free c t h = left (is_free c.book.state) t h
 -- ---- one entry
 
 -- a seat c that is let go or grows by the lines qs, after it had the lines ls, of which s.taken were taken
-record Goes (s c : Seat) (ls qs : List (List ℕ)) (after : Seat) : Type 0 where
-  kept : IsKept (unless_free (ls ++ qs) (Some after)) after
-  mail : mail_after s after qs (drop s.taken ls) ≡ drop after.taken (unless_free (ls ++ qs) (Some after))
+pub record Goes (s c : Seat) (ls qs : List (List ℕ)) (after : Seat) : Type 0 where
+  pub kept : IsKept (unless_free (ls ++ qs) (Some after)) after
+  pub mail : mail_after s after qs (drop s.taken ls) ≡ drop after.taken (unless_free (ls ++ qs) (Some after))
 
 goes : (s c : Seat) (ls qs : List (List ℕ)) (t : Bool) → is_let_go (grown (length qs) c) ≡ t → s.taken ≤ c.taken → c.taken ≤ c.queued → c.queued ≡ length ls → IsSound (settled (length qs) c) → Goes s c ls qs (cond t (freed_seat (grown (length qs) c)) (grown (length qs) c))
 goes s c ls qs true e below within count sound =
@@ -69,7 +69,7 @@ goes s c ls qs false e below within count sound =
           ∙ ap (drop c.taken) (sym there);
     }
 
-goes_after : (w : World) (e : Entry) (p : ℕ) (s : Seat) (ls : List (List ℕ)) → IsKept ls s → Goes s (changed (outcome_of w e) (eqb (seat_of e) p) s) ls (queued_lines p (eqb (seat_of e) p) (Some s) (outcome_of w e) (view_of w.scene p) (view_of (scene_after w e) p)) (seat_after w e p s)
+pub goes_after : (w : World) (e : Entry) (p : ℕ) (s : Seat) (ls : List (List ℕ)) → IsKept ls s → Goes s (changed (outcome_of w e) (eqb (seat_of e) p) s) ls (queued_lines p (eqb (seat_of e) p) (Some s) (outcome_of w e) (view_of w.scene p) (view_of (scene_after w e) p)) (seat_after w e p s)
 goes_after w e p s ls k =
     let acts : Bool = eqb (seat_of e) p in
     let o : Outcome = outcome_of w e in
@@ -110,7 +110,7 @@ pub replay_more : (w : World) (h : List Entry) (e : Entry) → replay w (h ++ e 
 replay_more w [] e = refl
 replay_more w (x ∷ h) e = replay_more (step w x) h e
 
-session_more : (w : World) (ls : List (List ℕ)) (h : List Entry) (e : Entry) (p : ℕ) → session_from ls w (h ++ e ∷ []) p ≡ session_after (replay w h) (session_from ls w h p) e p
+pub session_more : (w : World) (ls : List (List ℕ)) (h : List Entry) (e : Entry) (p : ℕ) → session_from ls w (h ++ e ∷ []) p ≡ session_after (replay w h) (session_from ls w h p) e p
 session_more w ls [] e p = refl
 session_more w ls (x ∷ h) e p = session_more (step w x) (session_after w ls x p) h e p
 
@@ -128,8 +128,8 @@ post_more w h e p s fresh is =
     let qs : List (List ℕ) = queued_lines p (eqb (seat_of e) p) (Some s) (outcome_of now e) (view_of now.scene p) (view_of (scene_after now e) p) in
     let after : Seat = seat_after now e p s in
     let same : unless_free (session w h p ++ qs) (Some after) ≡ session w (h ++ e ∷ []) p =
-        ap₂ (λ b a. unless_free (session w h p ++ queued_lines p (eqb (seat_of e) p) b (outcome_of now e) (view_of now.scene p) (view_of (scene_after now e) p)) a) (sym is) (sym (seat_at-after now e p ∙ ap (option_map (seat_after now e p)) is))
-        ∙ sym (session_more w [] h e p) in
+    ap₂ (λ b a. unless_free (session w h p ++ queued_lines p (eqb (seat_of e) p) b (outcome_of now e) (view_of now.scene p) (view_of (scene_after now e) p)) a) (sym is) (sym (seat_at-after now e p ∙ ap (option_map (seat_after now e p)) is))
+    ∙ sym (session_more w [] h e p) in
     ap (λ m. record { seat = after; mail = m }) (x.mail ∙ ap (drop after.taken) same)
 
 pub state_of-more : (w : World) (h : List Entry) (e : Entry) → IsOpening w → state_after (state_of w h) e ≡ state_of w (h ++ e ∷ [])
@@ -137,10 +137,10 @@ state_of-more w h e fresh =
     let now : World = replay w h in
     ap (λ world. record { posts = mapped_from (post_after world e) 0 (mapped_from (post_of w h) 0 now.seats); scene = scene_after world e }) (world_in-state_of w h)
     ∙ ap (λ posts. record { posts = posts; scene = scene_after now e })
-        (mapped_from-mapped_from (post_of w h) (post_after now e) 0 now.seats
-        ∙ mapped_from-same (λ p s. post_after now e p (post_of w h p s)) (λ p s. post_of w (h ++ e ∷ []) p (seat_after now e p s)) 0 now.seats
-            (λ i s is. subst (λ p. seat_at now p ≡ Some s → post_after now e p (post_of w h p s) ≡ post_of w (h ++ e ∷ []) p (seat_after now e p s)) (sym (zero-add i)) (λ is. post_more w h e i s fresh is) (ap (slice_get now.seats) (zero-add i) ∙ is))
-        ∙ sym (mapped_from-mapped_from (seat_after now e) (post_of w (h ++ e ∷ [])) 0 now.seats))
+    (mapped_from-mapped_from (post_of w h) (post_after now e) 0 now.seats
+    ∙ mapped_from-same (λ p s. post_after now e p (post_of w h p s)) (λ p s. post_of w (h ++ e ∷ []) p (seat_after now e p s)) 0 now.seats
+    (λ i s is. subst (λ p. seat_at now p ≡ Some s → post_after now e p (post_of w h p s) ≡ post_of w (h ++ e ∷ []) p (seat_after now e p s)) (sym (zero-add i)) (λ is. post_more w h e i s fresh is) (ap (slice_get now.seats) (zero-add i) ∙ is))
+    ∙ sym (mapped_from-mapped_from (seat_after now e) (post_of w (h ++ e ∷ [])) 0 now.seats))
     ∙ ap (λ world. record { posts = mapped_from (post_of w (h ++ e ∷ [])) 0 world.seats; scene = world.scene }) (sym (replay_more w h e))
 
 -- what waits of a session from a number on

@@ -144,9 +144,11 @@ impl Campaign {
         Ok(told(steps, outcome))
     }
 
-    /// How many seats there are.
+    /// How many seats there are: 1 to 33.
     pub fn seat_count(&self) -> u8
-        ensures { result ≡ length self.now.origin.seats }
+        ensures value { result ≡ length self.now.origin.seats }
+        ensures bound { result ≤ 33 }
+        ensures opening { IsOpening self.now.origin }
     {
         self.origin.seats()
     }

@@ -11,7 +11,13 @@ pub enum Entry {
         writer: u64,
     },
     /// A line of the seat, without its LF.
-    Line { seat: SeatNo, bytes: LineText },
+    Line {
+        seat: SeatNo,
+        bytes: LineText,
+    },
     /// The first `count` lines of the seat's session were taken and no longer wait.
-    Taken { seat: SeatNo, count: u64 },
+    Taken {
+        seat: SeatNo,
+        count: u64,
+    },
 }

@@ -9,6 +9,8 @@ mod entry;
 mod outcome;
 mod read;
 mod state;
+#[cfg(test)]
+mod tests;
 mod texts;
 
 pub use campaign::{Answer, Campaign, OpenFault};

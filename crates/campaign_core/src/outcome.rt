@@ -78,11 +78,11 @@ fn refused_line(alloc: Global, book: &SeatBook, refusal: Refusal) -> Result<Outc
     ensures { IfOk result (λ o. o ≡ refused_line_lem book.now refusal) }
 {
     let reply = refusal_line(alloc, book.lines() + 1, &refusal)?;
-    let mut after = book.copy()?;
-    after.count_line();
+    let mut counted = book.copy()?;
+    counted.count_line();
     let mut outcome = nothing(alloc);
     outcome.refusal = Some(refusal);
-    outcome.book = Some(after);
+    outcome.book = Some(counted);
     outcome.reply = Some(reply);
     Ok(outcome)
 }
@@ -101,7 +101,11 @@ fn refusal_of_join(refusal: JoinRefusal) -> Refusal
 fn count_if_joined(book: &SeatBook) -> u32
     ensures { result ≡ count_if_joined_lem book.now }
 {
-    if book.state().is_joined() { book.lines() } else { 0 }
+    if book.state().is_joined() {
+        book.lines()
+    } else {
+        0
+    }
 }
 
 #[tactic(auto, unfolding(crate::specs::World::asked_of))]
@@ -188,12 +192,7 @@ fn is_look(command: &Command) -> bool
     }
 }
 
-fn accepted(
-    alloc: Global,
-    steps: u32,
-    book: &SeatBook,
-    command: Command,
-) -> Result<Outcome, Memory>
+fn accepted(alloc: Global, steps: u32, book: &SeatBook, command: Command) -> Result<Outcome, Memory>
     requires { book.now.lines < 16384 }
     ensures { IfOk result (λ o. o ≡ accepted_lem steps book.now command) }
 {

@@ -3,7 +3,6 @@ ghost use Rattle.std.specs.Prelude.{◌≡◌, ◌≤◌, ◌==◌, ◌+◌, ◌
 ghost use Rattle.seats.specs.SeatState.{is_free as is_free_lem, is_closing as is_closing_lem};
 ghost use Rattle.campaign_core.specs.Views.{no_view};
 ghost use Rattle.campaign_core.specs.Seat.{Seat, let_go, is_let_go as is_let_go_lem};
-
 ghost use Rattle.campaign_core.specs.World.{queued_lines, queued_reply, view_lines, changed, messages_to, mapped_from, outcome_of, is_present as is_present_lem};
 ghost use Rattle.campaign_core.specs.State.{world_in, post_by, opening_post, opening_state, state_after};
 
@@ -78,7 +77,8 @@ impl State {
 
     /// How many seats there are.
     pub(crate) fn seats(&self) -> u8
-        ensures { result ≡ length self.now.posts }
+        ensures value { result ≡ length self.now.posts }
+        ensures bound { result ≤ 33 }
     {
         self.posts.len() as u8
     }
@@ -190,7 +190,12 @@ fn add_view(lines: &mut Vec<LineText>, alloc: Global, full: bool) -> Result<(), 
 }
 
 #[tactic(auto, unfolding(crate::specs::World::addressed))]
-fn add_messages(lines: &mut Vec<LineText>, alloc: Global, outcome: &Outcome, seat: u8) -> Result<(), Memory>
+fn add_messages(
+    lines: &mut Vec<LineText>,
+    alloc: Global,
+    outcome: &Outcome,
+    seat: u8,
+) -> Result<(), Memory>
     ensures { OnOk result (lines.new.items ≡ lines.old.items ++ messages_to seat outcome.now) }
 {
     let _seat = seat;
@@ -222,13 +227,7 @@ fn changed_book(outcome: &Outcome, acts: bool, post: &Post) -> Result<SeatBook, 
     ensures { IfOk result (λ b. b ≡ (changed outcome.now acts post.now.seat).book) }
 {
     match &outcome.book {
-        Some(book) => {
-            if acts {
-                book.copy()
-            } else {
-                post.book.copy()
-            }
-        }
+        Some(book) => { if acts { book.copy() } else { post.book.copy() } }
         None => post.book.copy(),
     }
 }
@@ -287,7 +286,12 @@ fn lines_past(alloc: Global, lines: &[LineText], gone: u64) -> Result<Vec<LineTe
 }
 
 /// What waits for a seat after an entry that queued these lines, `gone` more being taken.
-fn mail_with(alloc: Global, mail: &[LineText], gone: u64, lines: &[LineText]) -> Result<Vec<LineText>, Memory>
+fn mail_with(
+    alloc: Global,
+    mail: &[LineText],
+    gone: u64,
+    lines: &[LineText],
+) -> Result<Vec<LineText>, Memory>
     ensures { IfOk result (λ v. v.items ≡ drop gone mail.now ++ lines.now) }
 {
     let mut all = lines_past(alloc, mail, gone)?;
