@@ -1,6 +1,6 @@
 -- Lists that are mapped with their places.
-use Rattle.std.proofs.Common.{◌≡◌, ℕ, zero, suc, ◌+◌, ◌<◌, get_or, List, [], ◌∷◌, ◌++◌, length, map, drop, Some, None, refl, sym, ◌∙◌, ap, subst, arith, add-zero}
-use Rattle.std.specs.Prelude.{slice_get, option_map, Option}
+use Rattle.std.proofs.Common.{◌≡◌, ℕ, zero, suc, ◌+◌, ◌<◌, get_or, List, [], ◌∷◌, ◌++◌, length, map, drop, Some, refl, sym, ◌∙◌, ap, subst, arith, add-zero}
+use Rattle.std.specs.Prelude.{slice_get, option_map}
 use Rattle.campaign_core.specs.World.{mapped_from}
 
 pub ap₂ : {A B C : Type 0} (f : A → B → C) {x y : A} {u v : B} → x ≡ y → u ≡ v → f x u ≡ f y v

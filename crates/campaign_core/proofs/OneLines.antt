@@ -1,5 +1,5 @@
 -- No line that is sent holds an LF.
-use Rattle.std.proofs.Common.{◌≡◌, ℕ, Bool, true, false, cond, ◌&&◌, ◌||◌, eqb, List, [], ◌∷◌, ◌++◌, Some, None}
+use Rattle.std.proofs.Common.{ℕ, Bool, true, false, cond, ◌&&◌, eqb, List, [], ◌∷◌, ◌++◌, Some, None}
 use Rattle.std.specs.Prelude.{Option, Result, Ok, Err}
 use Rattle.std.specs.List.{AllByRecursion}
 use Rattle.seats.specs.Book.{Book, join_refusal}
@@ -19,7 +19,7 @@ use Rattle.campaign_core.specs.Commands.{command_of}
 use Rattle.campaign_core.specs.Texts.{hello_line, hello_tree, ok_line, ok_tree, refusal_line, refusal_tree, message_line, message_tree}
 use Rattle.campaign_core.specs.Views.{View, full_line, full_tree, change_line, view_of}
 use Rattle.campaign_core.specs.Seat.{Seat}
-use Rattle.campaign_core.specs.Outcome.{Outcome, nothing, refused_direct, refused_line, refusal_of_join, count_if_joined, join_outcome, reply_line, messages_by, accepted, decided, rule_of, read_outcome, line_outcome, absent_outcome, present_outcome, outcome_at, seat_of}
+use Rattle.campaign_core.specs.Outcome.{Outcome, refused_direct, refused_line, refusal_of_join, count_if_joined, join_outcome, reply_line, messages_by, decided, rule_of, read_outcome, outcome_at, seat_of}
 use Rattle.campaign_core.specs.World.{World, addressed, view_lines, some_to_list, entry_lines, is_present, lines_of, step, scene_after, outcome_of, steps_of, asked_of, seat_at, sent}
 
 abbrev pub AreOneLine : List (List ℕ) → Type 0

@@ -1,13 +1,9 @@
 -- Outcomes: what the world's and the machine's have in common, and what fits a seat.
-use Rattle.std.proofs.Common.{◌≡◌, ℕ, ◌+◌, ◌<◌, ◌≤◌, Bool, true, false, cond, ◌&&◌, ◌||◌, eqb, List, [], ◌∷◌, length, Some, None, refl, sym, ◌∙◌, ap, arith, ◌⊎◌, inl, inr}
-use Rattle.std.specs.Prelude.{option_map, Option, unwrap_or, Result, Ok, Err, not}
-use Rattle.std.specs.Str.{bytes_eq}
-use Rattle.seats.specs.declared.seat_state.SeatState.{SeatState}
-use Rattle.seats.specs.declared.seat_state.SeatState.TheVariants.{Free, Joined, Closing}
+use Rattle.std.proofs.Common.{◌≡◌, ℕ, ◌<◌, ◌≤◌, Bool, true, false, cond, ◌||◌, eqb, List, length, Some, None, refl, sym, ◌∙◌, ap, arith, ◌⊎◌, inl, inr}
+use Rattle.std.specs.Prelude.{option_map, Option, unwrap_or, Result, Ok, Err}
 use Rattle.seats.specs.declared.seat_state.JoinRefusal.{JoinRefusal}
-use Rattle.seats.specs.declared.seat_state.JoinRefusal.TheVariants as joins
-use Rattle.seats.specs.Book.{Book, counted, joined, left, blank_book, line_limit, join_refusal}
-use Rattle.seats.specs.SeatState.{is_free, is_joined, is_closing, closed, blank_state}
+use Rattle.seats.specs.Book.{Book, counted, blank_book, join_refusal}
+use Rattle.seats.specs.SeatState.{is_joined}
 use Rattle.campaign_core.specs.declared.entry.Entry.{Entry}
 use Rattle.campaign_core.specs.declared.entry.Entry.TheVariants.{Join, Line, Taken}
 use Rattle.campaign_core.specs.declared.command.Command.{Command}
@@ -17,8 +13,8 @@ use Rattle.campaign_core.specs.declared.command.Refusal.{Refusal}
 use Rattle.campaign_core.specs.declared.command.Refusal.TheVariants.{NoHello}
 use Rattle.campaign_core.specs.Asked.{Asked}
 use Rattle.campaign_core.specs.Commands.{command_of}
-use Rattle.campaign_core.specs.Seat.{Seat, blank_seat, was_joined, taken_to}
-use Rattle.campaign_core.specs.Outcome.{Outcome, nothing, outcome_at, join_outcome, line_outcome, read_outcome, rule_of, book_done, accepted, decided, command_outcome, refused_direct, refused_line, refusal_of_join, count_if_joined, blank_entry, seat_of}
+use Rattle.campaign_core.specs.Seat.{Seat, blank_seat, was_joined}
+use Rattle.campaign_core.specs.Outcome.{Outcome, nothing, outcome_at, join_outcome, read_outcome, rule_of, book_done, accepted, decided, refused_direct, refused_line, refusal_of_join, blank_entry, seat_of}
 use Rattle.campaign_core.specs.World.{changed, is_present, queued_reply}
 use Rattle.seats.proofs.Books.{is_joined-blank, counted-blank, joined-blank, left-blank, join_refusal-blank}
 

@@ -1,8 +1,8 @@
 -- What a refused entry changes.
-use Rattle.std.proofs.Common.{◌≡◌, ℕ, ◌+◌, ◌≤◌, Bool, true, false, cond, ◌&&◌, ◌||◌, eqb, List, [], ◌∷◌, ◌++◌, length, Some, None, refl, sym, ◌∙◌, ap, subst, arith, max, min}
-use Rattle.std.specs.Prelude.{Option, option_map, IfSome, is_some, unwrap_or, Result, Ok, Err}
+use Rattle.std.proofs.Common.{◌≡◌, ℕ, Bool, true, false, cond, eqb, List, [], ◌∷◌, ◌++◌, length, Some, None, refl, sym, ◌∙◌, ap, arith}
+use Rattle.std.specs.Prelude.{Option, option_map, IfSome, is_some, Result, Ok, Err}
 use Rattle.std.proofs.lemmas.Bool.Decides.{nat_tests}
-use Rattle.seats.specs.Book.{Book, join_refusal, counted}
+use Rattle.seats.specs.Book.{join_refusal, counted}
 use Rattle.seats.specs.SeatState.{is_joined}
 use Rattle.seats.specs.declared.seat_state.JoinRefusal.{JoinRefusal}
 use Rattle.campaign_core.specs.declared.entry.Entry.{Entry}
@@ -14,11 +14,11 @@ use Rattle.campaign_core.specs.declared.command.Refusal.TheVariants.{NoHello, Ba
 use Rattle.campaign_core.specs.Asked.{Asked}
 use Rattle.campaign_core.specs.Commands.{command_of}
 use Rattle.campaign_core.specs.Views.{View, Scene, view_of, change_line}
-use Rattle.campaign_core.specs.Seat.{Seat, settled, was_joined, taken_to}
-use Rattle.campaign_core.specs.Outcome.{Outcome, nothing, refused_direct, refused_line, refusal_of_join, count_if_joined, join_outcome, decided, rule_of, read_outcome, outcome_at, seat_of}
-use Rattle.campaign_core.specs.World.{World, seat_at, addressed, view_lines, some_to_list, lines_if_present, queued_lines, queued_reply, is_present, changed, seat_by, seat_after, step, replay, scene_after, outcome_of, steps_of, asked_of}
+use Rattle.campaign_core.specs.Seat.{Seat, settled, taken_to}
+use Rattle.campaign_core.specs.Outcome.{Outcome, refused_direct, refused_line, refusal_of_join, count_if_joined, join_outcome, decided, rule_of, read_outcome, outcome_at, seat_of}
+use Rattle.campaign_core.specs.World.{World, seat_at, addressed, view_lines, queued_lines, queued_reply, is_present, changed, seat_by, seat_after, replay, scene_after, outcome_of, steps_of, asked_of}
 use Rattle.campaign_core.specs.Session.{session}
-use Rattle.campaign_core.specs.Law.{IsOpening, refused_seat, ChangesLittle, RefusedChangesLittle}
+use Rattle.campaign_core.specs.Law.{IsOpening, refused_seat, RefusedChangesLittle}
 use Rattle.campaign_core.proofs.Seats.{IsSound}
 use Rattle.campaign_core.proofs.Sessions.{IsKept, seat_at-after, kept_at}
 

@@ -1,10 +1,7 @@
 -- What settling does to a seat.
 use Rattle.std.proofs.Common.{◌≡◌, ℕ, ◌+◌, ◌<◌, ◌≤◌, Bool, true, false, cond, ◌&&◌, ◌||◌, eqb, refl, sym, ◌∙◌, ap, arith, add-zero, ◌⊎◌, inl, inr}
 use Rattle.std.proofs.lemmas.Bool.Decides.{nat_tests}
-use Rattle.seats.specs.declared.seat_state.SeatState.{SeatState}
-use Rattle.seats.specs.declared.seat_state.SeatState.TheVariants.{Free, Joined, Closing}
-use Rattle.seats.specs.Book.{Book, blank_book, freed}
-use Rattle.seats.specs.SeatState.{is_free, is_joined, is_closing, blank_state}
+use Rattle.seats.specs.SeatState.{is_free, is_joined, is_closing}
 use Rattle.seats.proofs.Books.{is_free-blank, is_closing-blank, joined_not_closing, joined_not_free}
 use Rattle.campaign_core.specs.Seat.{Seat, blank_seat, freed_seat, is_let_go, let_go, settled}
 

@@ -1,18 +1,17 @@
 -- What waits for a seat is what wasn't taken of its session.
-use Rattle.std.proofs.Common.{◌≡◌, ℕ, ◌+◌, ◌-◌, ◌<◌, ◌≤◌, Bool, true, false, cond, ◌||◌, eqb, List, [], ◌∷◌, ◌++◌, length, drop, map, Some, None, refl, sym, ◌∙◌, ap, subst, arith, zero-add, length-append, max}
+use Rattle.std.proofs.Common.{◌≡◌, ℕ, ◌+◌, ◌-◌, ◌≤◌, Bool, true, false, cond, ◌||◌, eqb, List, [], ◌∷◌, ◌++◌, length, drop, Some, None, refl, sym, ◌∙◌, ap, subst, arith, zero-add, length-append, max}
 use Rattle.std.specs.Prelude.{Option, option_map, IfSome, slice_get}
-use Rattle.std.specs.List.{AllByRecursion}
 use Rattle.std.proofs.lemmas.List.{drop-append-le, drop-drop}
-use Rattle.seats.specs.SeatState.{is_free, is_joined}
+use Rattle.seats.specs.SeatState.{is_free}
 use Rattle.campaign_core.specs.declared.entry.Entry.{Entry}
 use Rattle.campaign_core.specs.Views.{view_of}
 use Rattle.campaign_core.specs.Seat.{Seat, IsFreshSeat, freed_seat, is_let_go, settled}
 use Rattle.campaign_core.specs.Outcome.{Outcome, seat_of}
 use Rattle.campaign_core.specs.World.{World, seat_at, outcome_of, scene_after, queued_lines, changed, seat_after, mapped_from, step, replay}
 use Rattle.campaign_core.specs.Session.{queued_of, unless_free, session_after, session_from, session}
-use Rattle.campaign_core.specs.State.{Post, State, world_in, mail_after, post_after, state_after, post_of, state_of}
+use Rattle.campaign_core.specs.State.{world_in, mail_after, post_after, state_after, post_of, state_of}
 use Rattle.campaign_core.specs.Law.{IsOpening}
-use Rattle.campaign_core.proofs.Lists.{ap₂, slice_get-mapped_from, mapped_from-same, mapped_from-mapped_from, map-mapped_from, mapped_from-map, mapped_from-itself}
+use Rattle.campaign_core.proofs.Lists.{ap₂, slice_get-mapped_from, mapped_from-same, mapped_from-mapped_from, map-mapped_from, mapped_from-itself}
 use Rattle.campaign_core.proofs.Seats.{grown, IsSound, settled-IsSound}
 use Rattle.campaign_core.proofs.Outcomes.{taken_within}
 use Rattle.campaign_core.proofs.Simulation.{fresh_sound, fresh_at}

@@ -1,5 +1,5 @@
 -- The machine follows the world.
-use Rattle.std.proofs.Common.{◌≡◌, ℕ, zero, suc, ◌+◌, ◌<◌, ◌≤◌, Bool, true, false, cond, ◌&&◌, ◌||◌, eqb, List, [], ◌∷◌, ◌++◌, map, length, Some, None, refl, sym, ◌∙◌, ap, subst, append_assoc, zero-add, arith, length-append, ◌⊎◌, inl, inr}
+use Rattle.std.proofs.Common.{◌≡◌, ℕ, zero, suc, ◌+◌, ◌≤◌, Bool, true, false, cond, ◌&&◌, ◌||◌, eqb, List, [], ◌∷◌, ◌++◌, map, length, Some, None, refl, sym, ◌∙◌, ap, subst, append_assoc, zero-add, arith, length-append, inl, inr}
 use Rattle.std.specs.Prelude.{option_map, Option, IfSome, slice_get, unwrap_or}
 use Rattle.std.specs.List.{AllByRecursion}
 use Rattle.std.proofs.lemmas.Bool.{eqb-true}
@@ -12,11 +12,11 @@ use Rattle.campaign_core.specs.Asked.{Asked}
 use Rattle.campaign_core.specs.Seat.{Seat, IsFreshSeat, fresh_seat, blank_seat, freed_seat, settled, was_joined}
 use Rattle.campaign_core.specs.Outcome.{Outcome, outcome_at, seat_of, blank_entry}
 use Rattle.campaign_core.specs.World.{World, seat_at, asked_of, outcome_of, steps_of, scene_after, is_present, view_lines, messages_to, lines_if_present, entry_lines, queued_reply, queued_lines, changed, lines_of, seat_after, step, sent}
-use Rattle.campaign_core.specs.Player.{Item, own, message, view, view_items, items_if_present, entry_items, items_of, trace, Machine, asked_of_view, own_outcome, own_messages, after_own, run, opening, started}
-use Rattle.campaign_core.specs.Law.{IsSentAsMachine, IsOpening, SentIsMachine, Agree, AgreeingSendAlike}
+use Rattle.campaign_core.specs.Player.{Item, message, view_items, items_if_present, entry_items, items_of, trace, Machine, asked_of_view, own_outcome, own_messages, after_own, run, opening, started}
+use Rattle.campaign_core.specs.Law.{IsOpening, SentIsMachine, AgreeingSendAlike}
 use Rattle.campaign_core.proofs.Lists.{ap₂, slice_get-mapped_from, length-mapped_from}
 use Rattle.campaign_core.proofs.Seats.{settled-blank, Stays, settled-settled, settled_again, settled-none, IsSound, settled-IsSound, joined_stays, waiting_stays, joined_before}
-use Rattle.campaign_core.proofs.Runs.{run-messages, run-append, after_all, after_all-append, after_messages, seen, seen_view}
+use Rattle.campaign_core.proofs.Runs.{run-messages, run-append, after_all, after_all-append, after_messages, seen_view}
 use Rattle.campaign_core.proofs.Outcomes.{blank_outcome, outcome_at-blank, outcome_at-unasked, IsFit, outcome_fits, absent_joins, absent_full, seat_of-blank, taken_within}
 
 -- a machine at this seat, without pass numbers

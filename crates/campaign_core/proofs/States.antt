@@ -5,12 +5,12 @@ use Rattle.std.specs.List.{AllByRecursion}
 use Rattle.seats.specs.Book.{Book}
 use Rattle.campaign_file.specs.Campaign.{AreFreshFrom, IsOpening as IsOpeningList}
 use Rattle.campaign_core.specs.declared.entry.Entry.{Entry}
-use Rattle.campaign_core.specs.Views.{Scene, bare, no_view, view_of}
+use Rattle.campaign_core.specs.Views.{bare, no_view, view_of}
 use Rattle.campaign_core.specs.Seat.{Seat, fresh_seat, IsFreshSeat}
 use Rattle.campaign_core.specs.Outcome.{Outcome, seat_of}
 use Rattle.campaign_core.specs.World.{World, seat_at, outcome_of, scene_after, seat_after, mapped_from, step, replay}
 use Rattle.campaign_core.specs.Session.{session}
-use Rattle.campaign_core.specs.State.{Post, State, opening_post, opening_state, world_in, post_by, post_after, state_after, post_of, state_of}
+use Rattle.campaign_core.specs.State.{Post, State, opening_post, opening_state, world_in, post_by, state_after, post_of, state_of}
 use Rattle.campaign_core.specs.Opening.{opening_world}
 use Rattle.campaign_core.specs.Law.{IsOpening}
 use Rattle.campaign_core.proofs.Lists.{length-mapped_from, slice_get-mapped_from}

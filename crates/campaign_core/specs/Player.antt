@@ -1,8 +1,8 @@
 -- The player machine, which holds no world.
-use Rattle.std.specs.Prelude.{ℕ, ◌+◌, ◌==◌, ◌&&◌, ◌||◌, Bool, true, false, List, [], ◌∷◌, ◌++◌, length, map, if◌then◌else◌, Option, Some, None, option_map, is_some}
+use Rattle.std.specs.Prelude.{ℕ, ◌==◌, ◌&&◌, ◌||◌, Bool, true, false, List, [], ◌∷◌, ◌++◌, length, map, if◌then◌else◌, Option, option_map, is_some}
 use Rattle.seats.specs.Book.{Book, blank_book}
 use Rattle.campaign_core.specs.declared.entry.Entry.{Entry}
-use Rattle.campaign_core.specs.Views.{View, no_view, view_of, full_line, change_line}
+use Rattle.campaign_core.specs.Views.{View, no_view, view_of, change_line}
 use Rattle.campaign_core.specs.Asked.{Asked}
 use Rattle.campaign_core.specs.Seat.{Seat, fresh_seat, settled}
 use Rattle.campaign_core.specs.Outcome.{Outcome, outcome_at, seat_of, blank_entry}

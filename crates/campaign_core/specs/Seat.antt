@@ -1,7 +1,5 @@
 -- A seat of a campaign: its book, and how many lines were queued for it and taken.
-use Rattle.std.specs.Prelude.{◌≡◌, ℕ, ◌+◌, ◌==◌, ◌&&◌, ◌||◌, Bool, true, false, if◌then◌else◌, max, min, Option, Some, None}
-use Rattle.seats.specs.declared.seat_state.SeatState.{SeatState}
-use Rattle.seats.specs.declared.seat_state.SeatState.TheVariants.{Free}
+use Rattle.std.specs.Prelude.{◌≡◌, ℕ, ◌+◌, ◌==◌, ◌&&◌, ◌||◌, Bool, false, if◌then◌else◌, max, min, Option, Some, None}
 use Rattle.seats.specs.Book.{Book, freed, blank_book, IsFresh}
 use Rattle.seats.specs.SeatState.{is_free, is_joined, is_closing}
 

@@ -1,5 +1,5 @@
 -- What a running campaign keeps: its world, and beside each seat the lines that wait for it.
-use Rattle.std.specs.Prelude.{ℕ, ◌==◌, ◌-◌, Bool, List, ◌++◌, [], map, drop, if◌then◌else◌, Option, Some}
+use Rattle.std.specs.Prelude.{ℕ, ◌==◌, ◌-◌, Bool, List, ◌++◌, [], map, drop, if◌then◌else◌, Some}
 use Rattle.seats.specs.Book.{Book}
 use Rattle.seats.specs.SeatState.{is_free}
 use Rattle.campaign_core.specs.declared.entry.Entry.{Entry}

@@ -1,9 +1,7 @@
 -- Worlds, steps and what is sent.
-use Rattle.std.specs.Prelude.{ℕ, suc, ◌+◌, ◌==◌, ◌&&◌, ◌||◌, Bool, true, false, List, [], ◌∷◌, ◌++◌, length, slice_get, if◌then◌else◌, Option, Some, None, unwrap_or, option_map}
-use Rattle.seats.specs.Book.{Book}
+use Rattle.std.specs.Prelude.{ℕ, suc, ◌==◌, ◌&&◌, ◌||◌, Bool, List, [], ◌∷◌, ◌++◌, length, slice_get, if◌then◌else◌, Option, Some, None, unwrap_or}
 use Rattle.campaign_core.specs.declared.entry.Entry.{Entry}
 use Rattle.campaign_core.specs.declared.command.Command.{Command}
-use Rattle.campaign_core.specs.declared.command.Command.TheVariants.{Hello, Bye, Say}
 use Rattle.campaign_core.specs.Views.{Scene, View, view_of, full_line, change_line}
 use Rattle.campaign_core.specs.Asked.{Asked}
 use Rattle.campaign_core.specs.Seat.{Seat, settled, taken_to, was_joined}

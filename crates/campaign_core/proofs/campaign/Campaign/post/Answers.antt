@@ -1,4 +1,4 @@
-use Rattle.std.proofs.Common.{◌≡◌, ◌<◌, ◌∙◌, sym, ap, subst, length, drop, Some, None}
+use Rattle.std.proofs.Common.{◌<◌, ◌∙◌, sym, ap, subst, length, drop}
 use Rattle.std.specs.Prelude.{option_map, slice_get}
 use Rattle.campaign_core.specs.World.{seat_at, replay}
 use Rattle.campaign_core.specs.Session.{session}

@@ -1,4 +1,4 @@
-use Rattle.std.proofs.Common.{◌≡◌, ◌∙◌, sym, ap, subst, []}
+use Rattle.std.proofs.Common.{◌∙◌, sym, ap, subst, []}
 use Rattle.campaign_core.specs.State.{State, world_in, state_of}
 use Rattle.campaign_core.specs.Law.{IsOpening}
 use Rattle.campaign_core.proofs.States.{opened, opening_world_in, opening_is}

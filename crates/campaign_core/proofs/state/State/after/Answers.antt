@@ -1,4 +1,4 @@
-use Rattle.std.proofs.Common.{◌≡◌, ◌∙◌, sym, ap, eqb, length, arith}
+use Rattle.std.proofs.Common.{◌∙◌, sym, ap, eqb, length, arith}
 use Rattle.campaign_core.specs.Views.{no_view}
 use Rattle.campaign_core.specs.Outcome.{seat_of}
 use Rattle.campaign_core.specs.World.{mapped_from}
