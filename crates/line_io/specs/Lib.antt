@@ -1,4 +1,5 @@
 pub mod Counts
+pub mod Fetched
 pub mod LineTaken
 pub mod Lines
 pub mod Memory

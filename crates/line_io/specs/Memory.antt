@@ -1,5 +1,5 @@
 -- Sources, sinks and desks in memory as contracts see them.
-use Rattle.std.specs.Prelude.{◌≡◌, ◌≤◌, ◌⊎◌, ◌-◌, min, ℕ, List, Bool, Option, Contains, find, if◌then◌else◌, length}
+use Rattle.std.specs.Prelude.{◌-◌, min, ℕ, List, Bool, Option, Contains, find, if◌then◌else◌, length}
 use Rattle.std.specs.Option.{option_map}
 use Rattle.std.specs.Str.{bytes_eq}
 use Rattle.line_io.specs.Counts.{next_count}
