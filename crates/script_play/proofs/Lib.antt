@@ -1,0 +1,10 @@
+pub mod Fronts
+pub mod EntryLines
+pub mod Takens
+pub mod Scripts
+pub mod Reading
+pub mod SendingLemmas
+pub mod AfterEntry
+pub mod LineRuns
+pub mod WholeRuns
+pub mod Behind

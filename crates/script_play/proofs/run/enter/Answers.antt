@@ -1,0 +1,19 @@
+use Rattle.std.proofs.Common.{◌≡◌, ◌∙◌, sym, subst, List, ap}
+use Rattle.campaign_core.specs.declared.entry.Entry.{Entry}
+use Rattle.campaign_core.specs.declared.campaign.Answer.{Answer}
+use Rattle.campaign_core.specs.Law.{world_of}
+use Rattle.script_play.specs.Played.{entries_since, IsPrefix}
+use Rattle.script_play.proofs.AfterEntry.{entered_written, nothing_since, prefix_none, wrote_nothing}
+use Rattle.script_play.proofs.run.enter.Goals as goal
+
+pub returns-in-Ok-clause-written : goal.returns-in-Ok-clause-written
+returns-in-Ok-clause-written g c =
+    entered_written c.send_all.result c.args.campaign.now c.step.new.self c.args.entry c.seat_of-acting.result c.in-Ok.answer.line _ _
+    c.in-Ok.ensures.origin c.in-Ok.ensures.history c.requires.opening c.requires.line c.requires.quiet c.send_all.ensures.few c.seat_of-acting.ensures
+    (ap (λ (a : Answer). a.line) c.in-Ok.ensures.answer) c.send_all.ensures.sends
+
+pub returns-clause-stopped : goal.returns-clause-stopped
+returns-clause-stopped g c = prefix_none _ _ (ap (entries_since c.args.campaign.now) c.in-Err.ensures.unchanged ∙ nothing_since c.args.campaign.now)
+
+pub returns-clause-written : goal.returns-clause-written
+returns-clause-written g c = wrote_nothing (world_of c.args.campaign.now) _ _ (ap (entries_since c.args.campaign.now) c.in-Err.ensures.unchanged ∙ nothing_since c.args.campaign.now)

@@ -1,0 +1,26 @@
+use Rattle.std.proofs.Common.{◌≡◌, ◌≤◌, ◌-◌, true}
+use Rattle.std.specs.Io.KnownBytes.{append_known, IsAtEnd}
+use Rattle.line_io.specs.Reader.{bytes_to_come}
+use Rattle.line_io.specs.Told.{WhereTold}
+use Rattle.campaign_core.specs.Law.{world_of}
+use Rattle.script_play.specs.Script.{NothingWaits}
+use Rattle.script_play.specs.Tagged.{tagged}
+use Rattle.script_play.specs.Played.{GoesOn, entries_since}
+use Rattle.script_play.proofs.WholeRuns.{CameTo}
+use Rattle.script_play.proofs.run.play_lines.Given as goal
+
+abbrev pub invariant-lines : goal.invariant-lines
+invariant-lines g l = record {
+  campaign : GoesOn l.fn.campaign l.campaign;
+  quiet : NothingWaits (world_of l.campaign);
+  written : g.O.Sink.written l.out ≡ append_known (g.O.Sink.written l.fn.out) (tagged (world_of l.fn.campaign) (entries_since l.fn.campaign l.campaign));
+  came : WhereTold (g.S.Source.left l.fn.script) (bytes_to_come l.reader (g.S.Source.left l.script)) (CameTo l.fn.campaign l.campaign l.number l.reader.ended);
+  at_end : l.reader.ended ≡ true → IsAtEnd (g.S.Source.left l.script);
+  cap : l.reader.cap ≡ 4112;
+  number : l.number ≤ 1000001;
+  script_count : g.S.Source.faults_of l.fn.script ≤ g.S.Source.faults_of l.script;
+  out_count : g.O.Sink.faults_of l.fn.out ≤ g.O.Sink.faults_of l.out;
+}
+
+abbrev pub decreases-lines : goal.decreases-lines
+decreases-lines g l = 1000002 - l.number

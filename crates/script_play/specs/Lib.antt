@@ -1,0 +1,4 @@
+pub mod Script
+pub mod Tagged
+pub mod Played
+pub mod Sending

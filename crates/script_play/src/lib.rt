@@ -1,0 +1,9 @@
+//! A script played on a campaign: each of its lines is an entry, and each line that an entry sends
+//! is written behind the number of its seat.
+#![tactic(auto)]
+
+mod entries;
+mod run;
+mod sending;
+
+pub use run::{LINE_BYTES, LINE_LIMIT, Played, play};
