@@ -18,15 +18,15 @@ bench_geometry: topology cells lattice names
 LIST
 : >"$work/crates/bench_geometry/specs/Lib.antt"
 : >"$work/crates/bench_geometry/proofs/Lib.antt"
-mkdir -p "$work/crates/bench_geometry/proofs/time_joins"
-cat >"$work/crates/bench_geometry/proofs/time_joins/Invariants.antt" <<'PROOF'
+mkdir -p "$work/crates/bench_geometry/proofs/join_many"
+cat >"$work/crates/bench_geometry/proofs/join_many/Invariants.antt" <<'PROOF'
 use Rattle.std.proofs.Common.{◌≡◌}
-use Rattle.bench_geometry.proofs.time_joins.Given as goal
+use Rattle.bench_geometry.proofs.join_many.Given as goal
 
 abbrev pub invariant-joins : goal.invariant-joins
-invariant-joins l = l.all.extent ≡ l.some.extent
+invariant-joins l = l.all.extent ≡ l.other.extent
 PROOF
 cp "$root/bench/geometry.txt" "$work/crates/bench_geometry/src/main.rt"
 cd "$work/crates/bench_geometry"
-rt run >"$work/log" 2>&1 || { tail -n 20 "$work/log"; exit 1; }
+rt run >"$work/log" 2>&1 || { cat "$work/log"; exit 1; }
 grep -E '^(field|joins):' "$work/log"

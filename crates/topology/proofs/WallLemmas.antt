@@ -3,15 +3,16 @@ use Rattle.std.specs.List.{All, AllPairs, insert}
 use Rattle.std.proofs.lemmas.Bool.{cases_lt, cases_eq}
 use Rattle.std.proofs.lemmas.Bool.Decides.{nat_tests}
 use Rattle.std.proofs.lemmas.List.Edits.{length-insert, get_or-insert_below, get_or-insert_at, get_or-insert_above}
-use Rattle.std.proofs.lemmas.List.Elements.{All-append, All-cons, All-take, All-drop}
+use Rattle.std.proofs.lemmas.List.Elements.{All-append, All-cons, All-take, All-drop, All-filter}
 use Rattle.std.proofs.lemmas.List.Folds.{list_any_at}
-use Rattle.std.proofs.lemmas.List.Sums.{prefix_len-le-length, fails_before_first, passes_at_first, position_or_len_is}
+use Rattle.std.proofs.lemmas.List.Kept.{AllPairs-filter}
+use Rattle.std.proofs.lemmas.List.Sums.{prefix_len-le-length, fails_before_first, passes_at_first, position_or_len_is, length-filter, count_by-le-length}
 use Rattle.lattice.specs.Coordinates.{Coordinates}
 use Rattle.cells.specs.Cells.{Extent}
 use Rattle.topology.specs.declared.wall.Wall.{Wall}
 use Rattle.topology.specs.Order.{point_eq, point_before, wall_eq, wall_before, wall_between}
 use Rattle.names.specs.declared.kinds.WallKind.{WallKind}
-use Rattle.topology.specs.WallLists.{WallLists, walls_of, AreWalls, IsOnMap, on_map_test, place_of, with_wall, has_wall}
+use Rattle.topology.specs.WallLists.{WallLists, walls_of, AreWalls, IsOnMap, on_map_test, place_of, with_wall, without_wall, has_wall}
 use Rattle.topology.specs.WallFaults.{wall_fault}
 use Rattle.topology.specs.declared.walls.WallFault.TheVariants.{OffMap, DegenerateWall, WallThere, WallLimit}
 use Rattle.topology.proofs.OrderLemmas.{on_map_test_tells}
@@ -313,3 +314,12 @@ pub wall_fault-along : (walls now : WallLists) (kind given : WallKind) (a b : Co
     → None ≡ wall_fault now given a b → wall_fault walls kind a b ≡ None
 wall_fault-along walls now kind given a b e f h =
     ap (λ (w : WallLists). wall_fault w kind a b) e ∙ ap (λ (k : WallKind). wall_fault now k a b) (sym f) ∙ sym h
+
+-- the walls stay in order without one
+pub AreWalls-without_wall : (map : Extent) (walls : List Wall) (wall : Wall) → AreWalls map walls → AreWalls map (without_wall wall walls)
+AreWalls-without_wall map walls wall are = record {
+  few = omega (arith, length-filter (λ other. not (wall_eq wall other)) walls, count_by-le-length (λ other. not (wall_eq wall other)) walls, are.few);
+  on_map = All-filter (λ other. not (wall_eq wall other)) (λ w. IsOnMap map w.first × IsOnMap map w.second) walls are.on_map;
+  directed = All-filter (λ other. not (wall_eq wall other)) (λ w. point_before w.first w.second ≡ true) walls are.directed;
+  ordered = AllPairs-filter (λ v w. wall_before v w ≡ true) (λ other. not (wall_eq wall other)) walls are.ordered;
+}

@@ -1,4 +1,4 @@
-use Rattle.std.specs.Prelude.{ℕ, ◌≤◌, ◌*◌, Bool, not, nat_le, ◌&&◌, List, length, All, AllPairs, IsTrue, insert}
+use Rattle.std.specs.Prelude.{ℕ, ◌≤◌, ◌*◌, Bool, not, nat_le, ◌&&◌, List, length, All, AllPairs, IsTrue, insert, filter}
 use Rattle.std.specs.List.{list_any, position_or_len}
 use Rattle.names.specs.declared.kinds.WallKind.{WallKind}
 use Rattle.names.specs.declared.kinds.WallKind.TheVariants.{Vbl, Mbl}
@@ -45,6 +45,10 @@ place_of wall walls = position_or_len (λ other. not (wall_before other wall)) w
 -- the walls with one more, in order
 abbrev pub with_wall : Wall → List Wall → List Wall
 with_wall wall walls = insert walls (place_of wall walls) wall
+
+-- the walls but this one
+abbrev pub without_wall : Wall → List Wall → List Wall
+without_wall wall walls = filter (λ other. not (wall_eq wall other)) walls
 
 -- the wall is one of these
 abbrev pub has_wall : Wall → List Wall → Bool

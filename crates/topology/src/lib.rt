@@ -14,4 +14,4 @@ mod walls;
 pub use eye::Eye;
 pub use plain_eye::PlainEye;
 pub use wall::Wall;
-pub use walls::{MOST_WALLS, WallFault, Walls, is_on_map};
+pub use walls::{MOST_WALLS, NoSuchWall, WallFault, Walls, is_on_map};

@@ -1,8 +1,8 @@
-ghost use Rattle.std.specs.Prelude.{◌≡◌, ◌+◌, ◌*◌, ◌<◌, ◌≤◌, not};
+ghost use Rattle.std.specs.Prelude.{◌≡◌, ◌+◌, ◌-◌, ◌*◌, ◌^◌, ◌<◌, ◌≤◌, not, min, false, IsOk, OnOk, OnErr};
 ghost use Rattle.std.specs.List.{list_all};
 ghost use Rattle.lattice.specs.Turning.{meet_test};
 ghost use Rattle.cells.specs.Cells.{cells_where};
-ghost use Rattle.topology.specs.WallLists.{walls_of};
+ghost use Rattle.topology.specs.WallLists.{IsOnMap, walls_of};
 ghost use Rattle.topology.specs.Sight.{IsField, clear_test, field_of, field_test};
 
 use crate::{Eye, Wall, Walls};
@@ -44,7 +44,16 @@ impl PlainEye {
 impl Eye for PlainEye {
     ghost looks_made = { λ looks. looks };
 
-    fn field(&mut self, walls: &Walls, eye: Point, out: &mut CellSet) -> Result<(), Memory> {
+    // The clauses of the trait, and that no memory is wanted.
+    fn field(&mut self, walls: &Walls, eye: Point, out: &mut CellSet) -> Result<(), Memory>
+        requires size { out.old.extent ≡ walls.now.extent }
+        requires eye { IsOnMap walls.now.extent eye }
+        ensures always { IsOk result }
+        ensures value { OnOk result (out.new ≡ field_of walls.now eye) }
+        ensures cells { OnOk result (IsField walls.now eye out.new) }
+        ensures empty { OnErr result (out.new ≡ cells_where walls.now.extent (λ x y. false)) }
+        ensures looks { self.new ≡ min (self.old + 1) (2 ^ 64 - 1) }
+    {
         let tested = mark_field(walls, eye, out);
         self.looks = self.looks.saturating_add(1);
         self.tested = self.tested.saturating_add(tested);

@@ -1,6 +1,6 @@
 ghost use Rattle.std.specs.Prelude.{◌≡◌, IfOk};
 
-use crate::{Eye, PlainEye, WallFault, Walls, is_on_map};
+use crate::{Eye, NoSuchWall, PlainEye, WallFault, Walls, is_on_map};
 use cells::{Cell, CellSet, Size};
 use lattice::Point;
 use names::WallKind;
@@ -121,6 +121,12 @@ fn walls_stand_in_order_and_once(rt: HostRuntime) -> Result<(), Fail> {
         walls.add_wall(WallKind::Vbl, corner, middle),
         Err(WallFault::WallThere)
     );
-    assert_eq!(rt; walls.count(WallKind::Vbl), 2);
+    assert_eq!(rt; walls.cut_wall(WallKind::Vbl, middle, corner), Ok(()));
+    assert_eq!(rt;
+        walls.cut_wall(WallKind::Vbl, middle, corner),
+        Err(NoSuchWall)
+    );
+    assert_eq!(rt; walls.count(WallKind::Vbl), 1);
+    assert_eq!(rt; walls.count(WallKind::Mbl), 1);
     Ok(())
 }

@@ -1,6 +1,6 @@
-ghost use Rattle.std.specs.Prelude.{◌≡◌, ◌<◌, ◌≤◌, ◌↔◌, length, slice_get, Some, None, IfOk, IfErr, OnOk, OnErr, is_ok, if◌then◌else◌, [], IsTrue};
+ghost use Rattle.std.specs.Prelude.{◌≡◌, ◌<◌, ◌≤◌, ◌↔◌, length, slice_get, Some, None, IfOk, IfErr, OnOk, OnErr, IsErr, is_ok, if◌then◌else◌, [], IsTrue, false};
 ghost use Rattle.topology.specs.Order.{wall_between};
-ghost use Rattle.topology.specs.WallLists.{AreWalls, IsOnMap, has_wall, on_map_test, place_of, walls_of, with_wall, with_walls};
+ghost use Rattle.topology.specs.WallLists.{AreWalls, IsOnMap, has_wall, on_map_test, place_of, walls_of, with_wall, with_walls, without_wall};
 ghost use Rattle.topology.specs.WallFaults.{IsFaultOf, wall_fault};
 
 use crate::Wall;
@@ -33,6 +33,10 @@ pub enum WallFault {
     #[error("want of memory")]
     Memory,
 }
+
+/// The map has no such wall.
+#[derive(Clone, Copy, Debug, PartialEq, Eq)]
+pub struct NoSuchWall;
 
 /// The walls of a map, of both kinds, each in order of the four numbers of their ends.
 #[derive(Drop)]
@@ -133,6 +137,25 @@ impl Walls {
         }
     }
 
+    /// Takes away the wall of that kind between two points.
+    ///
+    /// Refused exactly where there is no such wall; the walls are then as before. No memory is taken.
+    pub fn cut_wall(&mut self, kind: WallKind, a: Point, b: Point) -> Result<(), NoSuchWall>
+        ensures missing { IsErr result ↔ (has_wall (wall_between a b) (walls_of self.old kind) ≡ false) }
+        ensures cut { OnOk result (self.new ≡ with_walls self.old kind (without_wall (wall_between a b) (walls_of self.old kind))) }
+        ensures unchanged { OnErr result (self.new ≡ self.old) }
+    {
+        let wall = Wall::between(a, b);
+        if !contains(self.list(kind), &wall) {
+            return Err(NoSuchWall);
+        }
+        match kind {
+            WallKind::Vbl => remove_wall(&mut self.vbl, &wall),
+            WallKind::Mbl => remove_wall(&mut self.mbl, &wall),
+        }
+        Ok(())
+    }
+
     fn broken_check(&self, kind: WallKind, a: Point, b: Point) -> Option<WallFault>
         ensures { result ≡ wall_fault self.now kind a b }
     {
@@ -141,7 +164,7 @@ impl Walls {
             Some(WallFault::OffMap)
         } else if a == b {
             Some(WallFault::DegenerateWall)
-        } else if contains(walls, Wall::between(a, b)) {
+        } else if contains(walls, &Wall::between(a, b)) {
             Some(WallFault::WallThere)
         } else if walls.len() >= MOST_WALLS {
             Some(WallFault::WallLimit)
@@ -168,8 +191,8 @@ fn copy_list(walls: &Vec<Wall>) -> Result<Vec<Wall>, Memory>
     }
 }
 
-fn contains(walls: &[Wall], wall: Wall) -> bool
-    ensures { result ≡ has_wall wall walls.now }
+fn contains(walls: &[Wall], wall: &Wall) -> bool
+    ensures { result ≡ has_wall wall.now walls.now }
 {
     walls.iter().any(|other| wall.is_same(*other))
 }
@@ -183,6 +206,12 @@ fn insert_wall(walls: &mut Vec<Wall>, wall: Wall) -> Result<(), WallFault>
         Ok(()) => Ok(()),
         Err(_) => Err(WallFault::Memory),
     }
+}
+
+fn remove_wall(walls: &mut Vec<Wall>, wall: &Wall)
+    ensures { walls.new.items ≡ without_wall wall.now walls.old.items }
+{
+    walls.retain(|other| !wall.is_same(*other));
 }
 
 fn place_of(walls: &[Wall], wall: &Wall) -> usize
