@@ -8,9 +8,10 @@ pub record HallState (Origin : Type 0) : Type 0 where
   pub identity : TableId
   pub origin : Origin
 
--- the usher's hall, and the number that it gives next
+-- the usher's hall and its origin, and the number that it gives next
 pub record UsherState (Origin : Type 0) : Type 0 where
-  pub hall : HallState Origin
+  pub hall : TableId
+  pub origin : Option Origin
   pub count : ℕ
 
 -- The front is the prefix of the history that the pass has seen, and its own places are those of the front at which its turns appended.
@@ -23,8 +24,9 @@ pub record PassState (Entry Origin : Type 0) : Type 0 where
   pub own : List ℕ
   pub heard : ℕ
 
+-- the usher is the hall's, and its origin is the hall's
 abbrev pub IsUsherOf : {Origin : Type 0} → HallState Origin → UsherState Origin → Type 0
-IsUsherOf hall usher = usher.hall ≡ hall
+IsUsherOf hall usher = (usher.hall ≡ hall.identity) × (usher.origin ≡ Some hall.origin)
 
 -- the places of these entries, of which the first stands at the place n
 abbrev pub places : {Entry : Type 0} → ℕ → List Entry → List ℕ

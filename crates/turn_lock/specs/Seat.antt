@@ -4,7 +4,7 @@ use Rattle.atomic_table.specs.Table.{Me}
 use Rattle.atomic_table.specs.Seated.{TableId}
 use Rattle.atomic_table.specs.declared.shared.Seat.{Seat}
 use Rattle.turn_lock.specs.declared.view.SeatView.{SeatView}
-use Rattle.turn_lock.specs.Pass.{HallState, PassState, Known, OwnsWithin}
+use Rattle.turn_lock.specs.Pass.{HallState, UsherState, PassState, Known, OwnsWithin}
 
 -- a table of two words and one slot
 abbrev pub IsSized : TableId → Type 0
@@ -19,6 +19,9 @@ known_of view = record { front = view.front; own = view.own; heard = view.heard 
 module _ {O Entry Origin : Type 0} where
   abbrev pub pass_state : Seat O (SeatView Entry Origin) → ℕ → PassState Entry Origin
   pass_state seat number = record { hall = seat.table_id; origin = seat.me.0.origin; number = number; front = seat.me.0.front; own = seat.me.0.own; heard = seat.me.0.heard }
+
+  abbrev pub usher_state : Seat O (SeatView Entry Origin) → ℕ → UsherState Origin
+  usher_state seat count = record { hall = seat.table_id; origin = seat.me.0.origin; count = count }
 
   -- the seat is one of the hall's, and knows its origin
   abbrev pub IsSeatOf : HallState Origin → Seat O (SeatView Entry Origin) → Type 0

@@ -2,7 +2,7 @@
 ghost use Rattle.std.specs.Prelude.{◌≡◌, ◌+◌, ◌-◌, ◌^◌, ◌<◌, ◌≤◌, ◌++◌, ◌⊎◌, max, [], length, IfOk, IfErr};
 ghost use mathlib.Core.List.{IsPrefix};
 ghost use Rattle.turn_lock.specs.Pass.{HallState, UsherState, PassState, IsPassOf, IsUsherOf, HasTurn, OwnsWithin, known, hears, first_pass, right_pass};
-ghost use Rattle.turn_lock.specs.Seat.{IsSized, IsResting, hall_state, pass_state};
+ghost use Rattle.turn_lock.specs.Seat.{IsSized, IsResting, hall_state, usher_state, pass_state};
 ghost use Rattle.turn_lock.specs.SeatView.{first_view};
 
 use crate::object::{Job, Object};
@@ -37,14 +37,15 @@ impl<O: Object> Model for Hall<O> {
 ///
 /// Contracts see its hall and its count, the number that it gives next.
 pub struct Usher<O: Object> {
-    hall: Snapshot<Hall<O>>,
+    // Ties the usher to its hall. It takes no turn.
+    seat: HallSeat<O>,
     count: u64,
 }
 
 impl<O: Object> Model for Usher<O> {
     ghost Value = { UsherState O.Origin };
 
-    ghost view = { λ usher. record { hall = usher.hall.value; count = usher.count } };
+    ghost view = { λ usher. usher_state usher.seat usher.count };
 }
 
 /// The right of one thread at a time to act on a hall's object, and what that thread knows of the
@@ -101,7 +102,7 @@ impl<O: Object> Drop for Pass<O> {
 
 impl<O: Object> Drop for Usher<O> {
     fn drop(self) {
-        let Self { hall: _, count: _ } = self;
+        let Self { seat: _, count: _ } = self;
     }
 }
 
@@ -130,7 +131,7 @@ impl<O: Object> Hall<O> {
         }
     }
 
-    fn opened(table: HallTable<O>, seat: HallSeat<O>) -> (Hall<O>, Usher<O>, Pass<O>)
+    fn opened(table: HallTable<O>, mut seat: HallSeat<O>) -> (Hall<O>, Usher<O>, Pass<O>)
         requires sized { IsSized table.shared.table_id }
         requires table { seat.table_id ≡ table.shared.table_id }
         requires view { seat.me ≡ (first_view (O.origin table.shared.key.value) (O.history table.shared.key.value), []) }
@@ -138,12 +139,11 @@ impl<O: Object> Hall<O> {
         ensures usher { IsUsherOf result.0 result.1 × (result.1.count ≡ 1) }
         ensures pass { result.2 ≡ first_pass result.0 (O.history table.shared.key.value) }
     {
-        let hall = Hall { table };
         let usher = Usher {
-            hall: Snapshot::of(&hall),
+            seat: split_seat(&table.shared, &mut seat),
             count: 1,
         };
-        (hall, usher, Pass { seat, number: 0 })
+        (Hall { table }, usher, Pass { seat, number: 0 })
     }
 
     /// Makes two passes of one. Both have its front and have heard of as much. The left has its
