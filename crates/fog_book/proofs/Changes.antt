@@ -1,7 +1,6 @@
 -- What a change of one set leaves.
-use Rattle.std.proofs.Common.{◌≡◌, ◌≢◌, ℕ, suc, ◌+◌, ◌<◌, Bool, true, false, cond, not, ◌&&◌, List, [], ◌∷◌, length, get_or, set, Some, None, refl, sym, ap, subst, inl, inr, ◌∙◌, arith}
-use Rattle.std.specs.Prelude.{Option, option_map, find, ◌⊎◌, nat_eq, nat_lt, IsSome, is_some}
-use Rattle.std.specs.Str.{bytes_eq}
+use Rattle.std.proofs.Common.{◌≡◌, ◌≢◌, ℕ, suc, ◌+◌, ◌<◌, Bool, true, false, cond, not, List, [], ◌∷◌, length, get_or, set, Some, None, refl, sym, ap, subst, inl, inr, ◌∙◌, arith}
+use Rattle.std.specs.Prelude.{Option, option_map, find, ◌⊎◌, nat_lt, IsSome}
 use Rattle.std.specs.Bool.{Decides}
 use Rattle.std.specs.List.{position, position_or_len}
 use Rattle.std.proofs.lemmas.Bool.{false_from_ne_true}
@@ -9,12 +8,12 @@ use Rattle.std.proofs.lemmas.Bool.Decides.{Decides-and, Decides-eqb, nat_tests}
 use Rattle.std.proofs.lemmas.Slice.Eq.{bytes_eq-Decides}
 use Rattle.cells.specs.Cells.{Cells}
 use Rattle.fog_book.specs.declared.exposure.Exposure.{Exposure}
-use Rattle.fog_book.specs.Exposures.{Fog, is_of, cells_at, exposed_of, changed_at, with_change, ChangesOnly}
+use Rattle.fog_book.specs.Exposures.{Fog, is_of, cells_at, changed_at, with_change, ChangesOnly}
 
 abbrev pub with_cells : Exposure → Cells → Exposure
 with_cells e cells = record { seat = e.seat; map = e.map; cells = cells }
 
-is_of_tells : (seat : ℕ) (name : List ℕ) (e : Exposure) → Decides (is_of seat name e) ((e.seat ≡ seat) × (e.map ≡ name))
+pub is_of_tells : (seat : ℕ) (name : List ℕ) (e : Exposure) → Decides (is_of seat name e) ((e.seat ≡ seat) × (e.map ≡ name))
 is_of_tells seat name e = Decides-and _ _ (Decides-eqb e.seat seat) (bytes_eq-Decides e.map name)
 
 -- the set of another seat, or on another map, is another

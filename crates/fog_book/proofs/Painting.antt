@@ -1,7 +1,7 @@
 -- A set that is told anew cell by cell, in reading order.
-use Rattle.std.proofs.Common.{◌≡◌, ℕ, ◌+◌, ◌<◌, Bool, true, false, not, cond, ◌&&◌, ◌||◌, nat_eq, nat_lt, refl, ap, arith, sym, ◌∙◌}
+use Rattle.std.proofs.Common.{◌≡◌, ℕ, ◌+◌, ◌<◌, Bool, true, false, not, cond, ◌&&◌, ◌||◌, nat_eq, refl, ap, arith, ◌∙◌}
 use Rattle.std.proofs.lemmas.Bool.Decides.{nat_tests}
-use Rattle.cells.specs.Cells.{Extent, Cells, has, cells_where, IsToldByCells}
+use Rattle.cells.specs.Cells.{Extent, has, cells_where}
 use Rattle.cells.proofs.SetLaws.{cells_where_same, has-cells_where}
 use Rattle.fog_book.specs.Rects.{is_before, told_before}
 

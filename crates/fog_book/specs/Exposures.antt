@@ -1,5 +1,5 @@
 -- What is exposed to the players of a campaign.
-use Rattle.std.specs.Prelude.{◌≡◌, ◌≢◌, ◌⊎◌, ℕ, zero, suc, Bool, false, nat_eq, ◌&&◌, ◌||◌, cond, List, [], ◌∷◌, ◌++◌, Option, option_map, find}
+use Rattle.std.specs.Prelude.{◌≡◌, ◌≢◌, ◌≤◌, ◌⊎◌, ℕ, zero, suc, Bool, false, nat_eq, ◌&&◌, ◌||◌, cond, List, [], ◌∷◌, ◌++◌, Option, Some, None, option_map, find}
 use Rattle.std.specs.Str.{bytes_eq}
 use Rattle.cells.specs.Cells.{Extent, Cells, has, cells_where}
 use Rattle.fog_book.specs.declared.exposure.Exposure.{Exposure}
@@ -47,3 +47,8 @@ blank_sets (suc n) name size = blank_sets n name size ++ record { seat = suc n; 
 -- the fog with one map more, of which nothing is exposed
 abbrev pub with_map : Fog → List ℕ → Extent → Fog
 with_map fog name size = record { players = fog.players; sets = fog.sets ++ blank_sets fog.players name size }
+
+-- nothing of the new map is exposed to any player, and the sets on all other maps stay
+pub record AddsMap (old new : Fog) (name : List ℕ) (size : Extent) : Type 0 where
+  pub blank : (seat : ℕ) → 1 ≤ seat → seat ≤ old.players → exposed_of old seat name ≡ None → exposed_of new seat name ≡ Some (cells_where size (λ x y. false))
+  pub others : (seat : ℕ) (place : List ℕ) → place ≢ name → exposed_of new seat place ≡ exposed_of old seat place

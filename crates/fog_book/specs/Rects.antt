@@ -1,5 +1,5 @@
 -- Rectangles of cells.
-use Rattle.std.specs.Prelude.{ℕ, ◌+◌, ◌≤◌, ◌-◌, Bool, nat_le, nat_lt, nat_eq, ◌&&◌, ◌||◌, cond}
+use Rattle.std.specs.Prelude.{ℕ, ◌+◌, Bool, nat_le, nat_lt, nat_eq, ◌&&◌, ◌||◌, cond}
 use Rattle.cells.specs.declared.cell.Rect.{Rect}
 use Rattle.cells.specs.Cells.{Extent, Cells, has, cells_where}
 

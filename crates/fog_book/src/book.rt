@@ -31,7 +31,7 @@ impl Model for FogBook {
 }
 
 impl FogBook {
-    ghost use Rattle.fog_book.specs.Exposures.{exposed_of, with_change, with_map, ChangesOnly};
+    ghost use Rattle.fog_book.specs.Exposures.{exposed_of, with_change, with_map, AddsMap, ChangesOnly};
 
     /// A book of so many players, at most 32, without maps.
     pub fn open(alloc: Global, players: u8) -> Result<FogBook, Memory>
@@ -55,9 +55,12 @@ impl FogBook {
         })
     }
 
-    /// Adds a map of that size, which isn't there. Nothing of it is exposed.
+    /// Adds a map of that size, which isn't there. Nothing of it is exposed, and all sets of other maps stay.
+    ///
+    /// After `Memory` the book is as before.
     pub fn add_map(&mut self, map: Tag, size: Size) -> Result<(), Memory>
-        ensures added { OnOk result (self.new ≡ with_map self.old map size) }
+        ensures value { OnOk result (self.new ≡ with_map self.old map size) }
+        ensures sets { OnOk result (AddsMap self.old self.new map size) }
         ensures unchanged { OnErr result (self.new ≡ self.old) }
     {
         let mut fresh = blank_sets(*self.sets.allocator(), self.players, map, size)?;

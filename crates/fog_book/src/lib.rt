@@ -6,8 +6,8 @@
 mod book;
 mod exposure;
 mod paint;
-
-
+#[cfg(test)]
+mod tests;
 
 pub use book::FogBook;
 pub use exposure::Exposure;
