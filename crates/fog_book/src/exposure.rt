@@ -1,8 +1,7 @@
 //! The cells of one map that are exposed to one player, and where they stand among others.
-ghost use Rattle.std.specs.Prelude.{◌≡◌, ◌<◌, ◌≤◌, IsSome, IfOk, length, false};
+ghost use Rattle.std.specs.Prelude.{◌≡◌, ◌<◌, IsSome, length};
 ghost use Rattle.std.specs.List.{position, position_or_len};
 ghost use Rattle.std.specs.Option.{ForSome};
-ghost use Rattle.cells.specs.Cells.{cells_where, has};
 ghost use Rattle.fog_book.specs.Exposures.{cells_at, changed_at, is_of, joined};
 ghost use Rattle.fog_book.specs.Rects.{with_rect};
 

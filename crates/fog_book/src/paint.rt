@@ -1,5 +1,5 @@
 //! Rectangles of cells that are added to a set, or taken out.
-ghost use Rattle.std.specs.Prelude.{◌≡◌, ◌<◌, cond, true, false};
+ghost use Rattle.std.specs.Prelude.{◌≡◌, ◌<◌, cond};
 ghost use Rattle.cells.specs.Cells.{cells_where, has};
 ghost use Rattle.cells.specs.Cell.{is_at};
 ghost use Rattle.fog_book.specs.Rects.{is_in, with_rect};

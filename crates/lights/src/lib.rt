@@ -4,7 +4,7 @@
 //! byte order of the names.
 #![tactic(auto)]
 
-ghost use Rattle.std.specs.Prelude.{◌≡◌, ◌<◌, [], None, Some, IfOk, IfErr, OnOk, OnErr, IfSome, MatchOption, length, slice_get};
+ghost use Rattle.std.specs.Prelude.{◌≡◌, ◌<◌, [], None, Some, IfOk, IfErr, OnOk, OnErr, length, slice_get};
 ghost use Rattle.type_table.specs.Types.{type_of, with_type};
 ghost use Rattle.lights.specs.Lights.{AreLights, IsFaultOf, light_fault, radius_of};
 
