@@ -1,0 +1,54 @@
+-- What is exposed to the players of a campaign.
+use Rattle.std.specs.Prelude.{◌≡◌, ◌≢◌, ◌≤◌, ◌⊎◌, ℕ, zero, suc, Bool, false, nat_eq, ◌&&◌, ◌||◌, cond, List, [], ◌∷◌, ◌++◌, Option, Some, None, option_map, find}
+use Rattle.std.specs.Str.{bytes_eq}
+use Rattle.cells.specs.Cells.{Extent, Cells, has, cells_where}
+use Rattle.fog_book.specs.declared.exposure.Exposure.{Exposure}
+
+-- how many players there are, and the set of each of them on each map
+pub record Fog : Type 0 where
+  pub players : ℕ
+  pub sets : List Exposure
+
+-- it is the set of that seat on the map of that name
+abbrev pub is_of : ℕ → List ℕ → Exposure → Bool
+is_of seat name set = nat_eq set.seat seat && bytes_eq set.map name
+
+abbrev pub cells_at : List Exposure → ℕ → List ℕ → Option Cells
+cells_at sets seat name = option_map (λ set. set.cells) (find (is_of seat name) sets)
+
+-- the cells of the map that are exposed to the seat: none where the seat is no player, or the map isn't there
+abbrev pub exposed_of : Fog → ℕ → List ℕ → Option Cells
+exposed_of fog seat name = cells_at fog.sets seat name
+
+-- the first set that passes the test has its cells changed
+abbrev pub changed_at : (Exposure → Bool) → (Cells → Cells) → List Exposure → List Exposure
+changed_at test change [] = []
+changed_at test change (set ∷ sets) =
+    cond (test set) (record { seat = set.seat; map = set.map; cells = change set.cells } ∷ sets) (set ∷ changed_at test change sets)
+
+-- the same fog, but for the set of one seat on one map
+abbrev pub with_change : Fog → ℕ → List ℕ → (Cells → Cells) → Fog
+with_change fog seat name change = record { players = fog.players; sets = changed_at (is_of seat name) change fog.sets }
+
+-- the set of one seat on one map is changed, and the set of every other seat, or on another map, stays
+pub record ChangesOnly (old new : Fog) (seat : ℕ) (name : List ℕ) (change : Cells → Cells) : Type 0 where
+  pub changed : exposed_of new seat name ≡ option_map change (exposed_of old seat name)
+  pub others : (other : ℕ) (place : List ℕ) → (other ≢ seat) ⊎ (place ≢ name) → exposed_of new other place ≡ exposed_of old other place
+
+-- both sets together
+abbrev pub joined : Cells → Cells → Cells
+joined cells seen = cells_where cells.extent (λ x y. has cells x y || has seen x y)
+
+-- a set of no cells for each of so many players
+abbrev pub blank_sets : ℕ → List ℕ → Extent → List Exposure
+blank_sets zero name size = []
+blank_sets (suc n) name size = blank_sets n name size ++ record { seat = suc n; map = name; cells = cells_where size (λ x y. false) } ∷ []
+
+-- the fog with one map more, of which nothing is exposed
+abbrev pub with_map : Fog → List ℕ → Extent → Fog
+with_map fog name size = record { players = fog.players; sets = fog.sets ++ blank_sets fog.players name size }
+
+-- nothing of the new map is exposed to any player, and the sets on all other maps stay
+pub record AddsMap (old new : Fog) (name : List ℕ) (size : Extent) : Type 0 where
+  pub blank : (seat : ℕ) → 1 ≤ seat → seat ≤ old.players → exposed_of old seat name ≡ None → exposed_of new seat name ≡ Some (cells_where size (λ x y. false))
+  pub others : (seat : ℕ) (place : List ℕ) → place ≢ name → exposed_of new seat place ≡ exposed_of old seat place

@@ -1,0 +1,2 @@
+pub mod Radii
+pub mod Lights
