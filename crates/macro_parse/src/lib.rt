@@ -1,0 +1,6 @@
+//! Macro texts, read by their grammar.
+#![tactic(auto)]
+
+mod nodes;
+
+pub use nodes::{Function, Operator};
