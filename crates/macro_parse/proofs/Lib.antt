@@ -1,3 +1,6 @@
 pub mod Names
 pub mod Operators
 pub mod Levels
+pub mod Leaves
+pub mod Calls
+pub mod Unaries
