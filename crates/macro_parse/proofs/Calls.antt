@@ -65,7 +65,7 @@ argument_again expr separator at k a z x same e =
 
 -- ---- names of functions
 
-name_is : (f : Function) → IsName (function_name f)
+pub name_is : (f : Function) → IsName (function_name f)
 name_is Prop = (letter_means 112 refl, (inl (letter_means 114 refl), (inl (letter_means 111 refl), (inl (letter_means 112 refl), tt))), omega arith)
 name_is Own = (letter_means 111 refl, (inl (letter_means 119 refl), (inl (letter_means 110 refl), tt)), omega arith)
 name_is Secret = (letter_means 115 refl, (inl (letter_means 101 refl), (inl (letter_means 99 refl), (inl (letter_means 114 refl), (inl (letter_means 101 refl), (inl (letter_means 116 refl), tt))))), omega arith)
@@ -218,7 +218,7 @@ module _ (nests : Bool) (expr : ℕ → Read Tree) (Expr : Grammar Tree) where
   none_may false n e = rw e refl
 
   module _ (stops : ℕ → Bool) (close : stops 41 ≡ false) (comma : stops 44 ≡ false) (turns : ℕ)
-      (again : (at : ℕ) (b z : List ℕ) (t : Tree) → Expr at b t → Free stops z → length b < turns → expr at (b ++ z) ≡ (Some t, z)) where
+      (again : nests ≡ true → (at : ℕ) (b z : List ℕ) (t : Tree) → Expr at b t → Free stops z → length b < turns → expr at (b ++ z) ≡ (Some t, z)) where
     pub call_again : (at : ℕ) (s r : List ℕ) (t : Tree) → IsCall nests Expr at s t → length s < turns → word_at nests expr at (s ++ r) ≡ (Some t, r)
     unfolding arguments_at
     call_again at s r (Call0 p f) (pl, ar, e) lt =
@@ -229,7 +229,7 @@ module _ (nests : Bool) (expr : ℕ → Read Tree) (Expr : Grammar Tree) where
         let len2 = length-append (function_name f) (40 ∷ (a ++ (41 ∷ []))) in
         let len3 = length-append a (41 ∷ []) in
         let q : s ++ r ≡ function_name f ++ (40 ∷ (a ++ (41 ∷ r))) = ap (λ (w : List ℕ). w ++ r) e ∙ simp append_assoc refl in
-        let k = argument_again expr 40 (at + length (function_name f)) (λ at3 y. closed (Call1 at f y)) a (41 ∷ r) x refl (again (argument_place at f) a (41 ∷ r) x h close (omega arith)) in
+        let k = argument_again expr 40 (at + length (function_name f)) (λ at3 y. closed (Call1 at f y)) a (41 ∷ r) x refl (again nn (argument_place at f) a (41 ∷ r) x h close (omega arith)) in
         rw (q, pl) (call_begins at f (a ++ (41 ∷ r)) (may_with f nn) ∙ rw (ar, k) refl)
     call_again at s r (Call2 p f x y) (nn, pl, ar, a, b, e, h, g) lt =
         let len = ap length e in
@@ -237,8 +237,8 @@ module _ (nests : Bool) (expr : ℕ → Read Tree) (Expr : Grammar Tree) where
         let len3 = length-append a (44 ∷ (b ++ (41 ∷ []))) in
         let len4 = length-append b (41 ∷ []) in
         let q : s ++ r ≡ function_name f ++ (40 ∷ (a ++ (44 ∷ (b ++ (41 ∷ r))))) = ap (λ (w : List ℕ). w ++ r) e ∙ simp append_assoc refl in
-        let k = argument_again expr 40 (at + length (function_name f)) (λ at3 u. argument_at expr 44 at3 (λ at4 v. closed (Call2 at f u v))) a (44 ∷ (b ++ (41 ∷ r))) x refl (again (argument_place at f) a (44 ∷ (b ++ (41 ∷ r))) x h comma (omega arith)) in
-        let l = argument_again expr 44 (argument_place at f + length a) (λ at4 v. closed (Call2 at f x v)) b (41 ∷ r) y refl (again ((argument_place at f + length a) + 1) b (41 ∷ r) y g close (omega arith)) in
+        let k = argument_again expr 40 (at + length (function_name f)) (λ at3 u. argument_at expr 44 at3 (λ at4 v. closed (Call2 at f u v))) a (44 ∷ (b ++ (41 ∷ r))) x refl (again nn (argument_place at f) a (44 ∷ (b ++ (41 ∷ r))) x h comma (omega arith)) in
+        let l = argument_again expr 44 (argument_place at f + length a) (λ at4 v. closed (Call2 at f x v)) b (41 ∷ r) y refl (again nn ((argument_place at f + length a) + 1) b (41 ∷ r) y g close (omega arith)) in
         rw (q, pl) (call_begins at f (a ++ (44 ∷ (b ++ (41 ∷ r)))) (may_with f nn) ∙ rw ar (k ∙ l))
     call_again at s r (Call3 p f x y z) (nn, pl, ar, a, b, c, e, h, g, d) lt =
         let len = ap length e in
@@ -247,9 +247,9 @@ module _ (nests : Bool) (expr : ℕ → Read Tree) (Expr : Grammar Tree) where
         let len4 = length-append b (44 ∷ (c ++ (41 ∷ []))) in
         let len5 = length-append c (41 ∷ []) in
         let q : s ++ r ≡ function_name f ++ (40 ∷ (a ++ (44 ∷ (b ++ (44 ∷ (c ++ (41 ∷ r))))))) = ap (λ (w : List ℕ). w ++ r) e ∙ simp append_assoc refl in
-        let k = argument_again expr 40 (at + length (function_name f)) (λ at3 u. argument_at expr 44 at3 (λ at4 v. argument_at expr 44 at4 (λ at5 w. closed (Call3 at f u v w)))) a (44 ∷ (b ++ (44 ∷ (c ++ (41 ∷ r))))) x refl (again (argument_place at f) a (44 ∷ (b ++ (44 ∷ (c ++ (41 ∷ r))))) x h comma (omega arith)) in
-        let l = argument_again expr 44 (argument_place at f + length a) (λ at4 v. argument_at expr 44 at4 (λ at5 w. closed (Call3 at f x v w))) b (44 ∷ (c ++ (41 ∷ r))) y refl (again ((argument_place at f + length a) + 1) b (44 ∷ (c ++ (41 ∷ r))) y g comma (omega arith)) in
-        let m = argument_again expr 44 (((argument_place at f + length a) + 1) + length b) (λ at5 w. closed (Call3 at f x y w)) c (41 ∷ r) z refl (again ((((argument_place at f + length a) + 1) + length b) + 1) c (41 ∷ r) z d close (omega arith)) in
+        let k = argument_again expr 40 (at + length (function_name f)) (λ at3 u. argument_at expr 44 at3 (λ at4 v. argument_at expr 44 at4 (λ at5 w. closed (Call3 at f u v w)))) a (44 ∷ (b ++ (44 ∷ (c ++ (41 ∷ r))))) x refl (again nn (argument_place at f) a (44 ∷ (b ++ (44 ∷ (c ++ (41 ∷ r))))) x h comma (omega arith)) in
+        let l = argument_again expr 44 (argument_place at f + length a) (λ at4 v. argument_at expr 44 at4 (λ at5 w. closed (Call3 at f x v w))) b (44 ∷ (c ++ (41 ∷ r))) y refl (again nn ((argument_place at f + length a) + 1) b (44 ∷ (c ++ (41 ∷ r))) y g comma (omega arith)) in
+        let m = argument_again expr 44 (((argument_place at f + length a) + 1) + length b) (λ at5 w. closed (Call3 at f x y w)) c (41 ∷ r) z refl (again nn ((((argument_place at f + length a) + 1) + length b) + 1) c (41 ∷ r) z d close (omega arith)) in
         rw (q, pl) (call_begins at f (a ++ (44 ∷ (b ++ (44 ∷ (c ++ (41 ∷ r)))))) (may_with f nn) ∙ rw ar (k ∙ (l ∙ m)))
     call_again at s r (Number p n) h lt = absurd h
     call_again at s r (Dice p g) h lt = absurd h
