@@ -20,11 +20,16 @@ reads_wrapped_at {A} f at p G s r = reads_bind_at at p (λ at2 x. done (f x)) G 
     (record { then = λ a b x y g h. (x, (let n = h.0 in rw (n, append-nil) g), h.1); ends = λ a x g. ([], f x, (refl, refl)) })
     s r (λ at2 x q. reads_done (IsNothing (f x)) (f x) q (refl, refl))
 
+-- nothing, or an operator and another sum
+abbrev pub AfterSum : Grammar Tree → ℕ → Tree → List ℕ → Tree → Type 0
+AfterSum Unary at x s t = IsNothing x s t
+    ⊎ ((b : List ℕ) × (c : List ℕ) × (o : Operator) × (y : Tree) × (s ≡ b ++ c) × (t ≡ Binary at o x y) × CompareOperator at b o × IsSum Unary (at + length b) c y)
+
 module _ (unary : ℕ → Read Tree) (Unary : Grammar Tree) (reads_one : (at : ℕ) (s : List ℕ) → Reads (unary at) (Unary at) s) (some_one : Inhabited Unary) (turns : ℕ) where
   pub reads_product : (at : ℕ) (s : List ℕ) → Reads (product_at unary turns at) (IsProduct Unary at) s
   reads_product at s = reads_chain is_product product_operator_at unary ProductOperator Unary Binary reads_product_operator reads_one some_one turns at s
 
-  some_product : Inhabited (IsProduct Unary)
+  pub some_product : Inhabited (IsProduct Unary)
   some_product = some_chain is_product product_operator_at unary ProductOperator Unary Binary reads_product_operator reads_one some_one
 
   pub reads_sum : (at : ℕ) (s : List ℕ) → Reads (sum_at unary turns at) (IsSum Unary at) s
@@ -33,32 +38,27 @@ module _ (unary : ℕ → Read Tree) (Unary : Grammar Tree) (reads_one : (at : �
   pub some_sum : Inhabited (IsSum Unary)
   some_sum = some_chain is_sum sum_operator_at (product_at unary turns) SumOperator (IsProduct Unary) Binary reads_sum_operator reads_product some_product
 
-  -- nothing, or an operator and another sum
-  abbrev pub AfterSum : ℕ → Tree → List ℕ → Tree → Type 0
-  AfterSum at x s t = IsNothing x s t
-      ⊎ ((b : List ℕ) × (c : List ℕ) × (o : Operator) × (y : Tree) × (s ≡ b ++ c) × (t ≡ Binary at o x y) × CompareOperator at b o × IsSum Unary (at + length b) c y)
-
-  operand_joins : (at : ℕ) (x : Tree) → PlacedSequence at CompareOperator (λ at2 o. Wrapped (Binary at o x) (IsSum Unary at2)) (λ at2. AfterSum at2 x)
+  operand_joins : (at : ℕ) (x : Tree) → PlacedSequence at CompareOperator (λ at2 o. Wrapped (Binary at o x) (IsSum Unary at2)) (λ at2. AfterSum Unary at2 x)
   operand_joins at x = record {
     then = λ b c o t g (y, h, v). inr (b, c, o, y, refl, v, g, h);
     ends = λ b o g. let w = some_sum (at + length b) in (w.0, Binary at o x w.1, (w.1, w.2, refl));
   }
 
-  pub reads_compared_with : (at : ℕ) (x : Tree) (s : List ℕ) → Reads (compared_with (sum_at unary turns) turns at x) (AfterSum at x) s
-  reads_compared_with at x s = reads_head is_compare (bind_at at compare_operator_at (λ at2 o. bind_at at2 (sum_at unary turns) (λ at3 y. done (Binary at o x y)))) (done x) (AfterSum at x) s
-      (λ b t e. reads_bind_at at compare_operator_at (λ at2 o. bind_at at2 (sum_at unary turns) (λ at3 y. done (Binary at o x y))) CompareOperator (λ at2 o. Wrapped (Binary at o x) (IsSum Unary at2)) (λ at2. AfterSum at2 x) (operand_joins at x) (b ∷ t)
+  pub reads_compared_with : (at : ℕ) (x : Tree) (s : List ℕ) → Reads (compared_with (sum_at unary turns) turns at x) (AfterSum Unary at x) s
+  reads_compared_with at x s = reads_head is_compare (bind_at at compare_operator_at (λ at2 o. bind_at at2 (sum_at unary turns) (λ at3 y. done (Binary at o x y)))) (done x) (AfterSum Unary at x) s
+      (λ b t e. reads_bind_at at compare_operator_at (λ at2 o. bind_at at2 (sum_at unary turns) (λ at3 y. done (Binary at o x y))) CompareOperator (λ at2 o. Wrapped (Binary at o x) (IsSum Unary at2)) (λ at2. AfterSum Unary at2 x) (operand_joins at x) (b ∷ t)
       (reads_compare_operator at (b ∷ t)) (λ at2 o r. reads_wrapped_at (Binary at o x) at2 (sum_at unary turns) (IsSum Unary) r (reads_sum at2 r)))
-      (λ t. reads_done (AfterSum at x) x t (inl (refl, refl)))
+      (λ t. reads_done (AfterSum Unary at x) x t (inl (refl, refl)))
 
-  compared_then : (at : ℕ) (a s : List ℕ) (x t : Tree) → IsSum Unary at a x → AfterSum (at + length a) x s t → IsCompared Unary at (a ++ s) t
+  compared_then : (at : ℕ) (a s : List ℕ) (x t : Tree) → IsSum Unary at a x → AfterSum Unary (at + length a) x s t → IsCompared Unary at (a ++ s) t
   compared_then at a s x t g (inl (e, v)) = inl (rw (e, v, append-nil) g)
   compared_then at a s x t g (inr (b, c, o, y, e, v, op, h)) = inr (a, b, c, x, o, y, ap (λ (w : List ℕ). a ++ w) e, v, g, op, h)
 
-  compared_joins : (at : ℕ) → PlacedSequence at (IsSum Unary) AfterSum (IsCompared Unary)
+  compared_joins : (at : ℕ) → PlacedSequence at (IsSum Unary) (AfterSum Unary) (IsCompared Unary)
   compared_joins at = record { then = λ a s x t g h. compared_then at a s x t g h; ends = λ a x g. ([], x, inl (refl, refl)) }
 
   pub reads_compared : (at : ℕ) (s : List ℕ) → Reads (compared_at unary turns at) (IsCompared Unary at) s
-  reads_compared at s = reads_bind_at at (sum_at unary turns) (compared_with (sum_at unary turns) turns) (IsSum Unary) AfterSum (IsCompared Unary) (compared_joins at) s
+  reads_compared at s = reads_bind_at at (sum_at unary turns) (compared_with (sum_at unary turns) turns) (IsSum Unary) (AfterSum Unary) (IsCompared Unary) (compared_joins at) s
       (reads_sum at s) (λ at2 x r. reads_compared_with at2 x r)
 
   pub some_compared : Inhabited (IsCompared Unary)
@@ -110,7 +110,7 @@ free_right f g (b ∷ r) h = or_right (f b) (g b) h
 module _ (unary : ℕ → Read Tree) (Unary : Grammar Tree) (turns : ℕ)
     (back_one : (at : ℕ) (b r : List ℕ) (t : Tree) → Unary at b t → Free is_inner r → length b < turns → unary at (b ++ r) ≡ (Some t, r))
     (no_equals : (at : ℕ) (b r : List ℕ) (t : Tree) → Unary at b t → Free (nat_eq 61) (b ++ r)) where
-  product_again : (at : ℕ) (s r : List ℕ) (t : Tree) → IsProduct Unary at s t → Free is_factor r → length s < turns → product_at unary turns at (s ++ r) ≡ (Some t, r)
+  pub product_again : (at : ℕ) (s r : List ℕ) (t : Tree) → IsProduct Unary at s t → Free is_factor r → length s < turns → product_at unary turns at (s ++ r) ≡ (Some t, r)
   product_again at s r t h free lt =
       chain_back is_product is_inner product_operator_at unary ProductOperator Unary Binary turns product_back back_one (λ at2 a o. product_begins is_inner at2 a o refl refl refl) turns at s r t h
       (free_left is_inner is_product r free) (free_right is_inner is_product r free) lt lt

@@ -4,3 +4,4 @@ pub mod Levels
 pub mod Leaves
 pub mod Calls
 pub mod Unaries
+pub mod Statements
