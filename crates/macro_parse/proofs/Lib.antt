@@ -5,3 +5,4 @@ pub mod Leaves
 pub mod Calls
 pub mod Unaries
 pub mod Statements
+pub mod Assignments

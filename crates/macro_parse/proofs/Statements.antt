@@ -47,7 +47,7 @@ module _ (Unary : Grammar Tree) where
   ors_end : (at : ℕ) (x : Tree) → (b : List ℕ) × (t : Tree) × OrsFrom at x b t
   ors_end at x = ([], x, ([], (refl, refl)))
 
-  ands_end : (at : ℕ) (x : Tree) → (b : List ℕ) × (t : Tree) × AndsFrom at x b t
+  pub ands_end : (at : ℕ) (x : Tree) → (b : List ℕ) × (t : Tree) × AndsFrom at x b t
   ands_end at x = ([], x, ([], [], x, refl, ([], (refl, refl)), ([], (refl, refl))))
 
   sum_end : (at : ℕ) (x : Tree) → (b : List ℕ) × (t : Tree) × SumFrom at x b t
