@@ -6,3 +6,4 @@ pub mod Calls
 pub mod Unaries
 pub mod Statements
 pub mod Assignments
+pub mod StatementsAgain

@@ -154,7 +154,7 @@ module _ (Unary : Grammar Tree) where
 -- ---- the rest of an expression is read again
 
 module _ (Op : Grammar Operator) (Operand : Grammar Tree) (inner : ℕ → Bool) (test : ℕ → Bool) (begins : (at : ℕ) (a : List ℕ) (o : Operator) → Op at a o → (c : ℕ) × (w : List ℕ) × (a ≡ c ∷ w) × (test c ≡ true) × (inner c ≡ false)) where
-  steps_free : (at : ℕ) (x : Tree) (s r : List ℕ) (t : Tree) (steps : List (Operator × Tree)) → Steps Op Operand Binary steps at x s t → Free inner r → Free inner (s ++ r)
+  pub steps_free : (at : ℕ) (x : Tree) (s r : List ℕ) (t : Tree) (steps : List (Operator × Tree)) → Steps Op Operand Binary steps at x s t → Free inner r → Free inner (s ++ r)
   steps_free at x s r t [] h free = rw h.0 free
   steps_free at x s r t (step ∷ steps) (a, b, c, e, g, h, st) free = let k = begins at a step.0 g in rw (e, k.2) k.4
 
@@ -168,7 +168,7 @@ module _ (unary : ℕ → Read Tree) (Unary : Grammar Tree) (turns : ℕ)
   ands_free : (at : ℕ) (x : Tree) (b r : List ℕ) (t : Tree) → OrsFrom Unary at x b t → Free is_expression r → Free is_conjunct (b ++ r)
   ands_free at x b r t (steps, st) free = steps_free OrOperator (IsConjunction Unary) is_conjunct (nat_eq 124) (λ at2 a o. or_begins is_conjunct at2 a o refl) at x b r t steps st (free_left is_conjunct (nat_eq 124) r free)
 
-  ands_again : (at : ℕ) (x : Tree) (b r : List ℕ) (t : Tree) → AndsFrom Unary at x b t → Free is_expression r → length b < turns
+  pub ands_again : (at : ℕ) (x : Tree) (b r : List ℕ) (t : Tree) → AndsFrom Unary at x b t → Free is_expression r → length b < turns
       → bind_at at (λ at7. more_at (nat_eq 38) and_operator_at (compared_at unary turns) Binary turns at7 x) (λ at8 w. more_at (nat_eq 124) or_operator_at (conjunction_at unary turns) Binary turns at8 w) (b ++ r) ≡ (Some t, r)
   ands_again at x b r t (c, d, w, e, (steps, st), o) free lt =
       let len : length b ≡ length c + length d = ap length e ∙ length-append c d in
@@ -179,7 +179,7 @@ module _ (unary : ℕ → Read Tree) (Unary : Grammar Tree) (turns : ℕ)
       bind_at_is at (λ at7. more_at (nat_eq 38) and_operator_at (compared_at unary turns) Binary turns at7 x) (λ at8 y. more_at (nat_eq 124) or_operator_at (conjunction_at unary turns) Binary turns at8 y) (b ++ r) c (d ++ r) w (rw p k) p
       ∙ ors_again (at + length c) w d r t o free (omega arith)
 
-  sums_free : (at : ℕ) (x : Tree) (b r : List ℕ) (t : Tree) → AndsFrom Unary at x b t → Free is_expression r → Free is_side (b ++ r)
+  pub sums_free : (at : ℕ) (x : Tree) (b r : List ℕ) (t : Tree) → AndsFrom Unary at x b t → Free is_expression r → Free is_side (b ++ r)
   sums_free at x b r t (c, d, w, e, (steps, st), o) free =
       let p : b ++ r ≡ c ++ (d ++ r) = ap (λ (z : List ℕ). z ++ r) e ∙ append_assoc c d r in
       rw p (steps_free AndOperator (IsCompared Unary) is_side (nat_eq 38) (λ at2 a q. and_begins is_side at2 a q refl) at x c (d ++ r) w steps st (free_left is_side (nat_eq 38) (d ++ r) (ands_free (at + length c) w d r t o free)))
@@ -204,7 +204,7 @@ module _ (unary : ℕ → Read Tree) (Unary : Grammar Tree) (turns : ℕ)
       bind_at_is at (λ at5. compared_with (sum_at unary turns) turns at5 x) (λ at6 u. bind_at at6 (λ at7. more_at (nat_eq 38) and_operator_at (compared_at unary turns) Binary turns at7 u) (λ at8 w. more_at (nat_eq 124) or_operator_at (conjunction_at unary turns) Binary turns at8 w)) (b ++ r) c (d ++ r) v (rw p k) p
       ∙ ands_again (at + length c) v d r t o free (omega arith)
 
-  products_free : (at : ℕ) (x : Tree) (b r : List ℕ) (t : Tree) → SumFrom Unary at x b t → Free is_expression r → Free is_term (b ++ r)
+  pub products_free : (at : ℕ) (x : Tree) (b r : List ℕ) (t : Tree) → SumFrom Unary at x b t → Free is_expression r → Free is_term (b ++ r)
   products_free at x b r t (c, d, v, e, after, o) free =
       let p : b ++ r ≡ c ++ (d ++ r) = ap (λ (z : List ℕ). z ++ r) e ∙ append_assoc c d r in
       rw p (after_free at x v c (d ++ r) after (sums_free (at + length c) v d r t o free))

@@ -150,11 +150,11 @@ not_by c b true e d l q g (inr (inr (inr h))) = let same = eq_means c b e in let
 pub start_not : (c b : ℕ) → is_digit c ≡ false → is_letter c ≡ false → nat_eq 34 c ≡ false → nat_eq 40 c ≡ false → Start b → nat_eq c b ≡ false
 start_not c b d l q g h = not_by c b (nat_eq c b) refl d l q g h
 
-name_start : (s : List ℕ) → IsName s → (b : ℕ) × (w : List ℕ) × (s ≡ b ∷ w) × IsLetter b
+pub name_start : (s : List ℕ) → IsName s → (b : ℕ) × (w : List ℕ) × (s ≡ b ∷ w) × IsLetter b
 name_start [] h = absurd h
 name_start (b ∷ s) h = (b, s, refl, h.0)
 
-number_start : (most : ℕ) (s : List ℕ) (n : ℕ) → IsNumber most s n → (b : ℕ) × (w : List ℕ) × (s ≡ b ∷ w) × IsDigit b
+pub number_start : (most : ℕ) (s : List ℕ) (n : ℕ) → IsNumber most s n → (b : ℕ) × (w : List ℕ) × (s ≡ b ∷ w) × IsDigit b
 number_start most [] n h = absurd h
 number_start most (b ∷ s) n (inl (e, f, v)) = (b, s, refl, (omega arith, omega arith))
 number_start most (b ∷ s) n (inr (lo, hi, d, l, v)) = (b, s, refl, (omega arith, hi))
@@ -176,7 +176,7 @@ leaf_start at s (Assigned p x u) h = absurd h
 function_start : (f : Function) (s z : List ℕ) → s ≡ function_name f ++ z → (b : ℕ) × (w : List ℕ) × (s ≡ b ∷ w) × IsLetter b
 function_start f s z e = let k = name_start (function_name f) (name_is f) in (k.0, k.1 ++ z, e ∙ ap (λ (w : List ℕ). w ++ z) k.2, k.3)
 
-call_start : (nests : Bool) (Expr : Grammar Tree) (at : ℕ) (s : List ℕ) (t : Tree) → IsCall nests Expr at s t → (b : ℕ) × (w : List ℕ) × (s ≡ b ∷ w) × IsLetter b
+pub call_start : (nests : Bool) (Expr : Grammar Tree) (at : ℕ) (s : List ℕ) (t : Tree) → IsCall nests Expr at s t → (b : ℕ) × (w : List ℕ) × (s ≡ b ∷ w) × IsLetter b
 call_start nests Expr at s (Call0 p f) (pl, ar, e) = function_start f s (40 ∷ (41 ∷ [])) e
 call_start nests Expr at s (Call1 p f x) (nn, pl, ar, a, e, h) = function_start f s (40 ∷ (a ++ (41 ∷ []))) e
 call_start nests Expr at s (Call2 p f x y) (nn, pl, ar, a, b, e, h, g) = function_start f s (40 ∷ (a ++ (44 ∷ (b ++ (41 ∷ []))))) e
@@ -206,7 +206,7 @@ letter_by c b true e l h = let same = eq_means c b e in let t : is_letter c ≡ 
 not_letter_byte : (c b : ℕ) → is_letter c ≡ false → IsLetter b → nat_eq c b ≡ false
 not_letter_byte c b l h = letter_by c b (nat_eq c b) refl l h
 
-start_no_blank : (b : ℕ) → Start b → is_blank b ≡ false
+pub start_no_blank : (b : ℕ) → Start b → is_blank b ≡ false
 start_no_blank b (inl h) = grind (arith, nat_tests)
 start_no_blank b (inr (inl h)) = grind (arith, nat_tests)
 start_no_blank b (inr (inr (inl h))) = rw h refl
@@ -285,7 +285,7 @@ module _ (nests : Bool) (expr : ℕ → Read Tree) (Expr : Grammar Tree) (stops 
   atom_again at s r t (inr (inr h)) free no_bracket lt = grouped_again at s r t h lt
 
 -- blanks put nothing before a test that isn't theirs
-blanks_free : (test : ℕ → Bool) (v r : List ℕ) → test 32 ≡ false → AreBlanks v → Free test r → Free test (v ++ r)
+pub blanks_free : (test : ℕ → Bool) (v r : List ℕ) → test 32 ≡ false → AreBlanks v → Free test r → Free test (v ++ r)
 blanks_free test [] r e h free = free
 blanks_free test (b ∷ v) r e h free = let k = h.0 in rw k e
 
