@@ -7,3 +7,4 @@ pub mod Unaries
 pub mod Statements
 pub mod Assignments
 pub mod StatementsAgain
+pub mod Options

@@ -8,7 +8,7 @@ use Rattle.macro_parse.specs.declared.nodes.Operator.{Operator}
 use Rattle.macro_parse.specs.declared.nodes.Operator.TheVariants.{Or, And, Equal, NotEqual, LessOrEqual, GreaterOrEqual, Less, Greater, Add, Subtract, Multiply, Divide, Remainder}
 use Rattle.macro_parse.specs.declared.nodes.Function.{Function}
 use Rattle.macro_parse.specs.declared.nodes.Function.TheVariants.{Prop, Own, Secret, Has, SetProp, SetOwn, Arg, Argc, Min, Max, Abs, Len, Num}
-use Rattle.macro_parse.specs.Tree.{Tree, Number, Dice, Quoted, Name, Call0, Call1, Call2, Call3, Negated, Inverted, Binary, Assigned, Address, Receivers, Hidden, Master, Runner, Both, Whisper, Branch, If, Count, Options, Addressed, Branched, AddressFirst, BranchFirst, Piece, Plain, Roll}
+use Rattle.macro_parse.specs.Tree.{Tree, Number, Dice, Quoted, Name, Call0, Call1, Call2, Call3, Negated, Inverted, Binary, Assigned, Address, Receivers, Hidden, Master, Runner, Both, Whisper, Branch, If, Count, Options, Addressed, Branched, AddressFirst, BranchFirst, Piece, Plain, Roll, FirstOption, ForWhom, OnWhat}
 use Rattle.macro_parse.specs.Grammar.{function_name, arity, is_quote, is_bracket, has_if}
 
 -- ---- blanks, names, functions
@@ -208,3 +208,89 @@ unfoldable pub statement_at : ℕ → ℕ → ℕ → Read Tree
 statement_at depth turns at = bind_at at (λ _. blanks_at) (λ at2 _. on_head is_letter
     (bind_at at2 (λ at3. then_blanks (word_at true (expr_at depth turns) at3)) (after_word (unary_at turns (suc depth)) turns))
     (expr_at (suc depth) turns at2))
+
+-- ---- options; depth is one less than how many may nest
+
+-- "(", an expression and ")"
+abbrev pub bracketed_at : {A : Type 0} → ℕ → ℕ → (Tree → A) → ℕ → Read A
+bracketed_at depth turns mk at = argument_at (expr_at (suc depth) turns) 40 at (λ at2 x. closed (mk x))
+
+abbrev pub letter_at : {A : Type 0} → ℕ → A → Read A
+letter_at byte x = bind (item (nat_eq byte)) (λ _. done x)
+
+unfoldable pub address_word_at : ℕ → ℕ → ℕ → Read Address
+address_word_at depth turns at = on_head (nat_eq 114) (letter_at 114 (Receivers at))
+    (on_head (nat_eq 104) (letter_at 104 (Hidden at))
+    (on_head (nat_eq 115) (letter_at 115 (Runner at))
+    (on_head (nat_eq 103) (bind (item (nat_eq 103)) (λ _. on_head (nat_eq 115) (letter_at 115 (Both at)) (done (Master at))))
+    (bind_at at (λ _. item (nat_eq 119)) (λ at2 _. bracketed_at depth turns (Whisper at) at2)))))
+
+-- so many bytes one after the other
+abbrev pub bytes_at : List ℕ → Read (List ℕ)
+bytes_at [] = done []
+bytes_at (b ∷ s) = bind (item (nat_eq b)) (λ _. bytes_at s)
+
+unfoldable pub branch_word_at : ℕ → ℕ → ℕ → Read Branch
+branch_word_at depth turns at = on_head (nat_eq 105)
+    (bind_at at (λ _. bytes_at (105 ∷ (102 ∷ []))) (λ at2 _. bracketed_at depth turns (If at) at2))
+    (bind_at at (λ _. bytes_at (99 ∷ (111 ∷ (117 ∷ (110 ∷ (116 ∷ [])))))) (λ at2 _. bracketed_at depth turns (Count at) at2))
+
+-- with blanks on both sides
+abbrev pub between_at : {A : Type 0} → (ℕ → Read A) → ℕ → Read A
+between_at word at = bind_at at (λ _. blanks_at) (λ at2 _. bind (word at2) (λ x. bind blanks_at (λ _. done x)))
+
+abbrev pub is_branch_letter : ℕ → Bool
+is_branch_letter b = nat_eq 105 b || nat_eq 99 b
+
+abbrev pub first_word_at : ℕ → ℕ → ℕ → Read FirstOption
+first_word_at depth turns at = on_head is_branch_letter (bind (branch_word_at depth turns at) (λ y. done (OnWhat y))) (bind (address_word_at depth turns at) (λ x. done (ForWhom x)))
+
+-- an option of the other kind
+abbrev pub second_option : ℕ → ℕ → FirstOption → ℕ → Read Options
+second_option depth turns (ForWhom x) at = bind (between_at (branch_word_at depth turns) at) (λ y. done (AddressFirst x y))
+second_option depth turns (OnWhat y) at = bind (between_at (address_word_at depth turns) at) (λ x. done (BranchFirst y x))
+
+abbrev pub alone : FirstOption → Options
+alone (ForWhom x) = Addressed x
+alone (OnWhat y) = Branched y
+
+unfoldable pub options_at : ℕ → ℕ → ℕ → Read Options
+options_at depth turns at = bind_at at (between_at (first_word_at depth turns)) (λ at2 o. on_head (nat_eq 44) (bind_at at2 (λ _. item (nat_eq 44)) (λ at3 _. second_option depth turns o at3)) (done (alone o)))
+
+-- ---- rolls and pieces
+
+abbrev pub roll_end : ℕ → ℕ → ℕ → Options → ℕ → Tree → Read Piece
+roll_end depth turns at o at5 x = on_head (λ b. has_if o && nat_eq 59 b)
+    (bind_at at5 (λ _. item (nat_eq 59)) (λ at6 _. bind_at at6 (statement_at depth turns) (λ at7 y. letter_at 93 (Roll at o x (Some y)))))
+    (letter_at 93 (Roll at o x None))
+
+unfoldable pub roll_at : ℕ → ℕ → ℕ → Read Piece
+roll_at depth turns at = bind_at at (λ _. item (nat_eq 91)) (λ at2 _. bind_at at2 (options_at depth turns) (λ at3 o. bind_at at3 (λ _. item (nat_eq 58)) (λ at4 _. bind_at at4 (statement_at depth turns) (roll_end depth turns at o))))
+
+-- plain text up to a roll or the end; behind says that a backslash came last
+abbrev pub plain_text : Bool → Read (List ℕ)
+plain_text false [] = (Some [], [])
+plain_text true [] = (None, [])
+plain_text true (b ∷ s) = cond (is_bracket b) (carry (λ m. done (b ∷ m)) (plain_text false s).0 (plain_text false s).1) (None, b ∷ s)
+plain_text false (b ∷ s) = cond (nat_eq 91 b) (Some [], b ∷ s) (cond (nat_eq 93 b) (None, b ∷ s) (cond (nat_eq 92 b) (plain_text true s) (carry (λ m. done (b ∷ m)) (plain_text false s).0 (plain_text false s).1)))
+
+-- no byte is left
+abbrev pub at_end : {A : Type 0} → A → Read A
+at_end x [] = (Some x, [])
+at_end x (b ∷ s) = (None, b ∷ s)
+
+-- x at the text's end
+abbrev pub unless_end : {A : Type 0} → A → Read A → Read A
+unless_end x p [] = (Some x, [])
+unless_end x p (b ∷ s) = p (b ∷ s)
+
+abbrev pub pieces_at : ℕ → ℕ → ℕ → ℕ → Read (List Piece)
+pieces_at depth room zero at s = (None, s)
+pieces_at depth room (suc turns) at s = on_head (nat_eq 91)
+    (bind_at at (roll_at depth room) (λ at2 p. bind (pieces_at depth room turns at2) (λ ps. done (p ∷ ps))))
+    (unless_end [] (bind_at at (λ _. plain_text false) (λ at2 m. on_head (nat_eq 91)
+    (bind_at at2 (roll_at depth room) (λ at3 p. bind (pieces_at depth room turns at3) (λ ps. done (Plain at m ∷ (p ∷ ps)))))
+    (at_end (Plain at m ∷ []))))) s
+
+unfoldable pub macro_at : ℕ → ℕ → Read (List Piece)
+macro_at depth turns = pieces_at depth turns turns 0

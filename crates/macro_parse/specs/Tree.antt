@@ -44,3 +44,8 @@ pub data Options : Type 0 where
 pub data Piece : Type 0 where
   Plain : (at : ℕ) → (text : List ℕ) → Piece
   Roll : (at : ℕ) → Options → Tree → Option Tree → Piece
+
+-- the option that stands first
+pub data FirstOption : Type 0 where
+  ForWhom : Address → FirstOption
+  OnWhat : Branch → FirstOption
