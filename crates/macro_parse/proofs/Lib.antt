@@ -8,3 +8,4 @@ pub mod Statements
 pub mod Assignments
 pub mod StatementsAgain
 pub mod Options
+pub mod RollsAgain

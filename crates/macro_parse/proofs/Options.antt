@@ -70,7 +70,7 @@ module _ (depth : ℕ) where
   some_bracketed : {A : Type 0} (mk : Tree → A) → Inhabited (Bracketed mk)
   some_bracketed mk at = let w = some_expr (suc depth) (at + 1) in (40 ∷ (w.0 ++ (41 ∷ [])), mk w.1, (w.0, w.1, refl, w.2, refl))
 
-  bracket_again : {A : Type 0} (turns : ℕ) (mk : Tree → A) (at : ℕ) (a z : List ℕ) (x : Tree) → IsExpr (suc depth) (at + 1) a x → length a < turns → bracketed_at depth turns mk at (40 ∷ (a ++ (41 ∷ z))) ≡ (Some (mk x), z)
+  pub bracket_again : {A : Type 0} (turns : ℕ) (mk : Tree → A) (at : ℕ) (a z : List ℕ) (x : Tree) → IsExpr (suc depth) (at + 1) a x → length a < turns → bracketed_at depth turns mk at (40 ∷ (a ++ (41 ∷ z))) ≡ (Some (mk x), z)
   bracket_again turns mk at a z x h lt = argument_again (expr_at (suc depth) turns) 40 at (λ at2 u. closed (mk u)) a (41 ∷ z) x refl (expr_again (suc depth) turns (at + 1) a (41 ∷ z) x h refl lt)
 
   -- ---- words of addresses

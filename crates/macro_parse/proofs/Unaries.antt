@@ -195,7 +195,7 @@ atom_start nests Expr at s t (inl h) = leaf_start at s t h
 atom_start nests Expr at s t (inr (inl h)) = let k = call_start nests Expr at s t h in (k.0, k.1, k.2, inr (inl k.3))
 atom_start nests Expr at s t (inr (inr (nn, a, e, h))) = (40, a ++ (41 ∷ []), e, inr (inr (inr refl)))
 
-and_false : (v : Bool) → v && false ≡ false
+pub and_false : (v : Bool) → v && false ≡ false
 and_false true = refl
 and_false false = refl
 
