@@ -9,3 +9,4 @@ pub mod Assignments
 pub mod StatementsAgain
 pub mod Options
 pub mod RollsAgain
+pub mod Pieces

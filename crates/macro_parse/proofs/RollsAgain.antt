@@ -33,7 +33,7 @@ module _ (depth turns : ℕ) where
   branch_again : (at : ℕ) (a r : List ℕ) (y : Branch) → IsBranchWord (suc depth) at a y → length a < turns → branch_word_at depth turns at (a ++ r) ≡ (Some y, r)
   unfolding branch_word_at
   branch_again at a r (If p x) (pl, b, e, h) lt =
-      let w = 105 ∷ (102 ∷ []) in
+      let w : List ℕ = 105 ∷ (102 ∷ []) in
       let z = 40 ∷ (b ++ (41 ∷ r)) in
       let three : (at + 2) + 1 ≡ at + 3 = omega arith in
       let len : length a ≡ suc (suc (suc (length b + 1))) = ap length e ∙ ap (λ (n : ℕ). suc (suc (suc n))) (length-append b (41 ∷ [])) in
@@ -41,7 +41,7 @@ module _ (depth turns : ℕ) where
       let k = bracket_again depth turns (If at) (at + 2) b r x (rw three h) (omega arith) in
       rw (q, pl) (bind_at_is at (λ _. bytes_at w) (λ at2 _. bracketed_at depth turns (If at) at2) (w ++ z) w z [] (bytes_again w z) refl ∙ k)
   branch_again at a r (Count p x) (pl, b, e, h) lt =
-      let w = 99 ∷ (111 ∷ (117 ∷ (110 ∷ (116 ∷ [])))) in
+      let w : List ℕ = 99 ∷ (111 ∷ (117 ∷ (110 ∷ (116 ∷ [])))) in
       let z = 40 ∷ (b ++ (41 ∷ r)) in
       let six : (at + 5) + 1 ≡ at + 6 = omega arith in
       let len : length a ≡ suc (suc (suc (suc (suc (suc (length b + 1)))))) = ap length e ∙ ap (λ (n : ℕ). suc (suc (suc (suc (suc (suc n)))))) (length-append b (41 ∷ [])) in
