@@ -1,6 +1,8 @@
 //! Macro texts, read by their grammar.
 #![tactic(auto)]
 
+mod laws;
 mod nodes;
 
+pub use laws::one_reading;
 pub use nodes::{Function, Operator};
