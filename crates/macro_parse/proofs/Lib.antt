@@ -1,3 +1,4 @@
+pub mod Scans
 pub mod Names
 pub mod Operators
 pub mod Levels

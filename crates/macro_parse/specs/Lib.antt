@@ -1,3 +1,4 @@
 pub mod Tree
 pub mod Grammar
 pub mod Readers
+pub mod Found

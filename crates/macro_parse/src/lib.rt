@@ -2,6 +2,7 @@
 #![tactic(auto)]
 
 mod laws;
+mod atoms;
 mod nodes;
 
 pub use laws::one_reading;
