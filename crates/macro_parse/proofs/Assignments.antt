@@ -106,9 +106,13 @@ module _ (depth : ℕ) where
   unary_blanks : (at : ℕ) (w s : List ℕ) (x : Tree) → AreBlanks w → IsUnary (suc depth) (at + length w) s x → IsUnary (suc depth) at (w ++ s) x
   unary_blanks at w s x bl (v, b, e, bl2, h) =
       let whole : w ++ s ≡ (w ++ v) ++ b = ap (λ (z : List ℕ). w ++ z) e ∙ sym (append_assoc w v b) in
-      let place = place_front at w v in
-      (w ++ v, b, whole, blanks_append w v bl bl2,
-       subst (λ (n : ℕ). IsPrefixed true (IsUnary depth) n b x ⊎ WithBlanks (IsAtom true (IsExpr depth)) n b x) place h)
+      let place = place_front at w v in (
+        w ++ v,
+        b,
+        whole,
+        blanks_append w v bl bl2,
+        subst (λ (n : ℕ). IsPrefixed true (IsUnary depth) n b x ⊎ WithBlanks (IsAtom true (IsExpr depth)) n b x) place h,
+      )
 
   pub expr_blanks : (at : ℕ) (w s : List ℕ) (t : Tree) → AreBlanks w → IsExpr (suc depth) (at + length w) s t → IsExpr (suc depth) at (w ++ s) t
   expr_blanks at w s t bl h =
@@ -124,8 +128,15 @@ module _ (depth : ℕ) where
       let sum2 = subst (λ (n : ℕ). IsSum (IsUnary (suc depth)) n c y) two h in
       let len : at + length (61 ∷ (61 ∷ c)) ≡ ((at + 1) + 1) + length c = omega arith in
       let rest : ProductFrom (IsUnary (suc depth)) at x (61 ∷ (61 ∷ b)) t
-            = ([], 61 ∷ (61 ∷ b), x, refl, ([], (refl, refl)), subst (λ (n : ℕ). SumFrom (IsUnary (suc depth)) n x (61 ∷ (61 ∷ b)) t) (sym zero1)
-              (61 ∷ (61 ∷ c), d, Binary at Equal x y, ap (λ (z : List ℕ). 61 ∷ (61 ∷ z)) e, inr (61 ∷ (61 ∷ []), c, Equal, y, refl, refl, (refl, inl refl), sum2), subst (λ (n : ℕ). AndsFrom (IsUnary (suc depth)) n (Binary at Equal x y) d t) (sym len) ands)) in
+      = (
+        [],
+        61 ∷ (61 ∷ b),
+        x,
+        refl,
+        ([], (refl, refl)),
+        subst (λ (n : ℕ). SumFrom (IsUnary (suc depth)) n x (61 ∷ (61 ∷ b)) t) (sym zero1)
+            (61 ∷ (61 ∷ c), d, Binary at Equal x y, ap (λ (z : List ℕ). 61 ∷ (61 ∷ z)) e, inr (61 ∷ (61 ∷ []), c, Equal, y, refl, refl, (refl, inl refl), sum2), subst (λ (n : ℕ). AndsFrom (IsUnary (suc depth)) n (Binary at Equal x y) d t) (sym len) ands),
+      ) in
       ([], 61 ∷ (61 ∷ b), x, refl, ([], (refl, refl)), subst (λ (n : ℕ). ProductFrom (IsUnary (suc depth)) n x (61 ∷ (61 ∷ b)) t) (sym zero1) rest)
 
   word_unary : (at : ℕ) (w a : List ℕ) (x : Tree) → AreBlanks w → WithBlanks (IsWord true (expr_at depth 0) (IsExpr depth)) (at + length w) a x → IsUnary (suc depth) at (w ++ a) x

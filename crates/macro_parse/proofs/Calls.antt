@@ -43,8 +43,10 @@ pub reads_argument : {B : Type 0} (expr : ℕ → Read Tree) (Expr : Grammar Tre
     → Reads (argument_at expr separator at k) (Argument Expr separator K at) s
 reads_argument expr Expr separator at k K s same reads some ends reads_k =
     reads_bind_at at (λ _. item (nat_eq separator)) (λ at2 _. bind_at at2 expr k) (λ _. IsItem (nat_eq separator)) (λ at2 _. ThenAt Expr K at2) (Argument Expr separator K)
-    (record { then = λ a b c y g h. argument_then Expr separator K at a b c y g h;
-              ends = λ a c g. let w = some (at + length a) in let e = ends ((at + length a) + length w.0) w.1 in (w.0 ++ e.0, e.1, (w.0, e.0, w.1, refl, w.2, e.2)) }) s
+    (record {
+      then = λ a b c y g h. argument_then Expr separator K at a b c y g h;
+      ends = λ a c g. let w = some (at + length a) in let e = ends ((at + length a) + length w.0) w.1 in (w.0 ++ e.0, e.1, (w.0, e.0, w.1, refl, w.2, e.2));
+    }) s
     (reads_item (nat_eq separator) (only separator same) s) (λ at2 c r. reads_then_at at2 expr k Expr K r ends (reads at2 r) reads_k)
 
 pub reads_closed : {A : Type 0} (x : A) (s : List ℕ) → Reads (closed x) (Wrapped (λ _. x) (IsItem (nat_eq 41))) s

@@ -124,9 +124,14 @@ module _ (Unary : Grammar Tree) where
 
   after_product : (at : ℕ) (s b t1 : List ℕ) (y t : Tree) → IsProduct Unary at s y → ProductFrom Unary (at + length s) y b t → t1 ≡ s ++ b
       → (a : List ℕ) × (c : List ℕ) × (x : Tree) × (t1 ≡ a ++ c) × Unary at a x × UnaryFrom Unary (at + length a) x c t
-  after_product at s b t1 y t (a, c, x, steps, e, u, st) rest whole =
-      (a, c ++ b, x, whole ∙ (ap (λ (w : List ℕ). w ++ b) e ∙ append_assoc a c b), u,
-       (c, b, y, refl, (steps, st), subst (λ (n : ℕ). ProductFrom Unary n y b t) (ap (λ (w : List ℕ). at + length w) e ∙ sym (place_front at a c)) rest))
+  after_product at s b t1 y t (a, c, x, steps, e, u, st) rest whole = (
+    a,
+    c ++ b,
+    x,
+    whole ∙ (ap (λ (w : List ℕ). w ++ b) e ∙ append_assoc a c b),
+    u,
+    (c, b, y, refl, (steps, st), subst (λ (n : ℕ). ProductFrom Unary n y b t) (ap (λ (w : List ℕ). at + length w) e ∙ sym (place_front at a c)) rest),
+  )
 
   after_sum : (at : ℕ) (s b t1 : List ℕ) (y t : Tree) → IsSum Unary at s y → SumFrom Unary (at + length s) y b t → t1 ≡ s ++ b
       → (a : List ℕ) × (c : List ℕ) × (x : Tree) × (t1 ≡ a ++ c) × Unary at a x × UnaryFrom Unary (at + length a) x c t
@@ -175,7 +180,7 @@ module _ (unary : ℕ → Read Tree) (Unary : Grammar Tree) (turns : ℕ)
       let p : b ++ r ≡ c ++ (d ++ r) = ap (λ (z : List ℕ). z ++ r) e ∙ append_assoc c d r in
       let f = ands_free (at + length c) w d r t o free in
       let k = more_back (nat_eq 38) is_side and_operator_at (compared_at unary turns) AndOperator (IsCompared Unary) Binary turns and_back (compared_again unary Unary turns back_one no_equals) (λ at2 a q. and_begins is_side at2 a q refl) turns at x c (d ++ r) w steps st
-          (free_left is_side (nat_eq 38) (d ++ r) f) (free_right is_side (nat_eq 38) (d ++ r) f) (omega arith) (omega arith) in
+      (free_left is_side (nat_eq 38) (d ++ r) f) (free_right is_side (nat_eq 38) (d ++ r) f) (omega arith) (omega arith) in
       bind_at_is at (λ at7. more_at (nat_eq 38) and_operator_at (compared_at unary turns) Binary turns at7 x) (λ at8 y. more_at (nat_eq 124) or_operator_at (conjunction_at unary turns) Binary turns at8 y) (b ++ r) c (d ++ r) w (rw p k) p
       ∙ ors_again (at + length c) w d r t o free (omega arith)
 
@@ -216,7 +221,7 @@ module _ (unary : ℕ → Read Tree) (Unary : Grammar Tree) (turns : ℕ)
       let p : b ++ r ≡ c ++ (d ++ r) = ap (λ (z : List ℕ). z ++ r) e ∙ append_assoc c d r in
       let f = products_free (at + length c) v d r t o free in
       let k = more_back is_sum is_factor sum_operator_at (product_at unary turns) SumOperator (IsProduct Unary) Binary turns sum_back (product_again unary Unary turns back_one no_equals) (λ at2 a q. sum_begins is_factor at2 a q refl refl) turns at x c (d ++ r) v steps st
-          (free_left is_factor is_sum (d ++ r) f) (free_right is_factor is_sum (d ++ r) f) (omega arith) (omega arith) in
+      (free_left is_factor is_sum (d ++ r) f) (free_right is_factor is_sum (d ++ r) f) (omega arith) (omega arith) in
       bind_at_is at (λ at3. more_at is_sum sum_operator_at (product_at unary turns) Binary turns at3 x) (λ at4 z. bind_at at4 (λ at5. compared_with (sum_at unary turns) turns at5 z) (λ at6 u. bind_at at6 (λ at7. more_at (nat_eq 38) and_operator_at (compared_at unary turns) Binary turns at7 u) (λ at8 w. more_at (nat_eq 124) or_operator_at (conjunction_at unary turns) Binary turns at8 w))) (b ++ r) c (d ++ r) v (rw p k) p
       ∙ sum_from_again (at + length c) v d r t o free (omega arith)
 
@@ -231,7 +236,7 @@ module _ (unary : ℕ → Read Tree) (Unary : Grammar Tree) (turns : ℕ)
       let p : b ++ r ≡ c ++ (d ++ r) = ap (λ (z : List ℕ). z ++ r) e ∙ append_assoc c d r in
       let f = units_free (at + length c) v d r t o free in
       let k = more_back is_product is_inner product_operator_at unary ProductOperator Unary Binary turns product_back back_one (λ at2 a q. product_begins is_inner at2 a q refl refl refl) turns at x c (d ++ r) v steps st
-          (free_left is_inner is_product (d ++ r) f) (free_right is_inner is_product (d ++ r) f) (omega arith) (omega arith) in
+      (free_left is_inner is_product (d ++ r) f) (free_right is_inner is_product (d ++ r) f) (omega arith) (omega arith) in
       bind_at_is at (λ at1. more_at is_product product_operator_at unary Binary turns at1 x) (λ at2 y. bind_at at2 (λ at3. more_at is_sum sum_operator_at (product_at unary turns) Binary turns at3 y) (λ at4 z. bind_at at4 (λ at5. compared_with (sum_at unary turns) turns at5 z) (λ at6 u. bind_at at6 (λ at7. more_at (nat_eq 38) and_operator_at (compared_at unary turns) Binary turns at7 u) (λ at8 w. more_at (nat_eq 124) or_operator_at (conjunction_at unary turns) Binary turns at8 w)))) (b ++ r) c (d ++ r) v (rw p k) p
       ∙ product_from_again (at + length c) v d r t o free (omega arith)
 

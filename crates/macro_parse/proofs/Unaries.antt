@@ -312,7 +312,7 @@ module _ (nests : Bool) (unary : ℕ → Read Tree) (Unary : Grammar Tree) (turn
       let names = free_left is_name_byte (nat_eq 40) r (free_right is_blank (λ b. is_name_byte b || nat_eq 40 b) r free) in
       let bracket = free_right is_name_byte (nat_eq 40) r (free_right is_blank (λ b. is_name_byte b || nat_eq 40 b) r free) in
       let k = atom_again nests (expression_at unary turns) (IsExpression Unary) is_expression refl refl turns (λ nn at2 b z u g f l. expression_again unary Unary turns (back_one nn) (no_equals nn) at2 b z u g f l)
-          at a (v ++ r) t h (blanks_free is_name_byte v r refl bl names) (blanks_free (nat_eq 40) v r refl bl bracket) (omega arith) in
+      at a (v ++ r) t h (blanks_free is_name_byte v r refl bl names) (blanks_free (nat_eq 40) v r refl bl bracket) (omega arith) in
       let l = blanks_back v r bl (free_left is_blank (λ b. is_name_byte b || nat_eq 40 b) r free) in
       rw (p, k, l) refl
 

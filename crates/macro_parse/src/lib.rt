@@ -1,8 +1,8 @@
 //! Macro texts, read by their grammar.
 #![tactic(auto)]
 
-mod laws;
 mod atoms;
+mod laws;
 mod nodes;
 
 pub use laws::one_reading;
