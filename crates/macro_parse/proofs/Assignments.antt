@@ -1,25 +1,21 @@
 -- Statements, as they are read against the grammar's, and read again.
-use Rattle.std.proofs.Common.{◌≡◌, ℕ, zero, suc, ◌+◌, ◌-◌, ◌<◌, ◌≤◌, Bool, true, false, ◌&&◌, ◌||◌, List, [], ◌∷◌, ◌++◌, length, Option, Some, None, refl, sym, ap, subst, ◌∙◌, append_assoc, append-nil, add_assoc, add-zero, arith, inl, inr, ◌⊎◌}
+use Rattle.std.proofs.Common.{◌≡◌, ℕ, suc, ◌+◌, true, List, [], ◌∷◌, ◌++◌, length, refl, sym, ap, subst, ◌∙◌, append_assoc, add-zero, arith, inl, inr, ◌⊎◌}
 use Rattle.std.specs.Prelude.{nat_eq}
-use Rattle.std.proofs.lemmas.Bool.Decides.{nat_tests}
-use Rattle.std.proofs.lemmas.List.{length-append}
 use Rattle.reading.specs.Reading.{Read, done, bind, on_head, item}
-use Rattle.reading.specs.Number.{IsDigit, is_digit}
-use Rattle.reading.specs.Placed.{Grammar, bind_at, more_at, Steps, Chain}
-use Rattle.reading.proofs.Pairs.{eq_means, Free, head_free, or_left, or_right}
-use Rattle.reading.proofs.Laws.{Reads, Sequence, reads_done, reads_bind, reads_as, reads_item, reads_head, IsItem}
-use Rattle.reading.proofs.Combine.{only, IsNothing, Wrapped, reads_wrapped}
-use Rattle.reading.proofs.Placed.{bind_at_is, on_head_at, PlacedSequence, reads_bind_at, Inhabited, SomeSteps}
-use Rattle.macro_parse.specs.declared.nodes.Operator.{Operator}
+use Rattle.reading.specs.Placed.{Grammar, bind_at}
+use Rattle.reading.proofs.Pairs.{eq_means}
+use Rattle.reading.proofs.Laws.{Reads, reads_as, reads_item, reads_head, IsItem}
+use Rattle.reading.proofs.Combine.{only, Wrapped, reads_wrapped}
+use Rattle.reading.proofs.Placed.{PlacedSequence, reads_bind_at, Inhabited}
 use Rattle.macro_parse.specs.declared.nodes.Operator.TheVariants.{Equal}
 use Rattle.macro_parse.specs.Tree.{Tree, Number, Dice, Quoted, Name, Call0, Call1, Call2, Call3, Negated, Inverted, Binary, Assigned}
-use Rattle.macro_parse.specs.Grammar.{AreBlanks, IsLetter, IsName, IsLeaf, IsCall, IsAtom, IsPrefixed, IsUnaryOf, IsUnary, IsSum, IsExpression, IsExpr, IsAssignment, IsStatement}
-use Rattle.macro_parse.specs.Readers.{is_blank, blanks_at, is_letter, sum_at, compared_at, conjunction_at, and_operator_at, or_operator_at, expression_at, unary_at, expr_at, word_at, then_blanks, expression_from, equal_from, after_name, after_word, statement_at}
-use Rattle.macro_parse.proofs.Names.{TheBlanks, reads_blanks, blanks_back, letter_test}
-use Rattle.macro_parse.proofs.Levels.{some_sum, reads_expression, some_expression, is_expression}
+use Rattle.macro_parse.specs.Grammar.{AreBlanks, IsAtom, IsPrefixed, IsUnary, IsSum, IsExpression, IsExpr, IsStatement}
+use Rattle.macro_parse.specs.Readers.{blanks_at, is_letter, expression_at, unary_at, expr_at, word_at, then_blanks, expression_from, equal_from, after_name, after_word, statement_at}
+use Rattle.macro_parse.proofs.Names.{TheBlanks, reads_blanks}
+use Rattle.macro_parse.proofs.Levels.{some_sum, reads_expression, some_expression}
 use Rattle.macro_parse.proofs.Calls.{ThenAt, reads_then_at, IsWord, reads_word}
 use Rattle.macro_parse.proofs.Unaries.{WithBlanks, reads_then_blanks, reads_unary, some_unary, reads_expr, some_expr}
-use Rattle.macro_parse.proofs.Statements.{OrsFrom, AndsFrom, SumFrom, ProductFrom, UnaryFrom, EqualFrom, ands_end, unary_end, reads_expression_from, reads_equal_from, place_front, unary_join, first_unary}
+use Rattle.macro_parse.proofs.Statements.{AndsFrom, SumFrom, ProductFrom, UnaryFrom, EqualFrom, ands_end, unary_end, reads_expression_from, reads_equal_from, place_front, unary_join, first_unary}
 
 module _ (unary : ℕ → Read Tree) (Unary : Grammar Tree) (reads_one : (at : ℕ) (s : List ℕ) → Reads (unary at) (Unary at) s) (some_one : Inhabited Unary) (turns : ℕ) where
   -- behind "=": the right side of an assignment, or another "=" and the rest of a comparison

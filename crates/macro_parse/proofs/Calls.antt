@@ -1,21 +1,20 @@
 -- Names and calls: each is read as its grammar says, and each word is read again.
-use Rattle.std.proofs.Common.{◌≡◌, ℕ, zero, suc, ◌+◌, ◌-◌, ◌<◌, ◌≤◌, Bool, true, false, ◌&&◌, ◌||◌, cond, List, [], ◌∷◌, ◌++◌, length, Option, Some, None, refl, sym, ap, subst, ◌∙◌, append_assoc, append-nil, arith, inl, inr, ◌⊎◌}
+use Rattle.std.proofs.Common.{◌≡◌, ℕ, zero, suc, ◌+◌, ◌<◌, ◌≤◌, Bool, true, false, ◌&&◌, ◌||◌, List, [], ◌∷◌, ◌++◌, length, Option, Some, None, refl, sym, ap, ◌∙◌, append_assoc, append-nil, arith, inl, inr, ◌⊎◌}
 use Rattle.std.specs.Prelude.{nat_eq}
-use Rattle.std.proofs.lemmas.Bool.Decides.{nat_tests}
 use Rattle.std.proofs.lemmas.List.{length-append}
-use Rattle.reading.specs.Reading.{Read, done, bind, on_head, item}
+use Rattle.reading.specs.Reading.{Read, done, item}
 use Rattle.reading.specs.Placed.{Grammar, bind_at}
-use Rattle.reading.proofs.Pairs.{eq_means, Free, head_free}
-use Rattle.reading.proofs.Laws.{Reads, Sequence, reads_done, reads_bind, reads_as, reads_item, reads_head, IsItem}
-use Rattle.reading.proofs.Combine.{only, Wrapped, reads_wrapped, Then, reads_then}
-use Rattle.reading.proofs.Placed.{bind_at_is, on_head_at, PlacedSequence, reads_bind_at, Inhabited}
+use Rattle.reading.proofs.Pairs.{eq_means, Free}
+use Rattle.reading.proofs.Laws.{Reads, reads_done, reads_bind, reads_as, reads_item, reads_head, IsItem}
+use Rattle.reading.proofs.Combine.{only, Wrapped, reads_wrapped}
+use Rattle.reading.proofs.Placed.{bind_at_is, PlacedSequence, reads_bind_at, Inhabited}
 use Rattle.macro_parse.specs.declared.nodes.Function.{Function}
 use Rattle.macro_parse.specs.declared.nodes.Function.TheVariants.{Prop, Own, Secret, Has, SetProp, SetOwn, Arg, Argc, Min, Max, Abs, Len, Num}
 use Rattle.macro_parse.specs.Tree.{Tree, Number, Dice, Quoted, Name, Call0, Call1, Call2, Call3, Negated, Inverted, Binary, Assigned}
 use Rattle.macro_parse.specs.Grammar.{IsName, function_name, arity, IsLeaf, IsCall, argument_place}
 use Rattle.macro_parse.specs.Readers.{is_name_byte, name_at, function_of, argument_at, closed, arguments_at, may_call, called_at, word_at}
 use Rattle.macro_parse.proofs.Names.{letter_means, TheName, reads_name, name_back, function_means, function_named}
-use Rattle.macro_parse.proofs.Leaves.{and_left, and_right}
+use Rattle.macro_parse.proofs.Leaves.{and_right}
 
 -- ---- separators and arguments
 

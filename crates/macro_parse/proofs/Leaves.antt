@@ -1,20 +1,17 @@
 -- Numbers, dice and quoted texts: each is read as its grammar says, and each word is read again.
-use Rattle.std.proofs.Common.{◌≡◌, ℕ, zero, suc, ◌+◌, ◌-◌, ◌<◌, ◌≤◌, Bool, true, false, ◌&&◌, ◌||◌, cond, List, [], ◌∷◌, ◌++◌, length, Option, Some, None, refl, sym, ap, ◌∙◌, append_assoc, append-nil, arith, inl, inr, ◌⊎◌}
+use Rattle.std.proofs.Common.{◌≡◌, ℕ, ◌+◌, ◌≤◌, Bool, true, false, ◌&&◌, ◌||◌, List, [], ◌∷◌, ◌++◌, length, Option, Some, None, refl, ap, ◌∙◌, append_assoc, append-nil, arith, inl, inr, ◌⊎◌}
 use Rattle.std.specs.Prelude.{nat_eq, nat_le}
 use Rattle.std.proofs.lemmas.Bool.Decides.{nat_tests}
-use Rattle.std.proofs.lemmas.List.{length-append}
-use Rattle.reading.specs.Reading.{Read, done, carry, bind, on_head, item, Begins}
+use Rattle.reading.specs.Reading.{Read, done, bind, on_head, item, Begins}
 use Rattle.reading.specs.Number.{IsNumber, is_digit, number_at}
-use Rattle.reading.specs.Placed.{bind_at}
 use Rattle.reading.proofs.Pairs.{eq_means, Free, head_free, or_left, or_right}
-use Rattle.reading.proofs.Laws.{Fate, Reads, Sequence, reads_done, reads_bind, reads_as, reads_item, reads_head, IsItem}
+use Rattle.reading.proofs.Laws.{Fate, Reads, Sequence, reads_done, reads_bind, reads_item, reads_head, IsItem}
 use Rattle.reading.proofs.Combine.{only, Wrapped, reads_wrapped}
-use Rattle.reading.proofs.Number.{reads_number, number_back, lead_digit}
-use Rattle.reading.proofs.Placed.{bind_at_is, on_head_at, PlacedSequence, reads_bind_at}
+use Rattle.reading.proofs.Number.{reads_number, number_back}
+use Rattle.reading.proofs.Placed.{bind_at_is, PlacedSequence, reads_bind_at}
 use Rattle.dice_parse.specs.declared.parts.Group.{Group}
-use Rattle.dice_parse.specs.Grammar.{IsDie}
 use Rattle.dice_parse.specs.Groups.{IsCounted}
-use Rattle.dice_parse.specs.Readers.{is_kind, die_at}
+use Rattle.dice_parse.specs.Readers.{die_at}
 use Rattle.dice_parse.proofs.Words.{IsDieOf, die_of, reads_die}
 use Rattle.dice_parse.proofs.Back.{is_suffix, die_back}
 use Rattle.macro_parse.specs.Tree.{Tree, Number, Dice, Quoted}

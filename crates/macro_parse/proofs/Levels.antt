@@ -1,11 +1,11 @@
 -- The levels of expressions, given what a unary is: each is read as its grammar says, and each word of it is read again.
-use Rattle.std.proofs.Common.{◌≡◌, ℕ, zero, suc, ◌+◌, ◌-◌, ◌<◌, ◌≤◌, Bool, true, false, ◌||◌, List, [], ◌∷◌, ◌++◌, length, Some, None, refl, sym, ap, ◌∙◌, append_assoc, append-nil, arith, inl, inr, ◌⊎◌}
+use Rattle.std.proofs.Common.{◌≡◌, ℕ, ◌+◌, ◌<◌, Bool, ◌||◌, List, [], ◌∷◌, ◌++◌, length, Some, refl, ap, ◌∙◌, append_assoc, append-nil, arith, inl, inr, ◌⊎◌}
 use Rattle.std.specs.Prelude.{nat_eq}
 use Rattle.std.proofs.lemmas.List.{length-append}
-use Rattle.reading.specs.Reading.{Read, done, on_head}
-use Rattle.reading.specs.Placed.{Grammar, bind_at, Steps, Chain}
+use Rattle.reading.specs.Reading.{Read, done}
+use Rattle.reading.specs.Placed.{Grammar, bind_at}
 use Rattle.reading.proofs.Pairs.{Free, head_free, or_left, or_right}
-use Rattle.reading.proofs.Laws.{Reads, reads_done, reads_as, reads_head}
+use Rattle.reading.proofs.Laws.{Reads, reads_done, reads_head}
 use Rattle.reading.proofs.Combine.{IsNothing, Wrapped}
 use Rattle.reading.proofs.Placed.{bind_at_is, on_head_at, PlacedSequence, reads_bind_at, Inhabited, reads_chain, some_chain, chain_back}
 use Rattle.macro_parse.specs.declared.nodes.Operator.{Operator}

@@ -1,5 +1,5 @@
 -- Blanks and names, as they are read against the grammar's.
-use Rattle.std.proofs.Common.{◌≡◌, ℕ, zero, suc, ◌+◌, ◌-◌, ◌<◌, ◌≤◌, Bool, true, false, ◌&&◌, ◌||◌, cond, eqb, List, [], ◌∷◌, ◌++◌, length, Option, Some, None, refl, sym, ap, ◌∙◌, arith, inl, inr, ◌⊎◌}
+use Rattle.std.proofs.Common.{◌≡◌, ℕ, zero, suc, ◌≤◌, Bool, true, false, ◌&&◌, ◌||◌, cond, List, [], ◌∷◌, ◌++◌, length, Option, Some, None, refl, sym, ap, ◌∙◌, arith, inl, inr, ◌⊎◌}
 use Rattle.std.proofs.lemmas.Bool.Decides.{nat_tests}
 use Rattle.std.specs.Prelude.{nat_eq}
 use Rattle.reading.specs.Reading.{Read, done, carry, bind, item}
@@ -8,10 +8,10 @@ use Rattle.reading.specs.Placed.{many_at}
 use Rattle.reading.proofs.Pairs.{eq_means, Free}
 use Rattle.reading.proofs.Laws.{Fate, Reads, Sequence, reads_bind, reads_item, IsItem, SomeItem}
 use Rattle.reading.proofs.Combine.{Wrapped, reads_wrapped}
-use Rattle.reading.proofs.Number.{digit_means, means_digit}
+use Rattle.reading.proofs.Number.{digit_means}
 use Rattle.macro_parse.specs.declared.nodes.Function.{Function}
 use Rattle.macro_parse.specs.declared.nodes.Function.TheVariants.{Prop, Own, Secret, Has, SetProp, SetOwn, Arg, Argc, Min, Max, Abs, Len, Num}
-use Rattle.macro_parse.specs.Grammar.{AreBlanks, IsLetter, AreNameBytes, IsName, function_name, arity}
+use Rattle.macro_parse.specs.Grammar.{AreBlanks, IsLetter, AreNameBytes, IsName, function_name}
 use Rattle.macro_parse.specs.Readers.{is_blank, blanks_at, is_letter, is_name_byte, name_at, same_bytes, function_among, functions, function_of}
 
 abbrev pub TheBlanks : List ℕ → List ℕ → Type 0

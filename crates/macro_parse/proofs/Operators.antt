@@ -1,8 +1,8 @@
 -- Operators, as they are read against the grammar's.
-use Rattle.std.proofs.Common.{◌≡◌, ℕ, zero, suc, ◌+◌, Bool, true, false, ◌||◌, cond, List, [], ◌∷◌, ◌++◌, length, Option, Some, None, refl, sym, ap, ◌∙◌, arith, inl, inr, ◌⊎◌}
+use Rattle.std.proofs.Common.{◌≡◌, ℕ, Bool, true, false, ◌||◌, cond, List, [], ◌∷◌, ◌++◌, Some, refl, sym, ap, ◌∙◌, inl, inr}
 use Rattle.std.specs.Prelude.{nat_eq}
 use Rattle.reading.specs.Reading.{Read, done, bind, on_head, item}
-use Rattle.reading.proofs.Pairs.{eq_means, Free, or_left, or_right}
+use Rattle.reading.proofs.Pairs.{eq_means, Free}
 use Rattle.reading.proofs.Laws.{Reads, Sequence, reads_done, reads_bind, reads_as, reads_item, reads_head, IsItem, SomeItem}
 use Rattle.reading.proofs.Combine.{only, Wrapped, reads_wrapped, Then, reads_then}
 use Rattle.macro_parse.specs.declared.nodes.Operator.{Operator}

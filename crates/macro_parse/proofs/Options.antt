@@ -1,24 +1,21 @@
 -- Options and rolls, as they are read against the grammar's.
-use Rattle.std.proofs.Common.{◌≡◌, ℕ, zero, suc, ◌+◌, ◌-◌, ◌<◌, ◌≤◌, Bool, true, false, ◌&&◌, ◌||◌, List, [], ◌∷◌, ◌++◌, length, Option, Some, None, refl, sym, ap, subst, ◌∙◌, append_assoc, append-nil, arith, inl, inr, ◌⊎◌}
+use Rattle.std.proofs.Common.{◌≡◌, ℕ, suc, ◌+◌, ◌<◌, true, ◌&&◌, List, [], ◌∷◌, ◌++◌, length, Some, None, refl, sym, ap, subst, ◌∙◌, append-nil, arith, inl, inr, ◌⊎◌}
 use Rattle.std.specs.Prelude.{nat_eq}
 use Rattle.std.proofs.lemmas.Bool.Decides.{nat_tests}
-use Rattle.std.proofs.lemmas.List.{length-append}
 use Rattle.reading.specs.Reading.{Read, done, bind, on_head, item}
 use Rattle.reading.specs.Placed.{Grammar, bind_at}
-use Rattle.reading.proofs.Pairs.{eq_means, Free, head_free}
+use Rattle.reading.proofs.Pairs.{eq_means}
 use Rattle.reading.proofs.Laws.{Reads, Sequence, reads_done, reads_bind, reads_as, reads_item, reads_head, IsItem}
-use Rattle.reading.proofs.Combine.{only, IsNothing, reads_nothing, Wrapped, reads_wrapped}
-use Rattle.reading.proofs.Placed.{bind_at_is, on_head_at, PlacedSequence, reads_bind_at, Inhabited}
-use Rattle.macro_parse.specs.Tree.{Tree, Address, Receivers, Hidden, Master, Runner, Both, Whisper, Branch, If, Count, Options, Addressed, Branched, AddressFirst, BranchFirst, Piece, Plain, Roll, FirstOption, ForWhom, OnWhat}
-use Rattle.macro_parse.specs.Grammar.{AreBlanks, IsExpr, IsStatement, IsAddressWord, IsBranchWord, BetweenBlanks, IsAddress, IsBranch, AreOptions, has_if, is_if, IsRoll}
-use Rattle.macro_parse.specs.Readers.{is_blank, blanks_at, expr_at, argument_at, closed, bracketed_at, letter_at, address_word_at, bytes_at, branch_word_at, between_at, is_branch_letter, first_word_at, second_option, alone, options_at, statement_at, roll_end, roll_at}
-use Rattle.macro_parse.proofs.Names.{TheBlanks, reads_blanks, blanks_back}
-use Rattle.macro_parse.proofs.Leaves.{and_left, and_right}
-use Rattle.macro_parse.proofs.Levels.{is_expression}
+use Rattle.reading.proofs.Combine.{only, IsNothing, Wrapped, reads_wrapped}
+use Rattle.reading.proofs.Placed.{bind_at_is, reads_bind_at, Inhabited}
+use Rattle.macro_parse.specs.Tree.{Tree, Address, Receivers, Hidden, Master, Runner, Both, Whisper, Branch, If, Count, Options, Addressed, AddressFirst, BranchFirst, Piece, Roll, FirstOption, ForWhom, OnWhat}
+use Rattle.macro_parse.specs.Grammar.{IsExpr, IsStatement, IsAddressWord, IsBranchWord, BetweenBlanks, IsAddress, IsBranch, AreOptions, has_if, IsRoll}
+use Rattle.macro_parse.specs.Readers.{blanks_at, expr_at, closed, bracketed_at, letter_at, address_word_at, bytes_at, branch_word_at, between_at, is_branch_letter, first_word_at, second_option, alone, options_at, statement_at, roll_end, roll_at}
+use Rattle.macro_parse.proofs.Names.{TheBlanks, reads_blanks}
+use Rattle.macro_parse.proofs.Leaves.{and_left}
 use Rattle.macro_parse.proofs.Calls.{ThenAt, reads_then_at, Argument, reads_argument, reads_closed, some_closed, closed_is, argument_again}
 use Rattle.macro_parse.proofs.Unaries.{BlanksOf, reads_blanks_of, reads_expr, some_expr, expr_again}
 use Rattle.macro_parse.proofs.Assignments.{reads_statement}
-use Rattle.macro_parse.proofs.StatementsAgain.{statement_again, head_pass}
 
 -- ---- a byte before a word
 

@@ -1,16 +1,16 @@
 -- Macros, as they are read against the grammar's, and read again.
-use Rattle.std.proofs.Common.{◌≡◌, ℕ, zero, suc, ◌+◌, ◌-◌, ◌<◌, ◌≤◌, Bool, true, false, ◌&&◌, ◌||◌, cond, List, [], ◌∷◌, ◌++◌, length, Option, Some, None, refl, sym, ap, subst, ◌∙◌, append_assoc, append-nil, arith, inl, inr, ◌⊎◌}
+use Rattle.std.proofs.Common.{◌≡◌, ℕ, zero, suc, ◌+◌, ◌-◌, ◌<◌, ◌≤◌, Bool, true, false, ◌||◌, List, [], ◌∷◌, ◌++◌, length, Option, Some, None, refl, sym, ap, ◌∙◌, arith, inl, inr, ◌⊎◌}
 use Rattle.std.specs.Prelude.{nat_eq}
 use Rattle.std.proofs.lemmas.List.{length-append}
-use Rattle.reading.specs.Reading.{Read, done, carry, bind, on_head, item, Begins, IsLongest}
-use Rattle.reading.specs.Placed.{Grammar, bind_at}
-use Rattle.reading.proofs.Pairs.{got, same_pair, eq_means, Free, or_left, or_right}
-use Rattle.reading.proofs.Laws.{Fate, Reads, Sequence, reads_done, reads_bind, reads_as, reads_head, head_yes, head_no}
+use Rattle.reading.specs.Reading.{Read, done, bind, on_head, Begins, IsLongest}
+use Rattle.reading.specs.Placed.{bind_at}
+use Rattle.reading.proofs.Pairs.{same_pair, eq_means, or_left, or_right}
+use Rattle.reading.proofs.Laws.{Reads, reads_as, reads_head, head_yes, head_no}
 use Rattle.reading.proofs.Combine.{Wrapped, reads_wrapped}
-use Rattle.reading.proofs.Placed.{bind_at_is, on_head_at, PlacedSequence, reads_bind_at, Inhabited}
+use Rattle.reading.proofs.Placed.{bind_at_is, on_head_at, reads_bind_at}
 use Rattle.reading.proofs.Longest.{found, off, longest}
-use Rattle.macro_parse.specs.Tree.{Piece, Plain, Roll, Tree, Options}
-use Rattle.macro_parse.specs.Grammar.{IsEscaped, is_bracket, IsRoll, IsPlain, NoPlainFirst, Follows, IsMacro}
+use Rattle.macro_parse.specs.Tree.{Piece, Plain, Roll}
+use Rattle.macro_parse.specs.Grammar.{IsEscaped, is_bracket, IsRoll, NoPlainFirst, Follows, IsMacro}
 use Rattle.macro_parse.specs.Readers.{roll_at, plain_text, at_end, unless_end, pieces_at, macro_at}
 use Rattle.macro_parse.proofs.Names.{reads_cons}
 use Rattle.macro_parse.proofs.Leaves.{reads_front, front_fate, reads_refused}

@@ -1,13 +1,13 @@
 -- Each option and each roll is read again.
-use Rattle.std.proofs.Common.{◌≡◌, ℕ, zero, suc, ◌+◌, ◌-◌, ◌<◌, ◌≤◌, Bool, true, false, ◌&&◌, ◌||◌, List, [], ◌∷◌, ◌++◌, length, Option, Some, None, refl, sym, ap, subst, ◌∙◌, append_assoc, append-nil, arith, inl, inr, ◌⊎◌}
+use Rattle.std.proofs.Common.{◌≡◌, ℕ, suc, ◌+◌, ◌<◌, true, false, List, [], ◌∷◌, ◌++◌, length, Some, None, refl, ap, ◌∙◌, append_assoc, arith}
 use Rattle.std.specs.Prelude.{nat_eq}
 use Rattle.std.proofs.lemmas.List.{length-append}
 use Rattle.reading.specs.Reading.{Read, done, bind, on_head, item}
 use Rattle.reading.specs.Placed.{Grammar, bind_at}
-use Rattle.reading.proofs.Pairs.{eq_means, Free, head_free}
+use Rattle.reading.proofs.Pairs.{Free, head_free}
 use Rattle.reading.proofs.Placed.{bind_at_is, on_head_at}
 use Rattle.macro_parse.specs.Tree.{Tree, Address, Receivers, Hidden, Master, Runner, Both, Whisper, Branch, If, Count, Options, Addressed, Branched, AddressFirst, BranchFirst, Piece, Plain, Roll, FirstOption, ForWhom, OnWhat}
-use Rattle.macro_parse.specs.Grammar.{AreBlanks, IsExpr, IsStatement, IsAddressWord, IsBranchWord, BetweenBlanks, IsAddress, IsBranch, AreOptions, has_if, is_if, IsRoll}
+use Rattle.macro_parse.specs.Grammar.{IsStatement, IsAddressWord, IsBranchWord, BetweenBlanks, AreOptions, has_if, IsRoll}
 use Rattle.macro_parse.specs.Readers.{is_blank, blanks_at, bracketed_at, letter_at, address_word_at, bytes_at, branch_word_at, between_at, is_branch_letter, first_word_at, second_option, alone, options_at, statement_at, roll_end, roll_at}
 use Rattle.macro_parse.proofs.Names.{blanks_back}
 use Rattle.macro_parse.proofs.Unaries.{blanks_free, and_false}

@@ -1,25 +1,20 @@
 -- Statements: an assignment or an expression, told apart behind the first name.
-use Rattle.std.proofs.Common.{◌≡◌, ℕ, zero, suc, ◌+◌, ◌-◌, ◌<◌, ◌≤◌, Bool, true, false, ◌&&◌, ◌||◌, List, [], ◌∷◌, ◌++◌, length, Option, Some, None, refl, sym, ap, subst, ◌∙◌, append_assoc, append-nil, add_assoc, add-zero, arith, inl, inr, ◌⊎◌}
+use Rattle.std.proofs.Common.{◌≡◌, ℕ, ◌+◌, ◌<◌, Bool, true, false, List, [], ◌∷◌, ◌++◌, length, Some, refl, sym, ap, subst, ◌∙◌, append_assoc, append-nil, add_assoc, add-zero, arith, inl, inr}
 use Rattle.std.specs.Prelude.{nat_eq}
-use Rattle.std.proofs.lemmas.Bool.Decides.{nat_tests}
 use Rattle.std.proofs.lemmas.List.{length-append}
-use Rattle.reading.specs.Reading.{Read, done, bind, on_head, item}
-use Rattle.reading.specs.Number.{IsDigit, is_digit}
+use Rattle.reading.specs.Reading.{Read}
 use Rattle.reading.specs.Placed.{Grammar, bind_at, more_at, Steps, Chain}
-use Rattle.reading.proofs.Pairs.{eq_means, Free, head_free, or_left, or_right}
-use Rattle.reading.proofs.Laws.{Reads, Sequence, reads_done, reads_bind, reads_as, reads_item, reads_head, IsItem}
-use Rattle.reading.proofs.Combine.{only, IsNothing, Wrapped, reads_wrapped}
-use Rattle.reading.proofs.Placed.{bind_at_is, on_head_at, PlacedSequence, reads_bind_at, Inhabited, SomeSteps, reads_more, more_back}
+use Rattle.reading.proofs.Pairs.{Free}
+use Rattle.reading.proofs.Laws.{Reads}
+use Rattle.reading.proofs.Placed.{bind_at_is, Inhabited, SomeSteps, reads_more, more_back}
 use Rattle.macro_parse.specs.declared.nodes.Operator.{Operator}
 use Rattle.macro_parse.specs.declared.nodes.Operator.TheVariants.{Equal}
-use Rattle.macro_parse.specs.Tree.{Tree, Number, Dice, Quoted, Name, Call0, Call1, Call2, Call3, Negated, Inverted, Binary, Assigned}
-use Rattle.macro_parse.specs.Grammar.{AreBlanks, IsLetter, IsName, IsLeaf, IsCall, IsAtom, IsPrefixed, IsUnaryOf, IsUnary, IsProduct, IsSum, IsCompared, IsConjunction, IsExpression, IsExpr, IsAssignment, IsStatement, OrOperator, AndOperator, CompareOperator, SumOperator, ProductOperator}
-use Rattle.macro_parse.specs.Readers.{is_blank, blanks_at, is_letter, is_name_byte, is_product, product_operator_at, is_sum, sum_operator_at, is_compare, and_operator_at, or_operator_at, product_at, sum_at, compared_with, compared_at, conjunction_at, expression_at, unary_at, expr_at, word_at, then_blanks, expression_from, equal_from, after_name, after_word, statement_at}
-use Rattle.macro_parse.proofs.Names.{TheBlanks, reads_blanks, blanks_back, letter_test}
+use Rattle.macro_parse.specs.Tree.{Tree, Binary}
+use Rattle.macro_parse.specs.Grammar.{IsProduct, IsSum, IsCompared, IsConjunction, IsExpression, OrOperator, AndOperator, SumOperator, ProductOperator}
+use Rattle.macro_parse.specs.Readers.{is_product, product_operator_at, is_sum, sum_operator_at, is_compare, and_operator_at, or_operator_at, product_at, sum_at, compared_with, compared_at, conjunction_at, expression_from, equal_from}
 use Rattle.macro_parse.proofs.Operators.{reads_product_operator, reads_sum_operator, reads_and_operator, reads_or_operator, product_back, sum_back, and_back, or_back, product_begins, sum_begins, and_begins, or_begins, compare_begins}
-use Rattle.macro_parse.proofs.Levels.{reads_product, some_product, reads_sum, some_sum, AfterSum, reads_compared_with, reads_compared, some_compared, reads_conjunction, some_conjunction, is_inner, is_factor, is_term, is_side, is_conjunct, is_expression, free_left, free_right, product_again, no_comparison, comparison, compared_again, conjunction_again}
-use Rattle.macro_parse.proofs.Calls.{ThenAt, reads_then_at, IsWord, reads_word}
-use Rattle.macro_parse.proofs.Unaries.{WithBlanks, reads_then_blanks, reads_unary, some_unary, reads_expr, some_expr}
+use Rattle.macro_parse.proofs.Levels.{reads_product, some_product, reads_sum, AfterSum, reads_compared_with, reads_compared, some_compared, reads_conjunction, some_conjunction, is_inner, is_factor, is_term, is_side, is_conjunct, is_expression, free_left, free_right, product_again, no_comparison, comparison, compared_again, conjunction_again}
+use Rattle.macro_parse.proofs.Calls.{ThenAt, reads_then_at}
 
 -- ---- behind the first unary of an expression
 

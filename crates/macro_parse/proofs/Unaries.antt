@@ -1,25 +1,25 @@
 -- Unaries, by how many may still nest: each is read as its grammar says, and each word is read again.
-use Rattle.std.proofs.Common.{◌≡◌, ℕ, zero, suc, ◌+◌, ◌-◌, ◌<◌, ◌≤◌, Bool, true, false, ◌&&◌, ◌||◌, cond, List, [], ◌∷◌, ◌++◌, length, Option, Some, None, refl, sym, ap, subst, ◌∙◌, append_assoc, append-nil, arith, inl, inr, ◌⊎◌}
+use Rattle.std.proofs.Common.{◌≡◌, ℕ, zero, suc, ◌+◌, ◌<◌, Bool, true, false, ◌&&◌, ◌||◌, List, [], ◌∷◌, ◌++◌, length, Some, refl, ap, ◌∙◌, append_assoc, arith, inl, inr, ◌⊎◌}
 use Rattle.std.specs.Prelude.{nat_eq}
 use Rattle.std.proofs.lemmas.Bool.Decides.{nat_tests}
 use Rattle.std.proofs.lemmas.List.{length-append}
-use Rattle.reading.specs.Reading.{Read, done, bind, on_head, item}
+use Rattle.reading.specs.Reading.{Read, done, bind, item}
 use Rattle.reading.specs.Number.{IsDigit, IsNumber, is_digit}
-use Rattle.reading.specs.Placed.{Grammar, bind_at}
-use Rattle.reading.proofs.Pairs.{eq_means, Free, head_free, or_left, or_right}
-use Rattle.reading.proofs.Laws.{Reads, Sequence, reads_done, reads_bind, reads_as, reads_item, reads_head, IsItem}
+use Rattle.reading.specs.Placed.{Grammar}
+use Rattle.reading.proofs.Pairs.{eq_means, Free}
+use Rattle.reading.proofs.Laws.{Reads, reads_bind, reads_as, reads_item, reads_head, IsItem}
 use Rattle.reading.proofs.Combine.{only, Wrapped, reads_wrapped}
-use Rattle.reading.proofs.Number.{means_digit, lead_digit}
-use Rattle.reading.proofs.Placed.{bind_at_is, on_head_at, PlacedSequence, reads_bind_at, Inhabited}
+use Rattle.reading.proofs.Number.{means_digit}
+use Rattle.reading.proofs.Placed.{bind_at_is, PlacedSequence, reads_bind_at, Inhabited}
 use Rattle.dice_parse.specs.declared.parts.Group.{Group}
 use Rattle.dice_parse.specs.Groups.{IsCounted}
 use Rattle.macro_parse.specs.declared.nodes.Function.{Function}
 use Rattle.macro_parse.specs.Tree.{Tree, Number, Dice, Quoted, Name, Call0, Call1, Call2, Call3, Negated, Inverted, Binary, Assigned}
 use Rattle.macro_parse.specs.Grammar.{AreBlanks, IsLetter, IsName, IsLeaf, IsCall, IsGrouped, IsAtom, IsPrefixed, IsAtomBlanks, IsUnaryOf, IsNothing, IsUnary, IsExpression, IsExpr, IsQuoted, function_name}
-use Rattle.macro_parse.specs.Readers.{is_blank, blanks_at, is_letter, is_name_byte, number_or_dice_at, quoted_at, word_at, closed, argument_at, group_at, atom_at, then_blanks, prefixed_at, inner_at, expression_at, unary_of_at, nothing_at, unary_at, expr_at}
+use Rattle.macro_parse.specs.Readers.{is_blank, blanks_at, is_letter, is_name_byte, number_or_dice_at, quoted_at, word_at, closed, group_at, atom_at, then_blanks, prefixed_at, inner_at, expression_at, unary_of_at, nothing_at, unary_at, expr_at}
 use Rattle.macro_parse.proofs.Names.{TheBlanks, reads_blanks, blanks_back, letter_test, letter_no_digit}
 use Rattle.macro_parse.proofs.Levels.{reads_expression, some_expression, is_inner, is_expression, expression_again, free_left, free_right}
-use Rattle.macro_parse.proofs.Leaves.{and_left, and_right, reads_number_or_dice, reads_quoted, number_again, dice_again, quoted_again}
+use Rattle.macro_parse.proofs.Leaves.{and_left, reads_number_or_dice, reads_quoted, number_again, dice_again, quoted_again}
 use Rattle.macro_parse.proofs.Calls.{Argument, reads_argument, reads_closed, some_closed, closed_is, argument_again, reads_word, IsWord, name_again, call_again, name_is}
 
 -- ---- blanks behind a value

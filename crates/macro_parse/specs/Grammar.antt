@@ -20,7 +20,7 @@
 --     name   = a-z *23( a-z / 0-9 / "_" )
 --     call   = a function of the table with its number of arguments, "(" arguments between commas ")"
 --     ws     = any number of spaces
-use Rattle.std.specs.Prelude.{◌≡◌, ◌⊎◌, ℕ, zero, suc, ◌+◌, ◌≤◌, Bool, true, false, ◌||◌, List, [], ◌∷◌, ◌++◌, length, nat_eq, Option, Some, None}
+use Rattle.std.specs.Prelude.{◌≡◌, ◌⊎◌, ℕ, zero, suc, ◌+◌, ◌≤◌, Bool, true, false, ◌||◌, List, [], ◌∷◌, ◌++◌, length, nat_eq, Some, None}
 use Rattle.reading.specs.Number.{IsDigit, IsNumber}
 use Rattle.reading.specs.Placed.{Grammar, Chain}
 use Rattle.dice_parse.specs.Grammar.{GroupFits}

@@ -1,5 +1,5 @@
 -- The same grammar, as it is read.
-use Rattle.std.specs.Prelude.{ℕ, zero, suc, ◌+◌, ◌-◌, Bool, true, false, ◌&&◌, ◌||◌, cond, List, [], ◌∷◌, ◌++◌, length, Option, Some, None, nat_le, nat_eq}
+use Rattle.std.specs.Prelude.{ℕ, zero, suc, ◌+◌, Bool, true, false, ◌&&◌, ◌||◌, cond, List, [], ◌∷◌, Option, Some, None, nat_le, nat_eq}
 use Rattle.reading.specs.Reading.{Read, done, carry, bind, on_head, item}
 use Rattle.reading.specs.Number.{is_digit, number_at}
 use Rattle.reading.specs.Placed.{bind_at, many_at, more_at, chain_at}

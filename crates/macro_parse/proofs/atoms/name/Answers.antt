@@ -1,4 +1,4 @@
-use Rattle.std.proofs.Common.{◌≡◌, ◌-◌, arith}
+use Rattle.std.proofs.Common.{◌-◌}
 use Rattle.macro_parse.proofs.Scans.{no_name, name_begins, name_goes_on, name_stops}
 use Rattle.macro_parse.proofs.atoms.name.Goals as goal
 

@@ -1,4 +1,4 @@
-use Rattle.std.proofs.Common.{arith, length, ◌-◌, ◌≤◌}
+use Rattle.std.proofs.Common.{arith}
 use Rattle.macro_parse.proofs.Scans.{nine_digits_small}
 use Rattle.macro_parse.proofs.atoms.number_or_dice.Goals as goal
 

@@ -1,7 +1,5 @@
-use Rattle.std.proofs.Common.{◌≡◌, ℕ, length}
-use Rattle.macro_parse.specs.Readers.{quoted_at, inside_at}
-use Rattle.macro_parse.specs.Found.{with_bytes}
-use Rattle.macro_parse.proofs.Scans.{quoted_from, InsideFrom}
+use Rattle.std.proofs.Common.{length}
+use Rattle.macro_parse.proofs.Scans.{InsideFrom}
 use Rattle.macro_parse.proofs.atoms.quoted.Given as goal
 
 abbrev pub invariant-loop-step : goal.invariant-loop-step
