@@ -1,4 +1,6 @@
 pub mod Scans
+pub mod FlatTrees
+pub mod Loops
 pub mod Names
 pub mod Operators
 pub mod Levels

@@ -2,3 +2,4 @@ pub mod Tree
 pub mod Grammar
 pub mod Readers
 pub mod Found
+pub mod Flat

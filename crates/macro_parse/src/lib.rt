@@ -6,4 +6,4 @@ mod laws;
 mod nodes;
 
 pub use laws::one_reading;
-pub use nodes::{Function, Operator};
+pub use nodes::{Arguments, Function, Node, Operator};
