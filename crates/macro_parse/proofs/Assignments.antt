@@ -12,7 +12,7 @@ use Rattle.macro_parse.specs.Tree.{Tree, Number, Dice, Quoted, Name, Call0, Call
 use Rattle.macro_parse.specs.Grammar.{AreBlanks, IsAtom, IsPrefixed, IsUnary, IsSum, IsExpression, IsExpr, IsStatement}
 use Rattle.macro_parse.specs.Readers.{blanks_at, is_letter, expression_at, unary_at, expr_at, word_at, then_blanks, expression_from, equal_from, after_name, after_word, statement_at}
 use Rattle.macro_parse.proofs.Names.{TheBlanks, reads_blanks}
-use Rattle.macro_parse.proofs.Levels.{some_sum, reads_expression, some_expression}
+use Rattle.macro_parse.proofs.LevelWords.{some_sum, reads_expression, some_expression}
 use Rattle.macro_parse.proofs.Calls.{ThenAt, reads_then_at, IsWord, reads_word}
 use Rattle.macro_parse.proofs.Unaries.{WithBlanks, reads_then_blanks, reads_unary, some_unary, reads_expr, some_expr}
 use Rattle.macro_parse.proofs.Statements.{AndsFrom, SumFrom, ProductFrom, UnaryFrom, EqualFrom, ands_end, unary_end, reads_expression_from, reads_equal_from, place_front, unary_join, first_unary}

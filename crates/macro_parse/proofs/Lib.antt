@@ -3,7 +3,7 @@ pub mod FlatTrees
 pub mod Loops
 pub mod Names
 pub mod Operators
-pub mod Levels
+pub mod LevelWords
 pub mod Leaves
 pub mod Calls
 pub mod Unaries

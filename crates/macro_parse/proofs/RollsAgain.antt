@@ -11,7 +11,7 @@ use Rattle.macro_parse.specs.Grammar.{IsStatement, IsAddressWord, IsBranchWord, 
 use Rattle.macro_parse.specs.Readers.{is_blank, blanks_at, bracketed_at, letter_at, address_word_at, bytes_at, branch_word_at, between_at, is_branch_letter, first_word_at, second_option, alone, options_at, statement_at, roll_end, roll_at}
 use Rattle.macro_parse.proofs.Names.{blanks_back}
 use Rattle.macro_parse.proofs.Unaries.{blanks_free, and_false}
-use Rattle.macro_parse.proofs.Levels.{is_expression}
+use Rattle.macro_parse.proofs.LevelWords.{is_expression}
 use Rattle.macro_parse.proofs.StatementsAgain.{statement_again, head_pass}
 use Rattle.macro_parse.proofs.Options.{item_then_again, bracket_again, bytes_again, FirstWord}
 

@@ -15,7 +15,7 @@ use Rattle.macro_parse.specs.Grammar.{AreBlanks, IsLetter, IsName, IsLeaf, IsCal
 use Rattle.macro_parse.specs.Readers.{is_blank, blanks_at, is_letter, is_name_byte, is_compare, sum_at, compared_at, conjunction_at, and_operator_at, or_operator_at, expression_at, unary_at, expr_at, word_at, then_blanks, expression_from, equal_from, after_name, after_word, statement_at}
 use Rattle.macro_parse.proofs.Names.{blanks_back, letter_test}
 use Rattle.macro_parse.proofs.Operators.{product_begins, sum_begins, and_begins, or_begins}
-use Rattle.macro_parse.proofs.Levels.{sum_again, is_inner, is_term, is_side, is_conjunct, is_expression, free_left, free_right}
+use Rattle.macro_parse.proofs.LevelWords.{sum_again, is_inner, is_term, is_side, is_conjunct, is_expression, free_left, free_right}
 use Rattle.macro_parse.proofs.Calls.{name_again, call_again}
 use Rattle.macro_parse.proofs.Unaries.{unary_again, unary_no_equals, expr_again, start_no_blank, blanks_free, name_start, number_start, WithBlanks, call_start}
 use Rattle.macro_parse.proofs.Statements.{OrsFrom, AndsFrom, SumFrom, ProductFrom, UnaryFrom, EqualFrom, place_front, unary_join, first_unary, unary_from_again, unary_from_free, steps_free, ands_again, sums_free}

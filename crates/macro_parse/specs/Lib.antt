@@ -3,3 +3,4 @@ pub mod Grammar
 pub mod Readers
 pub mod Found
 pub mod Flat
+pub mod Levels

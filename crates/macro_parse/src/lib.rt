@@ -3,6 +3,7 @@
 
 mod atoms;
 mod laws;
+mod levels;
 mod nodes;
 
 pub use laws::one_reading;
