@@ -1,5 +1,5 @@
 -- A chain of operators is read step by step, and what is read so far stands to the left of what comes.
-use Rattle.std.proofs.Common.{◌≡◌, ℕ, zero, suc, ◌+◌, ◌-◌, ◌<◌, ◌≤◌, Bool, List, [], ◌∷◌, ◌++◌, length, Option, Some, None, refl, sym, ◌∙◌, arith}
+use Rattle.std.proofs.Common.{◌≡◌, ℕ, suc, ◌+◌, ◌-◌, ◌<◌, ◌≤◌, Bool, List, length, Option, Some, None, refl, ◌∙◌, arith}
 use Rattle.reading.specs.Reading.{Read, done, on_head}
 use Rattle.reading.specs.Placed.{bind_at, more_at, chain_at}
 use Rattle.macro_parse.specs.declared.nodes.Operator.{Operator}
