@@ -25,20 +25,25 @@ pub struct Group {
     pub explode: bool,
     /// `r`: a die that shows at most this is rolled once again.
     pub again: Option<u32>,
+    /// `k`, `d` or `s` with its number: which of the shown values count.
     pub tail: Option<(Tail, u32)>,
 }
 
 /// Dice or a number.
 #[derive(Clone, Copy, Debug, PartialEq, Eq)]
 pub enum Part {
+    /// Dice that are rolled together.
     Group(Group),
+    /// A number of at most nine digits.
     Number(u32),
 }
 
 /// A part that is added, or taken away.
 #[derive(Clone, Copy, Debug, PartialEq, Eq)]
 pub struct Term {
+    /// Whether the part is taken away.
     pub minus: bool,
+    /// What is added or taken away.
     pub part: Part,
 }
 

@@ -40,7 +40,8 @@ pub(crate) fn again(cursor: &mut Cursor<'_>) -> Option<Option<u32>>
 
 /// The letter of a tail.
 fn kind(cursor: &mut Cursor<'_>) -> Option<Tail>
-    ensures { on_head is_kind (bind (item is_kind) (λ b. done (Some (kind_of b)))) (done None) cursor.old.rest.now ≡ (Some result, cursor.new.rest.now) }
+    ensures { on_head is_kind (bind (item is_kind) (λ b. done (Some (kind_of b)))) (done None) cursor.old.rest.now
+        ≡ (Some result, cursor.new.rest.now) }
 {
     let (first, rest) = cursor.rest.split_first()?;
     let kind = match *first {
@@ -119,7 +120,8 @@ fn sign(cursor: &mut Cursor<'_>) -> Option<bool>
 
 /// All terms up to the text's end.
 pub(crate) fn terms(alloc: Global, cursor: &mut Cursor<'_>) -> Result<Option<Vec<Term>>, AllocError>
-    ensures value { IfOk result (λ found. (turns : ℕ) → length cursor.old.rest.now < turns → dice_at turns cursor.old.rest.now ≡ (items_of found, cursor.new.rest.now)) }
+    ensures value { IfOk result (λ found. (turns : ℕ) → length cursor.old.rest.now < turns
+        → dice_at turns cursor.old.rest.now ≡ (items_of found, cursor.new.rest.now)) }
     ensures ended { IfOk result (λ found. IfSome found (λ _. cursor.new.rest.now ≡ [])) }
 {
     let mut terms = Vec::new(alloc);

@@ -30,6 +30,7 @@ impl Model for Dice {
 }
 
 impl Dice {
+    /// The terms in their order: 1 to 16, within the limits.
     pub fn terms(&self) -> &[Term]
         ensures terms { result.now ≡ self.now }
         ensures within { IsWithin self.now }
@@ -49,7 +50,7 @@ pub enum DiceFault {
     Memory,
 }
 
-/// Reads a dice text.
+/// Reads a dice text. It is refused exactly where it is off the grammar or off the limits, and where memory wants.
 pub fn read_dice(alloc: Global, text: &str) -> Result<Dice, DiceFault>
     // What is read is what the text spells, within the limits.
     ensures read { IfOk result (λ dice. IsDice text.now dice) }

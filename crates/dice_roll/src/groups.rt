@@ -58,7 +58,8 @@ fn roll_group(
     values: &mut Vec<u32>,
 ) -> Result<(), AllocError>
     requires { GroupFits group.now }
-    ensures values { OnOk result (values.new.items ≡ values.old.items ++ dice_values (word_of stream.old) group.now group.now.count) }
+    ensures values { OnOk result (values.new.items
+        ≡ values.old.items ++ dice_values (word_of stream.old) group.now group.now.count) }
     ensures stream { OnOk result (stream.new ≡ after stream.old (dice_used (word_of stream.old) group.now group.now.count)) }
     ensures small { OnOk result (All (λ x. x ≤ 1000) values.old.items → All (λ x. x ≤ 1000) values.new.items) }
 {

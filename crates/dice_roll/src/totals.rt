@@ -14,7 +14,9 @@ use std::alloc::{AllocError, Global};
 /// What dice came to, and how many words they used.
 #[derive(Clone, Copy, Debug, PartialEq, Eq)]
 pub struct Rolled {
+    /// What the terms came to, added and taken away.
     pub total: i64,
+    /// How many words were drawn, at most 19,200.
     pub words: u32,
 }
 
