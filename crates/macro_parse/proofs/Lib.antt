@@ -1,0 +1,15 @@
+pub mod Scans
+pub mod FlatTrees
+pub mod Loops
+pub mod Names
+pub mod Operators
+pub mod LevelWords
+pub mod Leaves
+pub mod Calls
+pub mod Unaries
+pub mod Statements
+pub mod Assignments
+pub mod StatementsAgain
+pub mod Options
+pub mod RollsAgain
+pub mod Pieces

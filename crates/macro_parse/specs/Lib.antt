@@ -1,0 +1,6 @@
+pub mod Tree
+pub mod Grammar
+pub mod Readers
+pub mod Found
+pub mod Flat
+pub mod Levels

@@ -1,0 +1,94 @@
+//! The operators of each level of an expression, each read by a function that moves a cursor.
+
+ghost use Rattle.std.specs.Prelude.{◌≡◌, ◌≤◌, length};
+ghost use Rattle.macro_parse.specs.Levels.{IsNext};
+
+use crate::nodes::Operator;
+use reading::Cursor;
+
+/// A level of an expression that is a chain of operators.
+#[derive(Clone, Copy, Debug, PartialEq, Eq)]
+pub(crate) enum Level {
+    Or,
+    And,
+    Sum,
+    Product,
+}
+
+/// What comes next in a chain.
+#[derive(Clone, Copy, Debug, PartialEq, Eq)]
+pub(crate) enum Next {
+    /// No operator of the level.
+    Nothing,
+    /// The front of one, behind which nothing may come that does.
+    Fails,
+    /// One, which was taken.
+    Found(Operator),
+}
+
+fn or_operator(cursor: &mut Cursor<'_>) -> Next
+    ensures { IsNext Level.Or cursor.old.rest.now result cursor.new.rest.now }
+{
+    if !cursor.takes(b'|') {
+        return Next::Nothing;
+    }
+    if !cursor.takes(b'|') {
+        return Next::Fails;
+    }
+    Next::Found(Operator::Or)
+}
+
+fn and_operator(cursor: &mut Cursor<'_>) -> Next
+    ensures { IsNext Level.And cursor.old.rest.now result cursor.new.rest.now }
+{
+    if !cursor.takes(b'&') {
+        return Next::Nothing;
+    }
+    if !cursor.takes(b'&') {
+        return Next::Fails;
+    }
+    Next::Found(Operator::And)
+}
+
+fn sum_operator(cursor: &mut Cursor<'_>) -> Next
+    ensures { IsNext Level.Sum cursor.old.rest.now result cursor.new.rest.now }
+{
+    let Some((first, rest)) = cursor.rest.split_first() else {
+        return Next::Nothing;
+    };
+    let operator = match *first {
+        b'+' => Operator::Add,
+        b'-' => Operator::Subtract,
+        _ => return Next::Nothing,
+    };
+    cursor.rest = rest;
+    Next::Found(operator)
+}
+
+fn product_operator(cursor: &mut Cursor<'_>) -> Next
+    ensures { IsNext Level.Product cursor.old.rest.now result cursor.new.rest.now }
+{
+    let Some((first, rest)) = cursor.rest.split_first() else {
+        return Next::Nothing;
+    };
+    let operator = match *first {
+        b'*' => Operator::Multiply,
+        b'/' => Operator::Divide,
+        b'%' => Operator::Remainder,
+        _ => return Next::Nothing,
+    };
+    cursor.rest = rest;
+    Next::Found(operator)
+}
+
+/// The operator of a level that comes next.
+pub(crate) fn operator(cursor: &mut Cursor<'_>, level: Level) -> Next
+    ensures { IsNext level cursor.old.rest.now result cursor.new.rest.now }
+{
+    match level {
+        Level::Or => or_operator(cursor),
+        Level::And => and_operator(cursor),
+        Level::Sum => sum_operator(cursor),
+        Level::Product => product_operator(cursor),
+    }
+}
