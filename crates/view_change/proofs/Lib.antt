@@ -1,0 +1,5 @@
+pub mod KeyedLemmas
+pub mod SameLemmas
+pub mod DeltaLemmas
+pub mod OrderLemmas
+pub mod ChangeLemmas

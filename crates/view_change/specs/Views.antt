@@ -1,0 +1,73 @@
+-- What holds of a view.
+use Rattle.std.specs.Prelude.{◌≡◌, ◌≤◌, ◌⊎◌, ℕ, ◌&&◌, Bool, true, List, Option, Some, is_some, nat_lt, All}
+use Rattle.cells.specs.Cells.{Extent, has, IsToldByCells}
+use Rattle.cells.specs.declared.cell.Cell.{Cell}
+use Rattle.names.specs.Tag.{tag_cmp}
+use Rattle.names.specs.TokenId.{id_cmp}
+use Rattle.view_change.specs.declared.view.MapView.{MapView}
+use Rattle.view_change.specs.declared.view.TokenView.{TokenView}
+use Rattle.view_change.specs.declared.view.View.{View}
+use Rattle.view_change.specs.declared.change.Change.{Change}
+use Rattle.view_change.specs.declared.change.MapChange.{MapChange}
+use Rattle.view_change.specs.Keys.{Letter, cell_cmp, name_of, cell_of, map_name, token_id}
+use Rattle.view_change.specs.Keyed.{at, in_order}
+
+-- the item with this name
+abbrev pub at_name : {X : Type 0} → (X → List ℕ) → List ℕ → List X → Option X
+at_name = at tag_cmp
+
+-- the letter of this cell
+abbrev pub letter_at : Cell → List Letter → Option Letter
+letter_at = at cell_cmp cell_of
+
+abbrev pub is_on_map : Extent → Cell → Bool
+is_on_map size cell = nat_lt cell.x size.w && nat_lt cell.y size.h
+
+-- a full stop, or a to z
+abbrev pub IsTerrain : ℕ → Type 0
+IsTerrain byte = (byte ≡ 46) ⊎ ((97 ≤ byte) × (byte ≤ 122))
+
+-- a map in a view, which is the game master's or a player's: its sets have its size, and its letters are just those
+-- of the exposed cells, by row, then column
+pub record IsMapView (gm : Bool) (m : MapView) : Type 0 where
+  pub shown : is_some m.shown ≡ gm
+  pub seen : IsToldByCells m.seen
+  pub seen_size : m.seen.extent ≡ m.size
+  pub exposed : IsToldByCells m.exposed
+  pub exposed_size : m.exposed.extent ≡ m.size
+  pub ordered : in_order cell_cmp cell_of m.letters ≡ true
+  pub letters : (cell : Cell) → is_some (letter_at cell m.letters) ≡ (is_on_map m.size cell && has m.exposed cell.x cell.y)
+  pub terrain : All (λ letter. IsTerrain letter.1) m.letters
+
+-- a token in the game master's view has both further parts, one in a player's view may have an owner's
+pub record IsTokenView (gm : Bool) (t : TokenView) : Type 0 where
+  pub owned : gm ≡ true → is_some t.owned ≡ true
+  pub whole : is_some t.whole ≡ gm
+
+-- types and maps stand in byte order of names and tokens in order of ids, and nothing is repeated
+pub record IsView (v : View) : Type 0 where
+  pub lights : in_order tag_cmp name_of v.lights ≡ true
+  pub sights : in_order tag_cmp name_of v.sights ≡ true
+  pub maps : in_order tag_cmp map_name v.maps ≡ true
+  pub tokens : in_order id_cmp token_id v.tokens ≡ true
+  pub each_map : All (IsMapView v.gm) v.maps
+  pub each_token : All (IsTokenView v.gm) v.tokens
+
+-- a change of a map: its letters are of cells of the map
+pub record IsMapChange (c : MapChange) : Type 0 where
+  pub hidden_size : c.hidden.extent ≡ c.dark.extent
+  pub lit_size : c.lit.extent ≡ c.dark.extent
+  pub on_map : All (λ letter. is_on_map c.dark.extent letter.0 ≡ true) c.letters
+  pub terrain : All (λ letter. IsTerrain letter.1) c.letters
+
+-- a change has such maps
+pub record IsChange (c : Change) : Type 0 where
+  pub changed : All IsMapChange c.changed
+  pub maps : All (λ m. All (λ letter. IsTerrain letter.1) m.letters) c.maps
+
+-- both views are of one role, a map that is in both has one size, and no type is lost
+pub record FollowsView (a b : View) : Type 0 where
+  pub gm : a.gm ≡ b.gm
+  pub sizes : (name : List ℕ) (m n : MapView) → at_name map_name name a.maps ≡ Some m → at_name map_name name b.maps ≡ Some n → m.size ≡ n.size
+  pub lights : (name : List ℕ) → is_some (at_name name_of name a.lights) ≡ true → is_some (at_name name_of name b.lights) ≡ true
+  pub sights : (name : List ℕ) → is_some (at_name name_of name a.sights) ≡ true → is_some (at_name name_of name b.sights) ≡ true
