@@ -60,6 +60,10 @@ or_old (Some b) old = Some b
 abbrev pub has_letter : List Letter → ℕ → ℕ → Bool
 has_letter letters x y = list_any (λ letter. is_at letter.0 x y) letters
 
+-- the set with the cells that have a letter
+unfoldable pub with_lettered : Cells → List Letter → Cells
+with_lettered cells letters = cells_where cells.extent (λ x y. has cells x y || has_letter letters x y)
+
 abbrev pub seen_after : MapView → MapChange → Cells
 seen_after a c = cells_where a.size (λ x y. (has a.seen x y && not (has c.dark x y)) || has c.lit x y)
 

@@ -25,6 +25,10 @@ use Rattle.view_change.specs.Change.{has_letter}
 
 -- ---- values
 
+-- the members with this one, in its place by the bytes of its key
+unfoldable pub with_member : List ℕ → Data → Members → Members
+with_member = put
+
 abbrev pub whole : ℕ → Data
 whole n = number (unsigned n)
 
@@ -45,17 +49,17 @@ text_or_null (Some text) = string text
 -- a member that is there where the list has items
 abbrev pub put_list : List ℕ → List Data → Members → Members
 put_list key [] members = members
-put_list key (value ∷ values) members = put key (list_data (value ∷ values)) members
+put_list key (value ∷ values) members = with_member key (list_data (value ∷ values)) members
 
 -- a member that is there where the value is
 abbrev pub put_some : {A : Type 0} → List ℕ → (A → Data) → Option A → Members → Members
 put_some key data_of None members = members
-put_some key data_of (Some value) members = put key (data_of value) members
+put_some key data_of (Some value) members = with_member key (data_of value) members
 
 -- ---- types and properties
 
 abbrev pub put_named : {V : Type 0} → (V → Data) → Members → Named V → Members
-put_named data_of members named = put named.0 (data_of named.1) members
+put_named data_of members named = with_member named.0 (data_of named.1) members
 
 -- an object with each name and its value
 abbrev pub named_data : {V : Type 0} → (V → Data) → List (Named V) → Data
@@ -72,11 +76,11 @@ sights_data = named_data wholes_data
 
 abbrev pub put_lights : List (Named ℤ) → Members → Members
 put_lights [] members = members
-put_lights (light ∷ lights) members = put (codes "lights") (lights_data (light ∷ lights)) members
+put_lights (light ∷ lights) members = with_member (codes "lights") (lights_data (light ∷ lights)) members
 
 abbrev pub put_sights : List (Named (List ℕ)) → Members → Members
 put_sights [] members = members
-put_sights (sight ∷ sights) members = put (codes "sights") (sights_data (sight ∷ sights)) members
+put_sights (sight ∷ sights) members = with_member (codes "sights") (sights_data (sight ∷ sights)) members
 
 abbrev pub prop_data : Named (List ℕ) → Data
 prop_data prop = list_data (string prop.0 ∷ string prop.1 ∷ [])
@@ -118,38 +122,38 @@ mode_data mode = string (mode_word mode)
 unfoldable pub map_data : MapView → Data
 map_data m = object
     (put_some (codes "shown") boolean m.shown
-    (put (codes "w") (whole m.size.w)
-    (put (codes "seen") (list_data (runs_data m.seen))
-    (put (codes "name") (string m.name)
-    (put (codes "mode") (mode_data m.mode)
-    (put (codes "h") (whole m.size.h)
-    (put (codes "ground") (list_data (terrain_data m.exposed m.letters)) no_members)))))))
+    (with_member (codes "w") (whole m.size.w)
+    (with_member (codes "seen") (list_data (runs_data m.seen))
+    (with_member (codes "name") (string m.name)
+    (with_member (codes "mode") (mode_data m.mode)
+    (with_member (codes "h") (whole m.size.h)
+    (with_member (codes "ground") (list_data (terrain_data m.exposed m.letters)) no_members)))))))
 
 abbrev pub put_owned : Option OwnedPart → Members → Members
 put_owned None members = members
 put_owned (Some part) members =
-    put (codes "sight") (text_or_null part.sight)
-    (put (codes "own") (props_data part.own)
-    (put (codes "light") (text_or_null part.light) members))
+    with_member (codes "sight") (text_or_null part.sight)
+    (with_member (codes "own") (props_data part.own)
+    (with_member (codes "light") (text_or_null part.light) members))
 
 abbrev pub put_whole : Option GmPart → Members → Members
 put_whole None members = members
 put_whole (Some part) members =
-    put (codes "visible") (boolean part.visible)
-    (put (codes "secret") (props_data part.secret)
-    (put (codes "owners") (wholes_data part.owners) members))
+    with_member (codes "visible") (boolean part.visible)
+    (with_member (codes "secret") (props_data part.secret)
+    (with_member (codes "owners") (wholes_data part.owners) members))
 
 unfoldable pub token_data : TokenView → Data
 token_data t = object
     (put_whole t.whole
     (put_owned t.owned
-    (put (codes "size") (whole t.size)
-    (put (codes "props") (props_data t.props)
-    (put (codes "name") (string t.name)
-    (put (codes "map") (string t.map)
-    (put (codes "layer") (string (layer_word t.layer))
-    (put (codes "id") (string (id_text t.id))
-    (put (codes "cell") (cell_data t.cell) no_members)))))))))
+    (with_member (codes "size") (whole t.size)
+    (with_member (codes "props") (props_data t.props)
+    (with_member (codes "name") (string t.name)
+    (with_member (codes "map") (string t.map)
+    (with_member (codes "layer") (string (layer_word t.layer))
+    (with_member (codes "id") (string (id_text t.id))
+    (with_member (codes "cell") (cell_data t.cell) no_members)))))))))
 
 abbrev pub maps_data : List MapView → List Data
 maps_data maps = map map_data maps
@@ -161,13 +165,16 @@ tokens_data tokens = map token_data tokens
 
 unfoldable pub view_data : View → Data
 view_data v = object
-    (put (codes "tokens") (list_data (tokens_data v.tokens))
-    (put (codes "sights") (sights_data v.sights)
-    (put (codes "maps") (list_data (maps_data v.maps))
-    (put (codes "lights") (lights_data v.lights) no_members))))
+    (with_member (codes "tokens") (list_data (tokens_data v.tokens))
+    (with_member (codes "sights") (sights_data v.sights)
+    (with_member (codes "maps") (list_data (maps_data v.maps))
+    (with_member (codes "lights") (lights_data v.lights) no_members))))
+
+abbrev pub full_tree : View → Data
+full_tree v = object (member (codes "full") (view_data v) no_members)
 
 unfoldable pub full_line : View → List ℕ
-full_line v = compact_text (object (member (codes "full") (view_data v) no_members))
+full_line v = compact_text (full_tree v)
 
 -- ---- the change line
 
@@ -183,7 +190,7 @@ map_change_data c = object
     (put_list (codes "hidden") (runs_data c.hidden)
     (put_list (codes "ground") (terrain_data (lettered c) c.letters)
     (put_list (codes "dark") (runs_data c.dark)
-    (put (codes "name") (string c.name) no_members)))))))
+    (with_member (codes "name") (string c.name) no_members)))))))
 
 unfoldable pub change_data : Change → Data
 change_data c = object
@@ -195,5 +202,8 @@ change_data c = object
     (put_list (codes "gone") (map (λ id. string (id_text id)) c.gone)
     (put_list (codes "changed") (map map_change_data c.changed) no_members)))))))
 
+abbrev pub change_tree : Change → Data
+change_tree c = object (member (codes "change") (change_data c) no_members)
+
 unfoldable pub change_line : Change → List ℕ
-change_line c = compact_text (object (member (codes "change") (change_data c) no_members))
+change_line c = compact_text (change_tree c)

@@ -5,10 +5,17 @@
 #![tactic(auto)]
 
 mod change;
+mod change_values;
+mod lines;
 mod lists;
+mod sets;
+mod terrain;
+mod values;
 mod view;
+mod view_values;
 
 pub use change::{Change, MapChange};
+pub use lines::{change_line, full_line};
 pub use lists::{
     Letters, LightTexts, MapChanges, MapViews, PropTexts, SeatNos, SightTexts, Tags, TokenIds,
     TokenViews,

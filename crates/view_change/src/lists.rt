@@ -1,4 +1,6 @@
 //! The small lists of views and changes. Contracts see each as the list of its items.
+ghost use Rattle.std.specs.Prelude.{◌≡◌};
+
 use crate::change::MapChange;
 use crate::view::{MapView, TokenView};
 use cells::Cell;
@@ -19,6 +21,15 @@ impl Model for LightTexts {
     ghost view = { λ l. l.list.items };
 }
 
+impl LightTexts {
+    /// The items, in order.
+    pub fn items(&self) -> &[(Tag, i64)]
+        ensures { result.now ≡ self.now }
+    {
+        self.list.as_slice()
+    }
+}
+
 /// Sight types: names with range, night range and multiplier.
 #[derive(Drop)]
 pub struct SightTexts {
@@ -33,6 +44,15 @@ impl Model for SightTexts {
     ghost view = { λ l. l.list.items };
 }
 
+impl SightTexts {
+    /// The items, in order.
+    pub fn items(&self) -> &[(Tag, [u8; 3])]
+        ensures { result.now ≡ self.now }
+    {
+        self.list.as_slice()
+    }
+}
+
 /// Properties: names with values.
 #[derive(Drop)]
 pub struct PropTexts {
@@ -45,6 +65,15 @@ impl Model for PropTexts {
     ghost Value = { List (List ℕ × List ℕ) };
 
     ghost view = { λ l. l.list.items };
+}
+
+impl PropTexts {
+    /// The items, in order.
+    pub fn items(&self) -> &[(Tag, Text)]
+        ensures { result.now ≡ self.now }
+    {
+        self.list.as_slice()
+    }
 }
 
 /// Terrain: cells with letters.
@@ -62,6 +91,15 @@ impl Model for Letters {
     ghost view = { λ l. l.list.items };
 }
 
+impl Letters {
+    /// The items, in order.
+    pub fn items(&self) -> &[(Cell, u8)]
+        ensures { result.now ≡ self.now }
+    {
+        self.list.as_slice()
+    }
+}
+
 /// Numbers of seats.
 #[derive(Drop)]
 pub struct SeatNos {
@@ -76,6 +114,15 @@ impl Model for SeatNos {
     ghost view = { λ l. l.list.items };
 }
 
+impl SeatNos {
+    /// The items, in order.
+    pub fn items(&self) -> &[SeatNo]
+        ensures { result.now ≡ self.now }
+    {
+        self.list.as_slice()
+    }
+}
+
 /// Names.
 #[derive(Drop)]
 pub struct Tags {
@@ -88,6 +135,15 @@ impl Model for Tags {
     ghost Value = { List (List ℕ) };
 
     ghost view = { λ l. l.list.items };
+}
+
+impl Tags {
+    /// The items, in order.
+    pub fn items(&self) -> &[Tag]
+        ensures { result.now ≡ self.now }
+    {
+        self.list.as_slice()
+    }
 }
 
 /// Ids of tokens.
@@ -105,6 +161,15 @@ impl Model for TokenIds {
     ghost view = { λ l. l.list.items };
 }
 
+impl TokenIds {
+    /// The items, in order.
+    pub fn items(&self) -> &[TokenId]
+        ensures { result.now ≡ self.now }
+    {
+        self.list.as_slice()
+    }
+}
+
 /// Maps as a seat sees them.
 #[derive(Drop)]
 pub struct MapViews {
@@ -118,6 +183,15 @@ impl Model for MapViews {
     ghost Value = { List MapView };
 
     ghost view = { λ l. l.list.items };
+}
+
+impl MapViews {
+    /// The items, in order.
+    pub fn items(&self) -> &[MapView]
+        ensures { result.now ≡ self.now }
+    {
+        self.list.as_slice()
+    }
 }
 
 /// Tokens as a seat sees them.
@@ -135,6 +209,15 @@ impl Model for TokenViews {
     ghost view = { λ l. l.list.items };
 }
 
+impl TokenViews {
+    /// The items, in order.
+    pub fn items(&self) -> &[TokenView]
+        ensures { result.now ≡ self.now }
+    {
+        self.list.as_slice()
+    }
+}
+
 /// Changes of maps.
 #[derive(Drop)]
 pub struct MapChanges {
@@ -148,4 +231,13 @@ impl Model for MapChanges {
     ghost Value = { List MapChange };
 
     ghost view = { λ l. l.list.items };
+}
+
+impl MapChanges {
+    /// The items, in order.
+    pub fn items(&self) -> &[MapChange]
+        ensures { result.now ≡ self.now }
+    {
+        self.list.as_slice()
+    }
 }
