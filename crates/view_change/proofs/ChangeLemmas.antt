@@ -4,6 +4,7 @@ use Rattle.std.specs.Prelude.{◌↔◌, Option, is_some, is_none, not, unwrap_o
 use Rattle.std.specs.Bool.{Decides}
 use Rattle.std.specs.Ordering.{eq_by_cmp, is_eq}
 use Rattle.std.specs.Cmp.{tied_itself}
+use Rattle.std.specs.Str.{bytes_eq}
 use Rattle.std.proofs.lemmas.Bool.Decides.{nat_tests, Decides-and, Decides-eqb, Decides-like, same_from_decides}
 use Rattle.std.proofs.lemmas.List.Elements.{All-head, All-tail}
 use Rattle.std.specs.List.{filter}
@@ -12,19 +13,19 @@ use Rattle.cells.specs.Cells.{Extent, Cells, has, cells_where, IsToldByCells}
 use Rattle.cells.specs.declared.cell.Cell.{Cell}
 use Rattle.cells.proofs.SetLaws.{has-cells_where, cells_where_same}
 use Rattle.names.specs.Tag.{tag_cmp}
-use Rattle.names.specs.TokenId.{id_cmp}
+use Rattle.names.specs.TokenId.{id_cmp, id_eq}
 use Rattle.view_change.specs.declared.view.MapView.{MapView}
 use Rattle.view_change.specs.declared.view.TokenView.{TokenView}
 use Rattle.view_change.specs.declared.view.View.{View}
 use Rattle.view_change.specs.Keys.{Named, Letter, cell_cmp, name_of, cell_of, map_name, change_name, token_id}
 use Rattle.view_change.specs.Same.{same_option, same_bool, same_mode, same_letter, same_light, same_bytes, same_map, same_token, same_view}
-use Rattle.view_change.specs.Keyed.{at, in_order, put_all, applied, gone_from, is_among, differs, puts_from}
+use Rattle.view_change.specs.Keyed.{at, in_order, put_all, applied, gone_from, is_among, puts_from}
 use Rattle.view_change.specs.Views.{letter_at, is_on_map, IsMapView, IsView, FollowsView}
 use Rattle.view_change.specs.Change.{minus, shown_change, map_change, or_old, has_letter, map_with, difference, change_of, apply_change}
 use Rattle.view_change.specs.Laws.{NoneIfSame, GivesAfter}
 use Rattle.view_change.proofs.SameLemmas.{Tells, same_option-tells, same_bool-tells, same_mode-tells, same_letter-tells, same_light-tells, same_bytes-tells, same_map-tells, same_token-tells, same_view-tells}
-use Rattle.view_change.proofs.OrderLemmas.{tag_total, tag_anti, id_total, id_anti, cell_total, cell_anti}
-use Rattle.view_change.proofs.KeyedLemmas.{eq_is, kept, applied-puts, is_among-gone_from, at-puts, at-key, at-all}
+use Rattle.view_change.proofs.OrderLemmas.{tag_total, tag_anti, tag_ties, id_total, id_anti, id_ties, cell_total, cell_anti}
+use Rattle.view_change.proofs.KeyedLemmas.{eq_is, kept, differs, applied-puts, is_among-gone_from, at-puts, at-key, at-all}
 use Rattle.view_change.proofs.DeltaLemmas.{patched-deltas}
 use lib.Dec.{T}
 
@@ -132,24 +133,24 @@ module _ (gm : Bool) (a b : MapView) (fa : IsMapView gm a) (fb : IsMapView gm b)
       none_is None = refl
       none_is (Some l) = refl
 
-  letters-give : applied cell_cmp cell_of (λ cell. has (minus a.exposed b.exposed) cell.x cell.y) (puts_from cell_cmp cell_of same_letter a.letters b.letters) a.letters ≡ b.letters
+  letters-give : applied cell_cmp cell_of (λ cell. has (minus a.exposed b.exposed) cell.x cell.y) (puts_from same_letter a.letters b.letters) a.letters ≡ b.letters
   letters-give = applied-puts cell_cmp cell_of cell_total cell_anti same_letter same_letter-tells (λ cell. has (minus a.exposed b.exposed) cell.x cell.y) a.letters b.letters (T_of _ fa.ordered) (T_of _ fb.ordered) hidden_is
 
-  is_put : (A B : Option Letter) (e f : Bool) → is_some A ≡ e → is_some B ≡ f → ((e && not (e && not f)) || is_some (kept (differs cell_cmp cell_of same_letter A) B)) ≡ f
-  is_put A B e f p q = subst (λ e. ((e && not (e && not f)) || is_some (kept (differs cell_cmp cell_of same_letter A) B)) ≡ f) p (subst (λ f. ((is_some A && not (is_some A && not f)) || is_some (kept (differs cell_cmp cell_of same_letter A) B)) ≡ f) q (here A B))
+  is_put : (A B : Option Letter) (e f : Bool) → is_some A ≡ e → is_some B ≡ f → ((e && not (e && not f)) || is_some (kept (differs same_letter A) B)) ≡ f
+  is_put A B e f p q = subst (λ e. ((e && not (e && not f)) || is_some (kept (differs same_letter A) B)) ≡ f) p (subst (λ f. ((is_some A && not (is_some A && not f)) || is_some (kept (differs same_letter A) B)) ≡ f) q (here A B))
     where
-      here : (A B : Option Letter) → ((is_some A && not (is_some A && not (is_some B))) || is_some (kept (differs cell_cmp cell_of same_letter A) B)) ≡ is_some B
+      here : (A B : Option Letter) → ((is_some A && not (is_some A && not (is_some B))) || is_some (kept (differs same_letter A) B)) ≡ is_some B
       here None None = refl
       here None (Some l) = refl
       here (Some k) None = refl
       here (Some k) (Some l) = refl
 
-  exposed-gives : cells_where a.size (λ x y. (has a.exposed x y && not (has (minus a.exposed b.exposed) x y)) || has_letter (puts_from cell_cmp cell_of same_letter a.letters b.letters) x y) ≡ b.exposed
+  exposed-gives : cells_where a.size (λ x y. (has a.exposed x y && not (has (minus a.exposed b.exposed) x y)) || has_letter (puts_from same_letter a.letters b.letters) x y) ≡ b.exposed
   exposed-gives =
       cells_where_same a.size _ (λ x y. has b.exposed x y) (λ x y hx hy.
       let cell : Cell = record { x = x; y = y } in
-      (λ i. (has a.exposed x y && not (hidden_at x y hx hy i)) || has_letter-found x y (puts_from cell_cmp cell_of same_letter a.letters b.letters) i)
-      ∙ (λ i. (has a.exposed x y && not (has a.exposed x y && not (has b.exposed x y))) || is_some (at-puts cell_cmp cell_of cell_total cell_anti same_letter same_letter-tells cell a.letters b.letters (T_of _ fb.ordered) i))
+      (λ i. (has a.exposed x y && not (hidden_at x y hx hy i)) || has_letter-found x y (puts_from same_letter a.letters b.letters) i)
+      ∙ (λ i. (has a.exposed x y && not (has a.exposed x y && not (has b.exposed x y))) || is_some (at-puts cell_cmp cell_of cell_total cell_anti same_letter same_letter-tells cell a.letters b.letters (T_of _ fa.ordered) (T_of _ fb.ordered) i))
       ∙ is_put (letter_at cell a.letters) (letter_at cell b.letters) (has a.exposed x y) (has b.exposed x y) (letter_of a fa cell hx hy) (letter_of b fb cell (subst (λ e. x < e.w) size hx) (subst (λ e. y < e.h) size hy)))
       ∙ ap (λ e. cells_where e (λ x y. has b.exposed x y)) (size ∙ sym fb.exposed_size) ∙ sym fb.exposed
 
@@ -170,9 +171,9 @@ without_none : {A : Type 0} (xs : List A) → filter (λ x. true) xs ≡ xs
 without_none [] = refl
 without_none (x ∷ xs) = ap (λ rest. x ∷ rest) (without_none xs)
 
-types-give : {V : Type 0} (same : Named V → Named V → Bool) → Tells same → (a b : List (Named V)) → in_order tag_cmp name_of a ≡ true → in_order tag_cmp name_of b ≡ true → ((q : List ℕ) → is_some (at tag_cmp name_of q a) ≡ true → is_some (at tag_cmp name_of q b) ≡ true) → put_all tag_cmp name_of (puts_from tag_cmp name_of same a b) a ≡ b
+types-give : {V : Type 0} (same : Named V → Named V → Bool) → Tells same → (a b : List (Named V)) → in_order tag_cmp name_of a ≡ true → in_order tag_cmp name_of b ≡ true → ((q : List ℕ) → is_some (at tag_cmp name_of q a) ≡ true → is_some (at tag_cmp name_of q b) ≡ true) → put_all tag_cmp name_of (puts_from same a b) a ≡ b
 types-give {V} same tells a b g h still =
-    ap (put_all tag_cmp name_of (puts_from tag_cmp name_of same a b)) (sym (without_none a))
+    ap (put_all tag_cmp name_of (puts_from same a b)) (sym (without_none a))
     ∙ applied-puts tag_cmp name_of tag_total tag_anti same tells (λ k. false) a b (T_of _ g) (T_of _ h) (λ q s. there (at tag_cmp name_of q b) (still q s))
   where
     there : (B : Option (Named V)) → is_some B ≡ true → false ≡ is_none B
@@ -185,13 +186,13 @@ gives_after a b fa fb f = λ i. record {
   gm = f.gm i;
   lights = types-give same_light same_light-tells a.lights b.lights fa.lights fb.lights f.lights i;
   sights = types-give same_bytes same_bytes-tells a.sights b.sights fa.sights fb.sights f.sights i;
-  maps = patched-deltas tag_cmp map_name change_name tag_total tag_anti same_map same_map-tells map_change map_with (λ x y. refl) (λ x d. refl)
-      (is_among tag_cmp map_name (gone_from tag_cmp map_name a.maps b.maps)) a.maps b.maps (T_of _ fa.maps) (T_of _ fb.maps)
-      (λ q s. is_among-gone_from tag_cmp map_name tag_total tag_anti q a.maps b.maps s)
+  maps = patched-deltas tag_cmp map_name change_name tag_total tag_anti same_map same_map-tells map_change map_with (λ x y. refl) (λ x d. refl) bytes_eq tag_ties
+      (is_among bytes_eq (gone_from bytes_eq map_name a.maps b.maps)) a.maps b.maps (T_of _ fa.maps) (T_of _ fb.maps)
+      (λ q s. is_among-gone_from tag_cmp map_name tag_total tag_anti bytes_eq tag_ties q a.maps b.maps s)
       (λ q x y ex ey. map_with-change b.gm x y (subst (λ g. IsMapView g x) f.gm (at-all tag_cmp map_name tag_total tag_anti (IsMapView a.gm) q a.maps x fa.each_map ex)) (at-all tag_cmp map_name tag_total tag_anti (IsMapView b.gm) q b.maps y fb.each_map ey) (f.sizes q x y ex ey)
       (sym (tag_anti q x.name (at-key tag_cmp map_name tag_total tag_anti q a.maps x ex)) ∙ tag_anti q y.name (at-key tag_cmp map_name tag_total tag_anti q b.maps y ey))) i;
-  tokens = applied-puts id_cmp token_id id_total id_anti same_token same_token-tells (is_among id_cmp token_id (gone_from id_cmp token_id a.tokens b.tokens)) a.tokens b.tokens (T_of _ fa.tokens) (T_of _ fb.tokens)
-      (λ q s. is_among-gone_from id_cmp token_id id_total id_anti q a.tokens b.tokens s) i;
+  tokens = applied-puts id_cmp token_id id_total id_anti same_token same_token-tells (is_among id_eq (gone_from id_eq token_id a.tokens b.tokens)) a.tokens b.tokens (T_of _ fa.tokens) (T_of _ fb.tokens)
+      (λ q s. is_among-gone_from id_cmp token_id id_total id_anti id_eq id_ties q a.tokens b.tokens s) i;
 }
 
 -- ---- no change

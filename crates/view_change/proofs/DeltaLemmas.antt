@@ -9,8 +9,8 @@ use Rattle.std.specs.Ordering.{eq_by_cmp, is_eq, is_lt}
 use Rattle.std.specs.Cmp.{IsTotalOrder}
 use Rattle.std.specs.FinMap.{IsAntisymmetric}
 use Rattle.std.specs.FinMap.Entries.{find, is_sorted, below_all, find_tied}
-use Rattle.view_change.specs.Keyed.{keyed, at, in_order, put_all, without, delta_from, deltas, news, with_one, with_its, patched}
-use Rattle.view_change.proofs.KeyedLemmas.{or_else, kept, eq_is, first, second, not_below, at-filter, at-key, at-put_all, at-by_key, in_order-put_all, in_order-by_key, same_lists, nothing_in}
+use Rattle.view_change.specs.Keyed.{keyed, at, in_order, put_all, without, has_key, delta_from, deltas, news, with_one, with_its, patched}
+use Rattle.view_change.proofs.KeyedLemmas.{or_else, kept, eq_is, first, second, not_below, at-filter, at-key, at-put_all, at-by_key, in_order-put_all, in_order-by_key, same_lists, has_key-found}
 use lib.Dec.{T}
 
 pub option_map-same : {A B : Type 0} (f g : A → B) (C : Option A) → ((x : A) → C ≡ Some x → f x ≡ g x) → option_map f C ≡ option_map g C
@@ -45,7 +45,8 @@ module _ {X D K : Type 0} (R : K → K → Ordering) (key : X → K) (change_key
       below x (y ∷ ys) = λ i. is_lt (R (keys x i) (keys y i)) && below x ys i
 
   module _ (same : X → X → Bool) (tells : (x y : X) → Decides (same x y) (x ≡ y)) (delta : X → X → D) (patch : X → D → X)
-      (delta_key : (x y : X) → change_key (delta x y) ≡ key y) (patch_key : (x : X) (d : D) → key (patch x d) ≡ key x) where
+      (delta_key : (x y : X) → change_key (delta x y) ≡ key y) (patch_key : (x : X) (d : D) → key (patch x d) ≡ key x)
+      (same_key : K → K → Bool) (ties : (a b : K) → same_key a b ≡ eq_by_cmp R a b) where
     joined_back : (A B : Option X) (gone : Bool) (d : Option D) → (is_some A ≡ true → gone ≡ is_none B) → d ≡ option_and_then (delta_from R key change_key same delta A) B
         → ((x y : X) → A ≡ Some x → B ≡ Some y → patch x (delta x y) ≡ y)
         → or_else (kept (λ y. is_none A) B) (option_map (λ x. with_one R key change_key patch x d) (cond (not gone) A None)) ≡ B
@@ -88,12 +89,12 @@ module _ {X D K : Type 0} (R : K → K → Ordering) (key : X → K) (change_key
         here None e = refl
         here (Some y) e = ap (λ z. delta_from R key change_key same delta z y) (find_tied R o q (key y) (e y refl) (keyed R key before))
 
-    at-news : (q : K) (before after : List X) → T (in_order R key after) → at R key q (news R key change_key before after) ≡ kept (λ y. is_none (at R key q before)) (at R key q after)
-    at-news q before after g = at-filter R key o anti (λ y. is_none (at R key (key y) before)) q after g ∙ here (at R key q after) (at-key R key o anti q after)
+    at-news : (q : K) (before after : List X) → T (in_order R key after) → at R key q (news same_key key before after) ≡ kept (λ y. is_none (at R key q before)) (at R key q after)
+    at-news q before after g = at-filter R key o anti (λ y. not (has_key same_key key before (key y))) q after g ∙ here (at R key q after) (at-key R key o anti q after)
       where
-        here : (B : Option X) → ((y : X) → B ≡ Some y → R q (key y) ≡ Equal) → kept (λ y. is_none (at R key (key y) before)) B ≡ kept (λ y. is_none (at R key q before)) B
+        here : (B : Option X) → ((y : X) → B ≡ Some y → R q (key y) ≡ Equal) → kept (λ y. not (has_key same_key key before (key y))) B ≡ kept (λ y. is_none (at R key q before)) B
         here None e = refl
-        here (Some y) e = ap (λ z. cond (is_none z) (Some y) None) (find_tied R o q (key y) (e y refl) (keyed R key before))
+        here (Some y) e = ap (λ t. cond t (Some y) None) (has_key-found R key o anti same_key ties (key y) before ∙ ap is_none (find_tied R o q (key y) (e y refl) (keyed R key before)))
 
     found_left : (b : Bool) (A : Option X) (x : X) → cond b A None ≡ Some x → A ≡ Some x
     found_left true A x e = e
@@ -103,7 +104,7 @@ module _ {X D K : Type 0} (R : K → K → Ordering) (key : X → K) (change_key
     pub patched-deltas : (gone : K → Bool) (before after : List X) → T (in_order R key before) → T (in_order R key after)
         → ((q : K) → is_some (at R key q before) ≡ true → gone q ≡ is_none (at R key q after))
         → ((q : K) (x y : X) → at R key q before ≡ Some x → at R key q after ≡ Some y → patch x (delta x y) ≡ y)
-        → patched R key change_key patch gone (deltas R key change_key same delta before after) (news R key change_key before after) before ≡ after
+        → patched R key change_key patch gone (deltas R key change_key same delta before after) (news same_key key before after) before ≡ after
     patched-deltas gone before after g h is fits =
         same_lists R key o anti _ after
         (in_order-put_all R key o anti new (map its left) (subst T (sym (in_order-map its keys left)) (in_order-by_key R key o anti (λ k. not (gone k)) before g))) h
@@ -120,7 +121,7 @@ module _ {X D K : Type 0} (R : K → K → Ordering) (key : X → K) (change_key
         ds = deltas R key change_key same delta before after
 
         new : List X
-        new = news R key change_key before after
+        new = news same_key key before after
 
         left : List X
         left = without R key gone before
@@ -130,17 +131,3 @@ module _ {X D K : Type 0} (R : K → K → Ordering) (key : X → K) (change_key
 
         keys : (x : X) → key (its x) ≡ key x
         keys x = its_key x (at R change_key (key x) ds)
-
-    pub deltas-same : (xs : List X) → T (in_order R key xs) → deltas R key change_key same delta xs xs ≡ []
-    deltas-same xs g = nothing_in R change_key o anti (deltas R key change_key same delta xs xs) (λ q. at-deltas q xs xs g ∙ here (at R key q xs))
-      where
-        here : (A : Option X) → option_and_then (delta_from R key change_key same delta A) A ≡ None
-        here None = refl
-        here (Some x) = ap (λ t. cond t None (Some (delta x x))) ((tells x x).1 refl)
-
-    pub news-same : (xs : List X) → T (in_order R key xs) → news R key change_key xs xs ≡ []
-    news-same xs g = nothing_in R key o anti (news R key change_key xs xs) (λ q. at-news q xs xs g ∙ here (at R key q xs))
-      where
-        here : (A : Option X) → kept (λ y. is_none A) A ≡ None
-        here None = refl
-        here (Some x) = refl

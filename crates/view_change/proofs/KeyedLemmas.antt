@@ -11,7 +11,7 @@ use Rattle.std.specs.Cmp.{IsTotalOrder, tied_itself}
 use Rattle.std.specs.FinMap.{IsAntisymmetric}
 use Rattle.std.specs.FinMap.Entries as entries
 use Rattle.std.specs.FinMap.Entries.{find, is_sorted, where_key, below_all, by_order, find-put, is_sorted-put, find-where_key, is_sorted-where_key, find_tied, same_entries, is_some-find}
-use Rattle.view_change.specs.Keyed.{keyed, at, in_order, put_by, put, put_all, without, applied, gone_from, is_among, differs, puts_from}
+use Rattle.view_change.specs.Keyed.{keyed, at, in_order, put_by, put, put_all, without, applied, has_key, news, gone_from, is_among, is_in, puts_from}
 use lib.Dec.{T}
 
 pub eq_is : (r : Ordering) → is_eq r ≡ true → r ≡ Equal
@@ -32,6 +32,9 @@ less Less p = refl
 less Equal p = absurd p
 less Greater p = absurd p
 
+other : false ≡ true → ⊥
+other e = cc
+
 some_same : {X : Type 0} (x y : X) → Some x ≡ Some y → x ≡ y
 some_same x y e = ap (λ o. unwrap_or o x) e
 
@@ -45,6 +48,11 @@ kept p (Some x) = cond (p x) (Some x) None
 abbrev pub or_else : {X : Type 0} → Option X → Option X → Option X
 or_else None y = y
 or_else (Some x) y = Some x
+
+-- whether the item that was found isn't the same
+abbrev pub differs : {X : Type 0} → (X → X → Bool) → Option X → X → Bool
+differs same None y = true
+differs same (Some x) y = not (same x y)
 
 module _ {X K : Type 0} (R : K → K → Ordering) (key : X → K) (o : IsTotalOrder R) (anti : IsAntisymmetric R) where
   pub keyed-put : (y : X) (xs : List X) → keyed R key (put R key y xs) ≡ entries.put R (key y) y (keyed R key xs)
@@ -131,7 +139,7 @@ module _ {X K : Type 0} (R : K → K → Ordering) (key : X → K) (o : IsTotalO
 
   module _ (same : X → X → Bool) (tells : (x y : X) → Decides (same x y) (x ≡ y)) where
     -- what is put on what is left gives what was meant
-    joined_back : (A B : Option X) (gone : Bool) → (is_some A ≡ true → gone ≡ is_none B) → or_else (kept (differs R key same A) B) (cond (not gone) A None) ≡ B
+    joined_back : (A B : Option X) (gone : Bool) → (is_some A ≡ true → gone ≡ is_none B) → or_else (kept (differs same A) B) (cond (not gone) A None) ≡ B
     joined_back None None gone h = cond_none (not gone)
       where
         none : Option X
@@ -148,49 +156,62 @@ module _ {X K : Type 0} (R : K → K → Ordering) (key : X → K) (o : IsTotalO
         here true d = ap (λ g. cond (not g) (Some x) None) (h refl) ∙ ap Some (d.0 refl)
         here false d = refl
 
-    pub at-puts : (q : K) (before after : List X) → T (in_order R key after) → at R key q (puts_from R key same before after) ≡ kept (differs R key same (at R key q before)) (at R key q after)
-    at-puts q before after h = at-filter (λ y. differs R key same (at R key (key y) before) y) q after h ∙ here (at R key q after) (at-key q after)
+    -- an item is in a list where the one with its key is the same
+    is_in-differs : (y : X) (xs : List X) → T (in_order R key xs) → not (is_in same xs y) ≡ differs same (at R key (key y) xs) y
+    is_in-differs y [] h = refl
+    is_in-differs y (x ∷ xs) h =
+        here (same x y) (eq_by_cmp R (key y) (key x)) refl (λ e. ap (λ z. eq_by_cmp R (key y) (key z)) ((tells x y).0 e) ∙ ap is_eq (tied_itself o (key y))) refl (is_in-differs y xs (second _ _ h))
+        (λ e. not_below (key x) (key y) xs e (first _ _ h))
       where
-        here : (B : Option X) → ((y : X) → B ≡ Some y → R q (key y) ≡ Equal) → kept (λ y. differs R key same (at R key (key y) before) y) B ≡ kept (differs R key same (at R key q before)) B
+        or_not : (s r : Bool) → not r ≡ true → not (s || r) ≡ not s
+        or_not true r e = refl
+        or_not false r e = e
+
+        here : (s e : Bool) → same x y ≡ s → (s ≡ true → eq_by_cmp R (key y) (key x) ≡ true) → eq_by_cmp R (key y) (key x) ≡ e → not (is_in same xs y) ≡ differs same (at R key (key y) xs) y → (R (key y) (key x) ≡ Equal → at R key (key y) xs ≡ None)
+            → not (s || is_in same xs y) ≡ differs same (cond e (Some x) (at R key (key y) xs)) y
+        here s true q k t i n = or_not s (is_in same xs y) (i ∙ ap (λ z. differs same z y) (n (eq_is _ t))) ∙ ap not (sym q)
+        here true false q k t i n = absurd (other (sym t ∙ k refl))
+        here false false q k t i n = i
+
+    pub at-puts : (q : K) (before after : List X) → T (in_order R key before) → T (in_order R key after) → at R key q (puts_from same before after) ≡ kept (differs same (at R key q before)) (at R key q after)
+    at-puts q before after g h = at-filter (λ y. not (is_in same before y)) q after h ∙ here (at R key q after) (at-key q after)
+      where
+        here : (B : Option X) → ((y : X) → B ≡ Some y → R q (key y) ≡ Equal) → kept (λ y. not (is_in same before y)) B ≡ kept (differs same (at R key q before)) B
         here None e = refl
-        here (Some y) e = ap (λ z. cond (differs R key same z y) (Some y) None) (find_tied R o q (key y) (e y refl) (keyed R key before))
+        here (Some y) e = ap (λ t. cond t (Some y) None) (is_in-differs y before g ∙ ap (λ z. differs same z y) (find_tied R o q (key y) (e y refl) (keyed R key before)))
 
     -- a list and its change give the list after it
-    pub applied-puts : (gone : K → Bool) (before after : List X) → T (in_order R key before) → T (in_order R key after) → ((q : K) → is_some (at R key q before) ≡ true → gone q ≡ is_none (at R key q after)) → applied R key gone (puts_from R key same before after) before ≡ after
+    pub applied-puts : (gone : K → Bool) (before after : List X) → T (in_order R key before) → T (in_order R key after) → ((q : K) → is_some (at R key q before) ≡ true → gone q ≡ is_none (at R key q after)) → applied R key gone (puts_from same before after) before ≡ after
     applied-puts gone before after g h is =
-        same_lists _ after (in_order-put_all (puts_from R key same before after) (without R key gone before) (in_order-by_key (λ k. not (gone k)) before g)) h (λ q.
-        at-put_all q (puts_from R key same before after) (without R key gone before)
-        ∙ (λ i. or_else (at-puts q before after h i) (at-by_key (λ k. not (gone k)) q before i))
+        same_lists _ after (in_order-put_all (puts_from same before after) (without R key gone before) (in_order-by_key (λ k. not (gone k)) before g)) h (λ q.
+        at-put_all q (puts_from same before after) (without R key gone before)
+        ∙ (λ i. or_else (at-puts q before after g h i) (at-by_key (λ k. not (gone k)) q before i))
         ∙ joined_back (at R key q before) (at R key q after) (gone q) (is q))
 
-  -- the keys that are named as gone
-  pub is_among-gone_from : (q : K) (before after : List X) → is_some (at R key q before) ≡ true → is_among R key (gone_from R key before after) q ≡ is_none (at R key q after)
-  is_among-gone_from q before after s = ap (list_any (eq_by_cmp R q)) (keys (filter (λ x. is_none (at R key (key x) after)) before)) ∙ sym (is_some-find R q (keyed R key (filter (λ x. is_none (at R key (key x) after)) before))) ∙ ap is_some (at-by_key (λ k. is_none (at R key k after)) q before) ∙ here (is_none (at R key q after)) (at R key q before) s
-    where
-      here : (b : Bool) (A : Option X) → is_some A ≡ true → is_some (cond b A None) ≡ b
-      here true A s = s
-      here false A s = refl
+  module _ (same_key : K → K → Bool) (ties : (a b : K) → same_key a b ≡ eq_by_cmp R a b) where
+    pub has_key-found : (q : K) (xs : List X) → not (has_key same_key key xs q) ≡ is_none (at R key q xs)
+    has_key-found q [] = refl
+    has_key-found q (x ∷ xs) = ap (λ t. not (t || has_key same_key key xs q)) (ties q (key x)) ∙ here (eq_by_cmp R q (key x)) (has_key-found q xs)
+      where
+        here : (b : Bool) → not (has_key same_key key xs q) ≡ is_none (at R key q xs) → not (b || has_key same_key key xs q) ≡ is_none (cond b (Some x) (at R key q xs))
+        here true i = refl
+        here false i = i
 
-      keys : (xs : List X) → map key xs ≡ map (λ (e : K × X). e.0) (keyed R key xs)
-      keys [] = refl
-      keys (x ∷ xs) = ap (λ ks. key x ∷ ks) (keys xs)
+    -- the keys that are named as gone
+    pub is_among-gone_from : (q : K) (before after : List X) → is_some (at R key q before) ≡ true → is_among same_key (gone_from same_key key before after) q ≡ is_none (at R key q after)
+    is_among-gone_from q before after s =
+        found (filter (λ x. not (has_key same_key key after (key x))) before)
+        ∙ ap is_some (at-by_key (λ k. not (has_key same_key key after k)) q before) ∙ here (not (has_key same_key key after q)) (at R key q before) s
+        ∙ has_key-found q after
+      where
+        here : (b : Bool) (A : Option X) → is_some A ≡ true → is_some (cond b A None) ≡ b
+        here true A s = s
+        here false A s = refl
 
-  -- a list in which nothing is found is empty
-  pub nothing_in : (xs : List X) → ((q : K) → at R key q xs ≡ None) → xs ≡ []
-  nothing_in [] h = refl
-  nothing_in (x ∷ xs) h = absurd (some_none x (sym (ap (λ t. cond (is_eq t) (Some x) (at R key (key x) xs)) (tied_itself o (key x))) ∙ h (key x)))
-
-  -- between a list and itself
-  pub gone_from-same : (xs : List X) → gone_from R key xs xs ≡ []
-  gone_from-same xs = ap (map key) (nothing_in (filter (λ x. is_none (at R key (key x) xs)) xs) (λ q. at-by_key (λ k. is_none (at R key k xs)) q xs ∙ here (at R key q xs)))
-    where
-      here : (A : Option X) → cond (is_none A) A None ≡ None
-      here None = refl
-      here (Some x) = refl
-
-  pub puts_from-same : (same : X → X → Bool) → ((x y : X) → Decides (same x y) (x ≡ y)) → (xs : List X) → T (in_order R key xs) → puts_from R key same xs xs ≡ []
-  puts_from-same same tells xs g = nothing_in (puts_from R key same xs xs) (λ q. at-puts same tells q xs xs g ∙ here (at R key q xs))
-    where
-      here : (A : Option X) → kept (differs R key same A) A ≡ None
-      here None = refl
-      here (Some x) = ap (λ t. cond (not t) (Some x) None) ((tells x x).1 refl)
+        found : (xs : List X) → is_among same_key (map key xs) q ≡ is_some (at R key q xs)
+        found [] = refl
+        found (x ∷ xs) = ap (λ t. t || is_among same_key (map key xs) q) (ties q (key x)) ∙ some_or (eq_by_cmp R q (key x)) (found xs)
+          where
+            some_or : (b : Bool) → is_among same_key (map key xs) q ≡ is_some (at R key q xs) → (b || is_among same_key (map key xs) q) ≡ is_some (cond b (Some x) (at R key q xs))
+            some_or true i = refl
+            some_or false i = i

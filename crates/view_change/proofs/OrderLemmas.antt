@@ -1,15 +1,21 @@
 -- The orders of keys are total, and tie equal keys alone.
-use Rattle.std.proofs.Common.{◌≡◌, refl}
+use Rattle.std.proofs.Common.{◌≡◌, ℕ, Bool, List, true, refl, sym, ap, subst}
 use Rattle.std.specs.declared.cmp.Ordering.{Ordering}
 use Rattle.std.specs.declared.cmp.Ordering.TheVariants.{Less, Equal, Greater}
-use Rattle.std.specs.Ordering.{nat_cmp, on, then_cmp, ordering_then}
-use Rattle.std.specs.Cmp.{IsTotalOrder, nat_cmp_total, then_total, on_total}
+use Rattle.std.specs.Ordering.{nat_cmp, on, then_cmp, ordering_then, eq_by_cmp, is_eq}
+use Rattle.std.specs.Bool.{Decides}
+use Rattle.std.specs.Str.{bytes_eq}
+use Rattle.std.proofs.lemmas.Bool.Decides.{same_from_decides}
+use Rattle.std.proofs.lemmas.Slice.Eq.{bytes_eq-Decides}
+use Rattle.names.proofs.SameIds.{id_eq-Decides}
+use Rattle.view_change.proofs.KeyedLemmas.{eq_is}
+use Rattle.std.specs.Cmp.{tied_itself, IsTotalOrder, nat_cmp_total, then_total, on_total}
 use Rattle.std.specs.Cmp.Lexicographic.{nat_list_cmp_total}
 use Rattle.std.specs.FinMap.{IsAntisymmetric, nat_cmp-IsAntisymmetric, slice_cmp-IsAntisymmetric}
 use Rattle.cells.specs.declared.cell.Cell.{Cell}
 use Rattle.names.specs.declared.token_id.TokenId.{TokenId}
 use Rattle.names.specs.Tag.{tag_cmp}
-use Rattle.names.specs.TokenId.{id_cmp}
+use Rattle.names.specs.TokenId.{id_cmp, id_eq}
 use Rattle.view_change.specs.Keys.{cell_cmp}
 
 pub tag_total : IsTotalOrder tag_cmp
@@ -42,3 +48,13 @@ cell_anti i j e =
     let v : i.y ≡ j.y = nat_cmp-IsAntisymmetric i.y j.y p.0 in
     let u : i.x ≡ j.x = nat_cmp-IsAntisymmetric i.x j.x p.1 in
     λ k. record { x = u k; y = v k }
+
+-- a test that tells equality is the order's tie
+ties : {K : Type 0} (R : K → K → Ordering) → IsTotalOrder R → IsAntisymmetric R → (E : K → K → Bool) → ((a b : K) → Decides (E a b) (a ≡ b)) → (a b : K) → E a b ≡ eq_by_cmp R a b
+ties R total anti E tells a b = same_from_decides (E a b) (eq_by_cmp R a b) (tells a b) (λ e. anti a b (eq_is _ e), λ e. subst (λ z. eq_by_cmp R a z ≡ true) e (ap is_eq (tied_itself total a)))
+
+pub tag_ties : (a b : List ℕ) → bytes_eq a b ≡ eq_by_cmp tag_cmp a b
+tag_ties = ties tag_cmp tag_total tag_anti bytes_eq bytes_eq-Decides
+
+pub id_ties : (a b : TokenId) → id_eq a b ≡ eq_by_cmp id_cmp a b
+id_ties = ties id_cmp id_total id_anti id_eq id_eq-Decides

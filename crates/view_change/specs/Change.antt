@@ -1,11 +1,12 @@
 -- How one view becomes another.
 use Rattle.std.specs.Prelude.{ℕ, ◌&&◌, ◌||◌, not, Bool, if◌then◌else◌, List, Option, Some, None, unwrap_or}
 use Rattle.std.specs.List.{list_any}
+use Rattle.std.specs.Str.{bytes_eq}
 use Rattle.cells.specs.Cell.{is_at}
 use Rattle.cells.specs.Cells.{Cells, has, cells_where}
 use Rattle.cells.specs.declared.cell.Cell.{Cell}
 use Rattle.names.specs.Tag.{tag_cmp}
-use Rattle.names.specs.TokenId.{id_cmp}
+use Rattle.names.specs.TokenId.{id_cmp, id_eq}
 use Rattle.view_change.specs.declared.view.MapView.{MapView}
 use Rattle.view_change.specs.declared.view.View.{View}
 use Rattle.view_change.specs.declared.change.Change.{Change}
@@ -29,7 +30,7 @@ map_change a b = record {
   mode = if same_mode a.mode b.mode then None else Some b.mode;
   shown = shown_change a.shown b.shown;
   dark = minus a.seen b.seen;
-  letters = puts_from cell_cmp cell_of same_letter a.letters b.letters;
+  letters = puts_from same_letter a.letters b.letters;
   hidden = minus a.exposed b.exposed;
   lit = minus b.seen a.seen;
 }
@@ -38,12 +39,12 @@ map_change a b = record {
 unfoldable pub difference : View → View → Change
 difference a b = record {
   changed = deltas tag_cmp map_name change_name same_map map_change a.maps b.maps;
-  gone = gone_from id_cmp token_id a.tokens b.tokens;
-  lights = puts_from tag_cmp name_of same_light a.lights b.lights;
-  maps = news tag_cmp map_name change_name a.maps b.maps;
-  sights = puts_from tag_cmp name_of same_bytes a.sights b.sights;
-  tokens = puts_from id_cmp token_id same_token a.tokens b.tokens;
-  unmapped = gone_from tag_cmp map_name a.maps b.maps;
+  gone = gone_from id_eq token_id a.tokens b.tokens;
+  lights = puts_from same_light a.lights b.lights;
+  maps = news bytes_eq map_name a.maps b.maps;
+  sights = puts_from same_bytes a.sights b.sights;
+  tokens = puts_from same_token a.tokens b.tokens;
+  unmapped = gone_from bytes_eq map_name a.maps b.maps;
 }
 
 -- the change, where the views differ
@@ -87,6 +88,6 @@ apply_change a c = record {
   gm = a.gm;
   lights = put_all tag_cmp name_of c.lights a.lights;
   sights = put_all tag_cmp name_of c.sights a.sights;
-  maps = patched tag_cmp map_name change_name map_with (is_among tag_cmp map_name c.unmapped) c.changed c.maps a.maps;
-  tokens = applied id_cmp token_id (is_among id_cmp token_id c.gone) c.tokens a.tokens;
+  maps = patched tag_cmp map_name change_name map_with (is_among bytes_eq c.unmapped) c.changed c.maps a.maps;
+  tokens = applied id_cmp token_id (is_among id_eq c.gone) c.tokens a.tokens;
 }
