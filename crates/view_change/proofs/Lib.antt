@@ -6,3 +6,4 @@ pub mod ChangeLemmas
 pub mod TerrainLemmas
 pub mod SetLemmas
 pub mod NoFloat
+pub mod SameLoops

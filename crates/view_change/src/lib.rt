@@ -8,6 +8,7 @@ mod change;
 mod change_values;
 mod lines;
 mod lists;
+mod same;
 mod sets;
 mod terrain;
 mod values;
