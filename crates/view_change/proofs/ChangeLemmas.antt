@@ -1,5 +1,5 @@
 -- The laws of changes.
-use Rattle.std.proofs.Common.{◌≡◌, ℕ, ◌<◌, Bool, true, false, cond, ◌&&◌, ◌||◌, List, [], ◌∷◌, Some, None, refl, sym, ◌∙◌, ap, subst, arith}
+use Rattle.std.proofs.Common.{◌≡◌, ℕ, ◌<◌, Bool, true, false, cond, ◌&&◌, ◌||◌, List, [], ◌∷◌, Some, None, get_or, refl, sym, ◌∙◌, ap, subst, arith}
 use Rattle.std.specs.Prelude.{◌↔◌, Option, is_some, is_none, not, unwrap_or, map, nat_lt, All}
 use Rattle.std.specs.Bool.{Decides}
 use Rattle.std.specs.Ordering.{eq_by_cmp, is_eq}
@@ -20,7 +20,7 @@ use Rattle.view_change.specs.declared.view.View.{View}
 use Rattle.view_change.specs.Keys.{Named, Letter, cell_cmp, name_of, cell_of, map_name, change_name, token_id}
 use Rattle.view_change.specs.Same.{same_option, same_bool, same_mode, same_letter, same_light, same_bytes, same_map, same_token, same_view}
 use Rattle.view_change.specs.Keyed.{at, in_order, put_all, applied, gone_from, is_among, puts_from}
-use Rattle.view_change.specs.Views.{letter_at, is_on_map, IsMapView, IsView, FollowsView}
+use Rattle.view_change.specs.Views.{at_name, letter_at, is_on_map, IsMapView, IsView, FitsAmong, HaveOneSize, FollowsView}
 use Rattle.view_change.specs.Change.{minus, shown_change, map_change, or_old, has_letter, map_with, difference, change_of, apply_change}
 use Rattle.view_change.specs.Laws.{NoneIfSame, GivesAfter}
 use Rattle.view_change.proofs.SameLemmas.{Tells, same_option-tells, same_bool-tells, same_mode-tells, same_letter-tells, same_light-tells, same_bytes-tells, same_map-tells, same_token-tells, same_view-tells}
@@ -180,6 +180,24 @@ types-give {V} same tells a b g h still =
     there None e = cc
     there (Some x) e = refl
 
+same_names : (q : List ℕ) (a b : View) (x y : MapView) → at_name map_name q a.maps ≡ Some x → at_name map_name q b.maps ≡ Some y → x.name ≡ y.name
+same_names q a b x y ex ey = sym (tag_anti q x.name (at-key tag_cmp map_name tag_total tag_anti q a.maps x ex)) ∙ tag_anti q y.name (at-key tag_cmp map_name tag_total tag_anti q b.maps y ey)
+
+same_sizes : (q : List ℕ) (a b : View) → FollowsView a b → (x y : MapView) → at_name map_name q a.maps ≡ Some x → at_name map_name q b.maps ≡ Some y → x.name ≡ y.name → x.size ≡ y.size
+same_sizes q a b f x y ex ey name =
+    at-all tag_cmp map_name tag_total tag_anti (λ n. x.name ≡ n.name → x.size ≡ n.size) q b.maps y
+    (at-all tag_cmp map_name tag_total tag_anti (λ m. All (λ n. m.name ≡ n.name → m.size ≡ n.size) b.maps) q a.maps x f.sizes ex) ey name
+
+-- each map after has the size of the map before with its name
+pub fits_among : (a b : View) → IsView a → IsView b → FollowsView a b → All (FitsAmong a.maps) b.maps
+fits_among a b fa fb f k d h m e =
+    let n = get_or b.maps k d in
+    let name : n.name ≡ m.name = tag_anti n.name m.name (at-key tag_cmp map_name tag_total tag_anti n.name a.maps m e) in
+    let size : m.size ≡ n.size = at-all tag_cmp map_name tag_total tag_anti (λ m. All (λ n. m.name ≡ n.name → m.size ≡ n.size) b.maps) n.name a.maps m f.sizes e k d h (sym name) in
+    let old = at-all tag_cmp map_name tag_total tag_anti (IsMapView a.gm) n.name a.maps m fa.each_map e in
+    let new = fb.each_map k d h in
+    record { seen = new.seen_size ∙ sym size ∙ sym old.seen_size; exposed = new.exposed_size ∙ sym size ∙ sym old.exposed_size }
+
 pub gives_after : GivesAfter
 unfolding apply_change difference
 gives_after a b fa fb f = λ i. record {
@@ -189,8 +207,9 @@ gives_after a b fa fb f = λ i. record {
   maps = patched-deltas tag_cmp map_name change_name tag_total tag_anti same_map same_map-tells map_change map_with (λ x y. refl) (λ x d. refl) bytes_eq tag_ties
       (is_among bytes_eq (gone_from bytes_eq map_name a.maps b.maps)) a.maps b.maps (T_of _ fa.maps) (T_of _ fb.maps)
       (λ q s. is_among-gone_from tag_cmp map_name tag_total tag_anti bytes_eq tag_ties q a.maps b.maps s)
-      (λ q x y ex ey. map_with-change b.gm x y (subst (λ g. IsMapView g x) f.gm (at-all tag_cmp map_name tag_total tag_anti (IsMapView a.gm) q a.maps x fa.each_map ex)) (at-all tag_cmp map_name tag_total tag_anti (IsMapView b.gm) q b.maps y fb.each_map ey) (f.sizes q x y ex ey)
-      (sym (tag_anti q x.name (at-key tag_cmp map_name tag_total tag_anti q a.maps x ex)) ∙ tag_anti q y.name (at-key tag_cmp map_name tag_total tag_anti q b.maps y ey))) i;
+      (λ q x y ex ey. let name = same_names q a b x y ex ey in
+      map_with-change b.gm x y (subst (λ g. IsMapView g x) f.gm (at-all tag_cmp map_name tag_total tag_anti (IsMapView a.gm) q a.maps x fa.each_map ex)) (at-all tag_cmp map_name tag_total tag_anti (IsMapView b.gm) q b.maps y fb.each_map ey)
+      (same_sizes q a b f x y ex ey name) name) i;
   tokens = applied-puts id_cmp token_id id_total id_anti same_token same_token-tells (is_among id_eq (gone_from id_eq token_id a.tokens b.tokens)) a.tokens b.tokens (T_of _ fa.tokens) (T_of _ fb.tokens)
       (λ q s. is_among-gone_from id_cmp token_id id_total id_anti id_eq id_ties q a.tokens b.tokens s) i;
 }

@@ -7,3 +7,5 @@ pub mod TerrainLemmas
 pub mod SetLemmas
 pub mod NoFloat
 pub mod SameLoops
+pub mod MapLoops
+pub mod ChangeShape

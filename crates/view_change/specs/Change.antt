@@ -5,6 +5,7 @@ use Rattle.std.specs.Str.{bytes_eq}
 use Rattle.cells.specs.Cell.{is_at}
 use Rattle.cells.specs.Cells.{Cells, has, cells_where}
 use Rattle.cells.specs.declared.cell.Cell.{Cell}
+use Rattle.names.specs.declared.kinds.Mode.{Mode}
 use Rattle.names.specs.Tag.{tag_cmp}
 use Rattle.names.specs.TokenId.{id_cmp, id_eq}
 use Rattle.view_change.specs.declared.view.MapView.{MapView}
@@ -21,13 +22,17 @@ use Rattle.view_change.specs.Keyed.{put_all, applied, gone_from, is_among, puts_
 abbrev pub minus : Cells → Cells → Cells
 minus a b = cells_where a.extent (λ x y. has a x y && not (has b x y))
 
+-- the second, where it isn't the first
+abbrev pub mode_change : Mode → Mode → Option Mode
+mode_change a b = if same_mode a b then None else Some b
+
 abbrev pub shown_change : Option Bool → Option Bool → Option Bool
 shown_change a b = if same_option same_bool a b then None else b
 
 abbrev pub map_change : MapView → MapView → MapChange
 map_change a b = record {
   name = b.name;
-  mode = if same_mode a.mode b.mode then None else Some b.mode;
+  mode = mode_change a.mode b.mode;
   shown = shown_change a.shown b.shown;
   dark = minus a.seen b.seen;
   letters = puts_from same_letter a.letters b.letters;

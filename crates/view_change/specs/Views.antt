@@ -65,8 +65,6 @@ pub record IsView (v : View) : Type 0 where
 
 -- a change of a map: its letters are of cells of the map
 pub record IsMapChange (c : MapChange) : Type 0 where
-  pub hidden_size : c.hidden.extent ≡ c.dark.extent
-  pub lit_size : c.lit.extent ≡ c.dark.extent
   pub on_map : All (λ letter. IsOnMap c.dark.extent letter.0) c.letters
   pub terrain : IsTerrainOnly c.letters
 
@@ -75,9 +73,18 @@ pub record IsChange (c : Change) : Type 0 where
   pub changed : All IsMapChange c.changed
   pub maps : All HasTerrain c.maps
 
+-- the sets of both maps have one size
+pub record HaveOneSize (m n : MapView) : Type 0 where
+  pub seen : n.seen.extent ≡ m.seen.extent
+  pub exposed : n.exposed.extent ≡ m.exposed.extent
+
+-- the map has the size of the one with its name among these, if there is one
+abbrev pub FitsAmong : List MapView → MapView → Type 0
+FitsAmong maps n = (m : MapView) → at_name map_name n.name maps ≡ Some m → HaveOneSize m n
+
 -- both views are of one role, a map that is in both has one size, and no type is lost
 pub record FollowsView (a b : View) : Type 0 where
   pub gm : a.gm ≡ b.gm
-  pub sizes : (name : List ℕ) (m n : MapView) → at_name map_name name a.maps ≡ Some m → at_name map_name name b.maps ≡ Some n → m.size ≡ n.size
+  pub sizes : All (λ m. All (λ n. m.name ≡ n.name → m.size ≡ n.size) b.maps) a.maps
   pub lights : (name : List ℕ) → is_some (at_name name_of name a.lights) ≡ true → is_some (at_name name_of name b.lights) ≡ true
   pub sights : (name : List ℕ) → is_some (at_name name_of name a.sights) ≡ true → is_some (at_name name_of name b.sights) ≡ true

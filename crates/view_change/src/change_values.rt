@@ -5,7 +5,7 @@ ghost use Rattle.view_change.specs.Views.{IsMapChange, IsChange};
 ghost use Rattle.view_change.specs.Lines.{put_some, put_lights as put_lights_data, put_sights as put_sights_data, mode_data, terrain_data, lettered as lettered_cells, map_change_data, change_data};
 
 use crate::change::{Change, MapChange};
-use crate::lists::{LightTexts, MapChanges, SightTexts};
+use crate::lists::{LightTexts, SightTexts};
 use crate::sets::lettered;
 use crate::terrain::{runs, terrain};
 use crate::values::{ids, names, put_list, put_member};
@@ -65,12 +65,12 @@ fn map_change_value(alloc: Global, change: &MapChange) -> Result<Value, AllocErr
     Ok(Value::Object(members))
 }
 
-fn map_changes(alloc: Global, changes: &MapChanges) -> Result<Vec<Value>, AllocError>
+fn map_changes(alloc: Global, changes: &[MapChange]) -> Result<Vec<Value>, AllocError>
     requires { All IsMapChange changes.now }
     ensures { IfOk result (λ vs. map view vs.items ≡ map map_change_data changes.now) }
 {
     let mut list = Vec::new(alloc);
-    for change in &changes.list {
+    for change in changes {
         list.push(map_change_value(alloc, change)?)?;
     }
     Ok(list)
@@ -82,7 +82,7 @@ pub(crate) fn change_value(alloc: Global, change: &Change) -> Result<Value, Allo
     ensures { IfOk result (λ v. view v ≡ change_data change.now) }
 {
     let mut members = Map::new(alloc);
-    put_list(&mut members, alloc, "changed", map_changes(alloc, &change.changed)?)?;
+    put_list(&mut members, alloc, "changed", map_changes(alloc, change.changed.items())?)?;
     put_list(&mut members, alloc, "gone", ids(alloc, change.gone.items())?)?;
     put_lights(&mut members, alloc, &change.lights)?;
     put_list(&mut members, alloc, "maps", maps(alloc, &change.maps)?)?;

@@ -6,6 +6,9 @@
 
 mod change;
 mod change_values;
+mod copies;
+mod difference;
+mod laws;
 mod lines;
 mod lists;
 mod same;
@@ -16,6 +19,8 @@ mod view;
 mod view_values;
 
 pub use change::{Change, MapChange};
+pub use difference::change_of;
+pub use laws::{a_change_gives_the_view_after, no_change_between_equal_views};
 pub use lines::{change_line, full_line};
 pub use lists::{
     Letters, LightTexts, MapChanges, MapViews, PropTexts, SeatNos, SightTexts, Tags, TokenIds,

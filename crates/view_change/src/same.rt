@@ -10,7 +10,7 @@ use crate::view::{GmPart, MapView, OwnedPart, TokenView, View};
 use cells::CellSet;
 use names::{Layer, Mode, Tag, Text};
 
-fn same_mode(a: Mode, b: Mode) -> bool
+pub(crate) fn same_mode(a: Mode, b: Mode) -> bool
     ensures { result ≡ same.same_mode a b }
 {
     a == b
@@ -22,7 +22,7 @@ fn same_layer(a: Layer, b: Layer) -> bool
     a == b
 }
 
-fn same_shown(a: Option<bool>, b: Option<bool>) -> bool
+pub(crate) fn same_shown(a: Option<bool>, b: Option<bool>) -> bool
     ensures { result ≡ same.same_option same.same_bool a b }
 {
     match (a, b) {
