@@ -3,7 +3,6 @@ pub mod SameLemmas
 pub mod DeltaLemmas
 pub mod OrderLemmas
 pub mod ChangeLemmas
-pub mod TerrainLemmas
 pub mod SetLemmas
 pub mod NoFloat
 pub mod SameLoops

@@ -1,6 +1,7 @@
 -- The lines that tell a view: each is the compact JSON of a tree.
 use Rattle.std.specs.Prelude.{ℕ, ℤ, ◌==◌, ◌&&◌, nat_le, Bool, List, [], ◌∷◌, map, codes, Option, Some, None}
-use Rattle.std.specs.List.{filter, fold}
+use Rattle.std.specs.List.{filter, flat_map, fold}
+use Rattle.std.specs.Char.{encode_utf8}
 use Rattle.serde_json.specs.Data.{Data, null, boolean, number, unsigned, string, array, Items, no_items, item, object, Members, no_members, member, put}
 use Rattle.serde_json.specs.Find.{of_integer}
 use Rattle.serde_json.specs.View.{items_of}
@@ -103,9 +104,9 @@ runs_data cells = map run_data (runs_of cells)
 abbrev pub is_of_run : Run → Letter → Bool
 is_of_run run letter = (letter.0.y == run.y) && (nat_le run.x0 letter.0.x && nat_le letter.0.x run.x1)
 
--- the letters of the run's cells, in order
+-- the letters of the run's cells, in order, as text
 abbrev pub letters_of_run : List Letter → Run → List ℕ
-letters_of_run letters run = map (λ letter. letter.1) (filter (is_of_run run) letters)
+letters_of_run letters run = flat_map (λ letter. encode_utf8 letter.1) (filter (is_of_run run) letters)
 
 abbrev pub terrain_run_data : List Letter → Run → Data
 terrain_run_data letters run = list_data (whole run.y ∷ whole run.x0 ∷ string (letters_of_run letters run) ∷ [])

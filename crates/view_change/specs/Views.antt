@@ -1,5 +1,5 @@
 -- What holds of a view.
-use Rattle.std.specs.Prelude.{◌≡◌, ◌<◌, ◌≤◌, ◌⊎◌, ℕ, ◌&&◌, Bool, true, List, Option, Some, is_some, nat_lt, All}
+use Rattle.std.specs.Prelude.{◌≡◌, ℕ, ◌&&◌, Bool, true, List, Option, Some, is_some, nat_lt, All}
 use Rattle.cells.specs.Cells.{Extent, has, IsToldByCells}
 use Rattle.cells.specs.declared.cell.Cell.{Cell}
 use Rattle.names.specs.Tag.{tag_cmp}
@@ -7,8 +7,6 @@ use Rattle.names.specs.TokenId.{id_cmp}
 use Rattle.view_change.specs.declared.view.MapView.{MapView}
 use Rattle.view_change.specs.declared.view.TokenView.{TokenView}
 use Rattle.view_change.specs.declared.view.View.{View}
-use Rattle.view_change.specs.declared.change.Change.{Change}
-use Rattle.view_change.specs.declared.change.MapChange.{MapChange}
 use Rattle.view_change.specs.Keys.{Letter, cell_cmp, name_of, cell_of, map_name, token_id}
 use Rattle.view_change.specs.Keyed.{at, in_order}
 
@@ -23,20 +21,6 @@ letter_at = at cell_cmp cell_of
 abbrev pub is_on_map : Extent → Cell → Bool
 is_on_map size cell = nat_lt cell.x size.w && nat_lt cell.y size.h
 
-abbrev pub IsOnMap : Extent → Cell → Type 0
-IsOnMap size cell = (cell.x < size.w) × (cell.y < size.h)
-
--- a full stop, or a to z
-abbrev pub IsTerrain : ℕ → Type 0
-IsTerrain byte = (byte ≡ 46) ⊎ ((97 ≤ byte) × (byte ≤ 122))
-
--- each letter is one of terrain
-abbrev pub IsTerrainOnly : List Letter → Type 0
-IsTerrainOnly letters = All (λ letter. IsTerrain letter.1) letters
-
-abbrev pub HasTerrain : MapView → Type 0
-HasTerrain m = IsTerrainOnly m.letters
-
 -- a map in a view, which is the game master's or a player's: its sets have its size, and its letters are just those
 -- of the exposed cells, by row, then column
 pub record IsMapView (gm : Bool) (m : MapView) : Type 0 where
@@ -47,7 +31,6 @@ pub record IsMapView (gm : Bool) (m : MapView) : Type 0 where
   pub exposed_size : m.exposed.extent ≡ m.size
   pub ordered : in_order cell_cmp cell_of m.letters ≡ true
   pub letters : (cell : Cell) → is_some (letter_at cell m.letters) ≡ (is_on_map m.size cell && has m.exposed cell.x cell.y)
-  pub terrain : HasTerrain m
 
 -- a token in the game master's view has both further parts, one in a player's view may have an owner's
 pub record IsTokenView (gm : Bool) (t : TokenView) : Type 0 where
@@ -62,16 +45,6 @@ pub record IsView (v : View) : Type 0 where
   pub tokens : in_order id_cmp token_id v.tokens ≡ true
   pub each_map : All (IsMapView v.gm) v.maps
   pub each_token : All (IsTokenView v.gm) v.tokens
-
--- a change of a map: its letters are of cells of the map
-pub record IsMapChange (c : MapChange) : Type 0 where
-  pub on_map : All (λ letter. IsOnMap c.dark.extent letter.0) c.letters
-  pub terrain : IsTerrainOnly c.letters
-
--- a change has such maps
-pub record IsChange (c : Change) : Type 0 where
-  pub changed : All IsMapChange c.changed
-  pub maps : All HasTerrain c.maps
 
 -- the sets of both maps have one size
 pub record HaveOneSize (m n : MapView) : Type 0 where

@@ -1,7 +1,6 @@
 //! A change as JSON.
-ghost use Rattle.std.specs.Prelude.{◌≡◌, map, codes, IfOk, OnOk, All};
+ghost use Rattle.std.specs.Prelude.{◌≡◌, map, codes, IfOk, OnOk};
 ghost use Rattle.serde_json.specs.View.{view, members_view};
-ghost use Rattle.view_change.specs.Views.{IsMapChange, IsChange};
 ghost use Rattle.view_change.specs.Lines.{put_some, put_lights as put_lights_data, put_sights as put_sights_data, mode_data, terrain_data, lettered as lettered_cells, map_change_data, change_data};
 
 use crate::change::{Change, MapChange};
@@ -42,7 +41,6 @@ fn put_mode(members: &mut Map<String, Value>, alloc: Global, mode: Option<Mode>)
 }
 
 fn new_terrain(alloc: Global, change: &MapChange) -> Result<Vec<Value>, AllocError>
-    requires { IsMapChange change.now }
     ensures { IfOk result (λ vs. map view vs.items ≡ terrain_data (lettered_cells change.now) change.now.letters) }
 {
     let cells = lettered(alloc, change.dark.size(), change.letters.items())?;
@@ -51,7 +49,6 @@ fn new_terrain(alloc: Global, change: &MapChange) -> Result<Vec<Value>, AllocErr
 
 #[tactic(auto, unfolding(crate::specs::Lines::map_change_data))]
 fn map_change_value(alloc: Global, change: &MapChange) -> Result<Value, AllocError>
-    requires { IsMapChange change.now }
     ensures { IfOk result (λ v. view v ≡ map_change_data change.now) }
 {
     let mut members = Map::new(alloc);
@@ -66,7 +63,6 @@ fn map_change_value(alloc: Global, change: &MapChange) -> Result<Value, AllocErr
 }
 
 fn map_changes(alloc: Global, changes: &[MapChange]) -> Result<Vec<Value>, AllocError>
-    requires { All IsMapChange changes.now }
     ensures { IfOk result (λ vs. map view vs.items ≡ map map_change_data changes.now) }
 {
     let mut list = Vec::new(alloc);
@@ -78,7 +74,6 @@ fn map_changes(alloc: Global, changes: &[MapChange]) -> Result<Vec<Value>, Alloc
 
 #[tactic(auto, unfolding(crate::specs::Lines::change_data))]
 pub(crate) fn change_value(alloc: Global, change: &Change) -> Result<Value, AllocError>
-    requires { IsChange change.now }
     ensures { IfOk result (λ v. view v ≡ change_data change.now) }
 {
     let mut members = Map::new(alloc);

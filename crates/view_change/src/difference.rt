@@ -1,5 +1,5 @@
 //! The change from one view to another.
-ghost use Rattle.std.specs.Prelude.{◌≡◌, ◌↔◌, ◌++◌, [], None, Some, IfOk, OnOk, IfSome, All, cond};
+ghost use Rattle.std.specs.Prelude.{◌≡◌, ◌↔◌, ◌++◌, [], None, Some, IfOk, OnOk, All, cond};
 ghost use Rattle.std.specs.List.{cons_option};
 ghost use Rattle.std.specs.Str.{bytes_eq};
 ghost use Rattle.names.specs.TokenId.{id_eq};
@@ -8,7 +8,7 @@ ghost use Rattle.view_change.specs.declared.view.MapView.{MapView};
 ghost use Rattle.view_change.specs.Keys.{map_name, change_name, token_id};
 ghost use Rattle.view_change.specs.Keyed.{at, has_key, gone_from, news, is_in, puts_from, delta_from, deltas};
 ghost use Rattle.view_change.specs.Same.{same_light, same_bytes, same_letter, same_map as same_map_test, same_token as same_token_test};
-ghost use Rattle.view_change.specs.Views.{at_name, IsMapView, IsView, FollowsView, IsChange, HaveOneSize, FitsAmong};
+ghost use Rattle.view_change.specs.Views.{at_name, HaveOneSize, FitsAmong};
 ghost use Rattle.view_change.specs.Change.{minus as minus_cells, mode_change as mode_change_of, shown_change as shown_change_of, map_change as map_change_of, difference as difference_of, change_of as change_between};
 
 use crate::change::{Change, MapChange};
@@ -245,15 +245,12 @@ fn difference(alloc: Global, before: &View, after: &View) -> Result<Change, Memo
 
 /// The change from one view to another; `None` exactly where the views are equal.
 ///
-/// Both views are of one role, a map that is in both has one size, and no type is lost.
+/// A map that is in both views has one size.
 #[tactic(auto, using(crate::proofs::ChangeShape::none_where_same, crate::proofs::ChangeShape::change_where_other))]
 pub fn change_of(alloc: Global, before: &View, after: &View) -> Result<Option<Change>, Memory>
-    requires before { IsView before.now }
-    requires after { IsView after.now }
-    requires follows { FollowsView before.now after.now }
+    requires { All (FitsAmong before.now.maps) after.now.maps }
     ensures value { IfOk result (λ change. change ≡ change_between before.now after.now) }
     ensures none { IfOk result (λ change. change ≡ None ↔ (before.now ≡ after.now)) }
-    ensures valid { IfOk result (λ change. IfSome change IsChange) }
 {
     if same_view(before, after) {
         return Ok(None);

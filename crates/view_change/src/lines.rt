@@ -1,9 +1,8 @@
 //! The lines that tell a view and a change.
-ghost use Rattle.std.specs.Prelude.{◌≡◌, IfOk, All};
+ghost use Rattle.std.specs.Prelude.{◌≡◌, IfOk};
 ghost use Rattle.json_fields.specs.Lines.{IsOneLine};
 ghost use Rattle.serde_json.specs.View.{view};
 ghost use Rattle.serde_json.specs.Data.{object, member, no_members};
-ghost use Rattle.view_change.specs.Views.{IsChange, HasTerrain};
 ghost use Rattle.view_change.specs.Lines.{full_tree, full_line as full_text, change_tree, change_line as change_text};
 
 use crate::change::Change;
@@ -16,17 +15,15 @@ use serde_json::{Value, json};
 use std::alloc::{AllocError, Global};
 
 fn full_value(alloc: Global, seen: &View) -> Result<Value, AllocError>
-    requires { All HasTerrain seen.now.maps }
     ensures { IfOk result (λ v. view v ≡ full_tree seen.now) }
 {
     let value = view_value(alloc, seen)?;
     json!(in alloc; {"full": value})
 }
 
-/// The line that tells the whole view. Its letters have to be terrain: a full stop, or `a` to `z`.
+/// The line that tells the whole view.
 #[tactic(auto, unfolding(crate::specs::Lines::full_line), using(crate::proofs::NoFloat::full_none))]
 pub fn full_line(alloc: Global, seen: &View) -> Result<LineText, Memory>
-    requires { All HasTerrain seen.now.maps }
     ensures text { IfOk result (λ line. line ≡ full_text seen.now) }
     ensures one_line { IfOk result (λ line. IsOneLine line) }
 {
@@ -37,7 +34,6 @@ pub fn full_line(alloc: Global, seen: &View) -> Result<LineText, Memory>
 }
 
 fn full_change_value(alloc: Global, change: &Change) -> Result<Value, AllocError>
-    requires { IsChange change.now }
     ensures { IfOk result (λ v. view v ≡ change_tree change.now) }
 {
     let value = change_value(alloc, change)?;
@@ -47,7 +43,6 @@ fn full_change_value(alloc: Global, change: &Change) -> Result<Value, AllocError
 /// The line that tells the change.
 #[tactic(auto, unfolding(crate::specs::Lines::change_line), using(crate::proofs::NoFloat::change_tree_none))]
 pub fn change_line(alloc: Global, change: &Change) -> Result<LineText, Memory>
-    requires { IsChange change.now }
     ensures text { IfOk result (λ line. line ≡ change_text change.now) }
     ensures one_line { IfOk result (λ line. IsOneLine line) }
 {

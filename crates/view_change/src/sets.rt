@@ -1,21 +1,29 @@
 //! Sets of cells that come from letters.
-ghost use Rattle.std.specs.Prelude.{◌≡◌, All, IfOk};
-ghost use Rattle.cells.specs.Cells.{cells_where};
-ghost use Rattle.view_change.specs.Views.{IsOnMap};
+ghost use Rattle.std.specs.Prelude.{◌≡◌, ◌||◌, IfOk};
+ghost use Rattle.cells.specs.Cell.{is_at};
+ghost use Rattle.cells.specs.Cells.{has, cells_where};
 ghost use Rattle.view_change.specs.Change.{has_letter, with_lettered};
 
 use cells::{Cell, CellSet, Size};
 use std::alloc::{AllocError, Global};
 
-/// Adds the cells that have a letter.
+/// Adds the cell, where it is on the map.
+fn add_on_map(cells: &mut CellSet, cell: Cell)
+    ensures { cells.new ≡ cells_where cells.old.extent (λ x y. has cells.old x y || is_at cell x y) }
+{
+    if cells.size().has(cell) {
+        cells.add(cell);
+    }
+}
+
+/// Adds the cells that have a letter and are on the map.
 pub(crate) fn add_lettered(cells: &mut CellSet, letters: &[(Cell, u8)])
-    requires { All (λ letter. IsOnMap cells.old.extent letter.0) letters.now }
     ensures { cells.new ≡ with_lettered cells.old letters.now }
 {
     // Opens the set, so that the proof knows that its cells tell it.
     let _ = cells.size();
     for (cell, _) in letters {
-        cells.add(*cell);
+        add_on_map(cells, *cell);
     }
 }
 
@@ -25,7 +33,6 @@ pub(crate) fn lettered(
     size: Size,
     letters: &[(Cell, u8)],
 ) -> Result<CellSet, AllocError>
-    requires { All (λ letter. IsOnMap size letter.0) letters.now }
     ensures { IfOk result (λ cells. cells ≡ cells_where size (has_letter letters.now)) }
 {
     match CellSet::new(alloc, size) {

@@ -1,8 +1,7 @@
 //! Sets of cells as JSON: their maximal runs, alone and with letters.
-ghost use Rattle.std.specs.Prelude.{◌≡◌, map, IfOk, All};
+ghost use Rattle.std.specs.Prelude.{◌≡◌, map, string_bytes, IfOk};
 ghost use Rattle.serde_json.specs.View.{view};
 ghost use Rattle.view_change.specs.Lines.{is_of_run as is_of_run_test, letters_of_run as letters_of_run_list, run_data, runs_data, terrain_run_data, terrain_data};
-ghost use Rattle.view_change.specs.Views.{IsTerrain};
 
 use cells::{Cell, CellSet, Run};
 use serde_json::{Value, json};
@@ -35,16 +34,16 @@ fn letters_of_run(
     alloc: Global,
     letters: &[(Cell, u8)],
     run: Run,
-) -> Result<Vec<u8>, AllocError>
-    ensures { IfOk result (λ bytes. bytes.items ≡ letters_of_run_list letters.now run) }
+) -> Result<String, AllocError>
+    ensures { IfOk result (λ text. string_bytes text ≡ letters_of_run_list letters.now run) }
 {
-    let mut bytes = Vec::new(alloc);
+    let mut text = String::new(alloc);
     for (cell, letter) in letters {
         if is_of_run(run, *cell, *letter) {
-            bytes.push(*letter)?;
+            text.push(char::from(*letter))?;
         }
     }
-    Ok(bytes)
+    Ok(text)
 }
 
 fn terrain_run(
@@ -52,14 +51,10 @@ fn terrain_run(
     letters: &[(Cell, u8)],
     run: Run,
 ) -> Result<Value, AllocError>
-    requires { All (λ letter. IsTerrain letter.1) letters.now }
     ensures { IfOk result (λ v. view v ≡ terrain_run_data letters.now run) }
 {
-    let bytes = letters_of_run(alloc, letters, run)?;
-    match str::from_utf8(bytes.as_slice()) {
-        Ok(text) => json!(in alloc; [run.y, run.x0, text]),
-        Err(_) => unreachable!(),
-    }
+    let text = letters_of_run(alloc, letters, run)?;
+    json!(in alloc; [run.y, run.x0, text.as_str()])
 }
 
 /// The maximal runs of the set, each with its letters.
@@ -68,7 +63,6 @@ pub(crate) fn terrain(
     cells: &CellSet,
     letters: &[(Cell, u8)],
 ) -> Result<Vec<Value>, AllocError>
-    requires { All (λ letter. IsTerrain letter.1) letters.now }
     ensures { IfOk result (λ vs. map view vs.items ≡ terrain_data cells.now letters.now) }
 {
     let mut list = Vec::new(alloc);

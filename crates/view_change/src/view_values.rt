@@ -1,8 +1,7 @@
 //! A view as JSON.
-ghost use Rattle.std.specs.Prelude.{◌≡◌, map, codes, IfOk, OnOk, All};
+ghost use Rattle.std.specs.Prelude.{◌≡◌, map, codes, IfOk, OnOk};
 ghost use Rattle.serde_json.specs.Data.{boolean};
 ghost use Rattle.serde_json.specs.View.{view, members_view};
-ghost use Rattle.view_change.specs.Views.{HasTerrain};
 ghost use Rattle.view_change.specs.Lines.{put_some, lights_data, sights_data, mode_data, put_owned as put_owned_data, put_whole as put_whole_data, map_data, token_data, maps_data, tokens_data, view_data};
 
 use crate::lists::{LightTexts, MapViews, SightTexts, TokenViews};
@@ -50,7 +49,6 @@ pub(crate) fn put_shown(members: &mut Map<String, Value>, alloc: Global, shown: 
 
 #[tactic(auto, unfolding(crate::specs::Lines::map_data))]
 fn map_value(alloc: Global, map: &MapView) -> Result<Value, AllocError>
-    requires { HasTerrain map.now }
     ensures { IfOk result (λ v. view v ≡ map_data map.now) }
 {
     let mut members = Map::new(alloc);
@@ -66,7 +64,6 @@ fn map_value(alloc: Global, map: &MapView) -> Result<Value, AllocError>
 }
 
 pub(crate) fn maps(alloc: Global, maps: &MapViews) -> Result<Vec<Value>, AllocError>
-    requires { All HasTerrain maps.now }
     ensures { IfOk result (λ vs. map view vs.items ≡ maps_data maps.now) }
 {
     let mut list = Vec::new(alloc);
@@ -127,7 +124,6 @@ pub(crate) fn tokens(alloc: Global, tokens: &TokenViews) -> Result<Vec<Value>, A
 
 #[tactic(auto, unfolding(crate::specs::Lines::view_data))]
 pub(crate) fn view_value(alloc: Global, seen: &View) -> Result<Value, AllocError>
-    requires { All HasTerrain seen.now.maps }
     ensures { IfOk result (λ v. view v ≡ view_data seen.now) }
 {
     let mut members = Map::new(alloc);
