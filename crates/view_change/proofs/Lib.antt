@@ -8,3 +8,4 @@ pub mod NoFloat
 pub mod SameLoops
 pub mod MapLoops
 pub mod ChangeShape
+pub mod FitLemmas

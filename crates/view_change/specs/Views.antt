@@ -1,5 +1,6 @@
 -- What holds of a view.
-use Rattle.std.specs.Prelude.{◌≡◌, ℕ, ◌&&◌, Bool, true, List, Option, Some, is_some, nat_lt, All}
+use Rattle.std.specs.Prelude.{◌≡◌, ◌==◌, ℕ, ◌&&◌, ◌||◌, not, Bool, true, List, Option, Some, is_some, nat_lt, All}
+use Rattle.std.specs.Str.{bytes_eq}
 use Rattle.cells.specs.Cells.{Extent, has, IsToldByCells}
 use Rattle.cells.specs.declared.cell.Cell.{Cell}
 use Rattle.names.specs.Tag.{tag_cmp}
@@ -54,6 +55,12 @@ pub record HaveOneSize (m n : MapView) : Type 0 where
 -- the map has the size of the one with its name among these, if there is one
 abbrev pub FitsAmong : List MapView → MapView → Type 0
 FitsAmong maps n = (m : MapView) → at_name map_name n.name maps ≡ Some m → HaveOneSize m n
+
+-- the test whether two maps have different names, or sets of one size
+abbrev pub fits_test : MapView → MapView → Bool
+fits_test m n =
+    not (bytes_eq n.name m.name)
+    || ((n.seen.extent.w == m.seen.extent.w && n.seen.extent.h == m.seen.extent.h) && (n.exposed.extent.w == m.exposed.extent.w && n.exposed.extent.h == m.exposed.extent.h))
 
 -- both views are of one role, a map that is in both has one size, and no type is lost
 pub record FollowsView (a b : View) : Type 0 where

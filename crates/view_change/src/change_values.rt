@@ -13,7 +13,11 @@ use names::Mode;
 use serde_json::{Map, Value, json};
 use std::alloc::{AllocError, Global};
 
-fn put_lights(members: &mut Map<String, Value>, alloc: Global, list: &LightTexts) -> Result<(), AllocError>
+fn put_lights(
+    members: &mut Map<String, Value>,
+    alloc: Global,
+    list: &LightTexts,
+) -> Result<(), AllocError>
     ensures { OnOk result (members_view members.new.entries ≡ put_lights_data list.now (members_view members.old.entries)) }
 {
     if list.items().is_empty() {
@@ -22,7 +26,11 @@ fn put_lights(members: &mut Map<String, Value>, alloc: Global, list: &LightTexts
     put_member(members, alloc, "lights", lights(alloc, list)?)
 }
 
-fn put_sights(members: &mut Map<String, Value>, alloc: Global, list: &SightTexts) -> Result<(), AllocError>
+fn put_sights(
+    members: &mut Map<String, Value>,
+    alloc: Global,
+    list: &SightTexts,
+) -> Result<(), AllocError>
     ensures { OnOk result (members_view members.new.entries ≡ put_sights_data list.now (members_view members.old.entries)) }
 {
     if list.items().is_empty() {
@@ -31,7 +39,11 @@ fn put_sights(members: &mut Map<String, Value>, alloc: Global, list: &SightTexts
     put_member(members, alloc, "sights", sights(alloc, list)?)
 }
 
-fn put_mode(members: &mut Map<String, Value>, alloc: Global, mode: Option<Mode>) -> Result<(), AllocError>
+fn put_mode(
+    members: &mut Map<String, Value>,
+    alloc: Global,
+    mode: Option<Mode>,
+) -> Result<(), AllocError>
     ensures { OnOk result (members_view members.new.entries ≡ put_some (codes "mode") mode_data mode (members_view members.old.entries)) }
 {
     match mode {
@@ -52,7 +64,12 @@ fn map_change_value(alloc: Global, change: &MapChange) -> Result<Value, AllocErr
     ensures { IfOk result (λ v. view v ≡ map_change_data change.now) }
 {
     let mut members = Map::new(alloc);
-    put_member(&mut members, alloc, "name", json!(in alloc; change.name.text())?)?;
+    put_member(
+        &mut members,
+        alloc,
+        "name",
+        json!(in alloc; change.name.text())?,
+    )?;
     put_list(&mut members, alloc, "dark", runs(alloc, &change.dark)?)?;
     put_list(&mut members, alloc, "ground", new_terrain(alloc, change)?)?;
     put_list(&mut members, alloc, "hidden", runs(alloc, &change.hidden)?)?;
@@ -77,12 +94,32 @@ pub(crate) fn change_value(alloc: Global, change: &Change) -> Result<Value, Allo
     ensures { IfOk result (λ v. view v ≡ change_data change.now) }
 {
     let mut members = Map::new(alloc);
-    put_list(&mut members, alloc, "changed", map_changes(alloc, change.changed.items())?)?;
-    put_list(&mut members, alloc, "gone", ids(alloc, change.gone.items())?)?;
+    put_list(
+        &mut members,
+        alloc,
+        "changed",
+        map_changes(alloc, change.changed.items())?,
+    )?;
+    put_list(
+        &mut members,
+        alloc,
+        "gone",
+        ids(alloc, change.gone.items())?,
+    )?;
     put_lights(&mut members, alloc, &change.lights)?;
     put_list(&mut members, alloc, "maps", maps(alloc, &change.maps)?)?;
     put_sights(&mut members, alloc, &change.sights)?;
-    put_list(&mut members, alloc, "tokens", tokens(alloc, &change.tokens)?)?;
-    put_list(&mut members, alloc, "unmapped", names(alloc, change.unmapped.items())?)?;
+    put_list(
+        &mut members,
+        alloc,
+        "tokens",
+        tokens(alloc, &change.tokens)?,
+    )?;
+    put_list(
+        &mut members,
+        alloc,
+        "unmapped",
+        names(alloc, change.unmapped.items())?,
+    )?;
     Ok(Value::Object(members))
 }

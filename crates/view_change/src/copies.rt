@@ -1,9 +1,7 @@
 //! Copies of views and their parts. Each is the same once more, or `Memory` for want of memory.
 ghost use Rattle.std.specs.Prelude.{◌≡◌, IfOk};
 
-use crate::lists::{
-    Letters, LightTexts, MapViews, PropTexts, SeatNos, SightTexts, TokenViews,
-};
+use crate::lists::{Letters, LightTexts, MapViews, PropTexts, SeatNos, SightTexts, TokenViews};
 use crate::view::{GmPart, MapView, OwnedPart, TokenView, View};
 use names::{Memory, Text};
 

@@ -1,6 +1,6 @@
 //! The change from one view to another.
-ghost use Rattle.std.specs.Prelude.{◌≡◌, ◌↔◌, ◌++◌, [], None, Some, IfOk, OnOk, All, cond};
-ghost use Rattle.std.specs.List.{cons_option};
+ghost use Rattle.std.specs.Prelude.{◌≡◌, ◌↔◌, ◌++◌, [], None, Some, IfOk, OnOk, IsTrue, All, cond};
+ghost use Rattle.std.specs.List.{cons_option, list_all};
 ghost use Rattle.std.specs.Str.{bytes_eq};
 ghost use Rattle.names.specs.TokenId.{id_eq};
 ghost use Rattle.names.specs.Tag.{tag_cmp};
@@ -8,7 +8,7 @@ ghost use Rattle.view_change.specs.declared.view.MapView.{MapView};
 ghost use Rattle.view_change.specs.Keys.{map_name, change_name, token_id};
 ghost use Rattle.view_change.specs.Keyed.{at, has_key, gone_from, news, is_in, puts_from, delta_from, deltas};
 ghost use Rattle.view_change.specs.Same.{same_light, same_bytes, same_letter, same_map as same_map_test, same_token as same_token_test};
-ghost use Rattle.view_change.specs.Views.{at_name, HaveOneSize, FitsAmong};
+ghost use Rattle.view_change.specs.Views.{at_name, fits_test, HaveOneSize, FitsAmong};
 ghost use Rattle.view_change.specs.Change.{minus as minus_cells, mode_change as mode_change_of, shown_change as shown_change_of, map_change as map_change_of, difference as difference_of, change_of as change_between};
 
 use crate::change::{Change, MapChange};
@@ -60,7 +60,8 @@ fn new_sights(alloc: Global, before: &SightTexts, after: &SightTexts) -> Result<
 fn has_letter(list: &[(Cell, u8)], letter: &(Cell, u8)) -> bool
     ensures { result ≡ is_in same_letter list.now letter.now }
 {
-    list.iter().any(|old| old.0 == letter.0 && old.1 == letter.1)
+    list.iter()
+        .any(|old| old.0 == letter.0 && old.1 == letter.1)
 }
 
 fn new_letters(alloc: Global, before: &Letters, after: &Letters) -> Result<Letters, Memory>
@@ -163,7 +164,11 @@ fn new_mode(before: Mode, after: Mode) -> Option<Mode>
 fn new_shown(before: Option<bool>, after: Option<bool>) -> Option<bool>
     ensures { result ≡ shown_change_of before after }
 {
-    if same_shown(before, after) { None } else { after }
+    if same_shown(before, after) {
+        None
+    } else {
+        after
+    }
 }
 
 fn map_change(alloc: Global, before: &MapView, after: &MapView) -> Result<MapChange, Memory>
@@ -181,7 +186,11 @@ fn map_change(alloc: Global, before: &MapView, after: &MapView) -> Result<MapCha
     })
 }
 
-fn changed_map(alloc: Global, before: &MapView, after: &MapView) -> Result<Option<MapChange>, Memory>
+fn changed_map(
+    alloc: Global,
+    before: &MapView,
+    after: &MapView,
+) -> Result<Option<MapChange>, Memory>
     requires { HaveOneSize before.now after.now }
     ensures { IfOk result (λ change. change ≡ cond (same_map_test before.now after.now) None (Some (map_change_of before.now after.now))) }
 {
@@ -256,4 +265,30 @@ pub fn change_of(alloc: Global, before: &View, after: &View) -> Result<Option<Ch
         return Ok(None);
     }
     Ok(Some(difference(alloc, before, after)?))
+}
+
+fn has_one_size(before: &MapView, after: &MapView) -> bool
+    ensures { result ≡ fits_test before.now after.now }
+{
+    after.name != before.name
+        || after.seen.size() == before.seen.size() && after.exposed.size() == before.exposed.size()
+}
+
+fn fits_among(before: &[MapView], map: &MapView) -> bool
+    ensures { result ≡ list_all (λ old. fits_test old map.now) before.now }
+{
+    before.iter().all(|old| has_one_size(old, map))
+}
+
+fn all_fit(before: &[MapView], after: &[MapView]) -> bool
+    ensures { result ≡ list_all (λ map. list_all (λ old. fits_test old map) before.now) after.now }
+{
+    after.iter().all(|map| fits_among(before, map))
+}
+
+/// Whether each map that is in both views has one size, as `change_of` asks.
+pub fn fit(before: &View, after: &View) -> bool
+    ensures { IsTrue result → All (FitsAmong before.now.maps) after.now.maps }
+{
+    all_fit(before.maps.items(), after.maps.items())
 }

@@ -19,7 +19,7 @@ mod view;
 mod view_values;
 
 pub use change::{Change, MapChange};
-pub use difference::change_of;
+pub use difference::{change_of, fit};
 pub use laws::{a_change_gives_the_view_after, no_change_between_equal_views};
 pub use lines::{change_line, full_line};
 pub use lists::{
@@ -27,3 +27,6 @@ pub use lists::{
     TokenViews,
 };
 pub use view::{GmPart, MapView, OwnedPart, TokenView, View};
+
+#[cfg(test)]
+mod tests;

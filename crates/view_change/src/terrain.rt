@@ -30,11 +30,7 @@ fn is_of_run(run: Run, cell: Cell, letter: u8) -> bool
     cell.y == run.y && run.x0 <= cell.x && cell.x <= run.x1
 }
 
-fn letters_of_run(
-    alloc: Global,
-    letters: &[(Cell, u8)],
-    run: Run,
-) -> Result<String, AllocError>
+fn letters_of_run(alloc: Global, letters: &[(Cell, u8)], run: Run) -> Result<String, AllocError>
     ensures { IfOk result (λ text. string_bytes text ≡ letters_of_run_list letters.now run) }
 {
     let mut text = String::new(alloc);
@@ -46,11 +42,7 @@ fn letters_of_run(
     Ok(text)
 }
 
-fn terrain_run(
-    alloc: Global,
-    letters: &[(Cell, u8)],
-    run: Run,
-) -> Result<Value, AllocError>
+fn terrain_run(alloc: Global, letters: &[(Cell, u8)], run: Run) -> Result<Value, AllocError>
     ensures { IfOk result (λ v. view v ≡ terrain_run_data letters.now run) }
 {
     let text = letters_of_run(alloc, letters, run)?;

@@ -38,7 +38,11 @@ pub(crate) fn mode_value(alloc: Global, mode: Mode) -> Result<Value, AllocError>
     json!(in alloc; mode.word())
 }
 
-pub(crate) fn put_shown(members: &mut Map<String, Value>, alloc: Global, shown: Option<bool>) -> Result<(), AllocError>
+pub(crate) fn put_shown(
+    members: &mut Map<String, Value>,
+    alloc: Global,
+    shown: Option<bool>,
+) -> Result<(), AllocError>
     ensures { OnOk result (members_view members.new.entries ≡ put_some (codes "shown") boolean shown (members_view members.old.entries)) }
 {
     match shown {
@@ -56,8 +60,18 @@ fn map_value(alloc: Global, map: &MapView) -> Result<Value, AllocError>
     put_member(&mut members, alloc, "ground", Value::Array(ground))?;
     put_member(&mut members, alloc, "h", Value::from(map.size.h()))?;
     put_member(&mut members, alloc, "mode", mode_value(alloc, map.mode)?)?;
-    put_member(&mut members, alloc, "name", json!(in alloc; map.name.text())?)?;
-    put_member(&mut members, alloc, "seen", Value::Array(runs(alloc, &map.seen)?))?;
+    put_member(
+        &mut members,
+        alloc,
+        "name",
+        json!(in alloc; map.name.text())?,
+    )?;
+    put_member(
+        &mut members,
+        alloc,
+        "seen",
+        Value::Array(runs(alloc, &map.seen)?),
+    )?;
     put_member(&mut members, alloc, "w", Value::from(map.size.w()))?;
     put_shown(&mut members, alloc, map.shown)?;
     Ok(Value::Object(members))
@@ -73,7 +87,11 @@ pub(crate) fn maps(alloc: Global, maps: &MapViews) -> Result<Vec<Value>, AllocEr
     Ok(list)
 }
 
-fn put_owned(members: &mut Map<String, Value>, alloc: Global, owned: &Option<OwnedPart>) -> Result<(), AllocError>
+fn put_owned(
+    members: &mut Map<String, Value>,
+    alloc: Global,
+    owned: &Option<OwnedPart>,
+) -> Result<(), AllocError>
     ensures { OnOk result (members_view members.new.entries ≡ put_owned_data owned.now (members_view members.old.entries)) }
 {
     let Some(part) = owned else {
@@ -84,7 +102,11 @@ fn put_owned(members: &mut Map<String, Value>, alloc: Global, owned: &Option<Own
     put_member(members, alloc, "sight", text_or_null(alloc, part.sight)?)
 }
 
-fn put_whole(members: &mut Map<String, Value>, alloc: Global, whole: &Option<GmPart>) -> Result<(), AllocError>
+fn put_whole(
+    members: &mut Map<String, Value>,
+    alloc: Global,
+    whole: &Option<GmPart>,
+) -> Result<(), AllocError>
     ensures { OnOk result (members_view members.new.entries ≡ put_whole_data whole.now (members_view members.old.entries)) }
 {
     let Some(part) = whole else {
@@ -102,9 +124,24 @@ fn token_value(alloc: Global, token: &TokenView) -> Result<Value, AllocError>
     let mut members = Map::new(alloc);
     put_member(&mut members, alloc, "cell", cell(alloc, token.cell)?)?;
     put_member(&mut members, alloc, "id", id(alloc, token.id)?)?;
-    put_member(&mut members, alloc, "layer", json!(in alloc; token.layer.word())?)?;
-    put_member(&mut members, alloc, "map", json!(in alloc; token.map.text())?)?;
-    put_member(&mut members, alloc, "name", json!(in alloc; token.name.text())?)?;
+    put_member(
+        &mut members,
+        alloc,
+        "layer",
+        json!(in alloc; token.layer.word())?,
+    )?;
+    put_member(
+        &mut members,
+        alloc,
+        "map",
+        json!(in alloc; token.map.text())?,
+    )?;
+    put_member(
+        &mut members,
+        alloc,
+        "name",
+        json!(in alloc; token.name.text())?,
+    )?;
     put_member(&mut members, alloc, "props", props(alloc, &token.props)?)?;
     put_member(&mut members, alloc, "size", Value::from(token.size))?;
     put_owned(&mut members, alloc, &token.owned)?;
@@ -128,8 +165,18 @@ pub(crate) fn view_value(alloc: Global, seen: &View) -> Result<Value, AllocError
 {
     let mut members = Map::new(alloc);
     put_member(&mut members, alloc, "lights", lights(alloc, &seen.lights)?)?;
-    put_member(&mut members, alloc, "maps", Value::Array(maps(alloc, &seen.maps)?))?;
+    put_member(
+        &mut members,
+        alloc,
+        "maps",
+        Value::Array(maps(alloc, &seen.maps)?),
+    )?;
     put_member(&mut members, alloc, "sights", sights(alloc, &seen.sights)?)?;
-    put_member(&mut members, alloc, "tokens", Value::Array(tokens(alloc, &seen.tokens)?))?;
+    put_member(
+        &mut members,
+        alloc,
+        "tokens",
+        Value::Array(tokens(alloc, &seen.tokens)?),
+    )?;
     Ok(Value::Object(members))
 }
