@@ -1,0 +1,12 @@
+use Rattle.std.proofs.Common.{◌≡◌, ◌∙◌, sym, refl, true, false}
+use Rattle.view_change.specs.Same.{same_view}
+use Rattle.view_change.proofs.ChangeShape.{same_where_true, other_where_false}
+use Rattle.view_change.proofs.difference.change_of.Goals as goal
+
+pub returns-then-same_view-clause-none : goal.returns-then-same_view-clause-none
+returns-then-same_view-clause-none c =
+    (λ e. same_where_true c.args.before.now c.args.after.now (sym c.same_view.ensures ∙ c.if-same_view.true), λ e. refl)
+
+pub returns-clause-none : goal.returns-clause-none
+returns-clause-none c =
+    (λ e. cc, λ e. absurd (other_where_false c.args.before.now c.args.after.now (sym c.same_view.ensures ∙ c.if-same_view.false) e))

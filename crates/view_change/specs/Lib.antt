@@ -1,0 +1,7 @@
+pub mod Keyed
+pub mod Keys
+pub mod Same
+pub mod Views
+pub mod Change
+pub mod Laws
+pub mod Lines

@@ -1,0 +1,70 @@
+-- What holds of a view.
+use Rattle.std.specs.Prelude.{◌≡◌, ◌==◌, ℕ, ◌&&◌, ◌||◌, not, Bool, true, List, Option, Some, is_some, nat_lt, All}
+use Rattle.std.specs.Str.{bytes_eq}
+use Rattle.cells.specs.Cells.{Extent, has, IsToldByCells}
+use Rattle.cells.specs.declared.cell.Cell.{Cell}
+use Rattle.names.specs.Tag.{tag_cmp}
+use Rattle.names.specs.TokenId.{id_cmp}
+use Rattle.view_change.specs.declared.view.MapView.{MapView}
+use Rattle.view_change.specs.declared.view.TokenView.{TokenView}
+use Rattle.view_change.specs.declared.view.View.{View}
+use Rattle.view_change.specs.Keys.{Letter, cell_cmp, name_of, cell_of, map_name, token_id}
+use Rattle.view_change.specs.Keyed.{at, in_order}
+
+-- the item with this name
+abbrev pub at_name : {X : Type 0} → (X → List ℕ) → List ℕ → List X → Option X
+at_name = at tag_cmp
+
+-- the letter of this cell
+abbrev pub letter_at : Cell → List Letter → Option Letter
+letter_at = at cell_cmp cell_of
+
+abbrev pub is_on_map : Extent → Cell → Bool
+is_on_map size cell = nat_lt cell.x size.w && nat_lt cell.y size.h
+
+-- a map in a view, which is the game master's or a player's: its sets have its size, and its letters are just those
+-- of the exposed cells, by row, then column
+pub record IsMapView (gm : Bool) (m : MapView) : Type 0 where
+  pub shown : is_some m.shown ≡ gm
+  pub seen : IsToldByCells m.seen
+  pub seen_size : m.seen.extent ≡ m.size
+  pub exposed : IsToldByCells m.exposed
+  pub exposed_size : m.exposed.extent ≡ m.size
+  pub ordered : in_order cell_cmp cell_of m.letters ≡ true
+  pub letters : (cell : Cell) → is_some (letter_at cell m.letters) ≡ (is_on_map m.size cell && has m.exposed cell.x cell.y)
+
+-- a token in the game master's view has both further parts, one in a player's view may have an owner's
+pub record IsTokenView (gm : Bool) (t : TokenView) : Type 0 where
+  pub owned : gm ≡ true → is_some t.owned ≡ true
+  pub whole : is_some t.whole ≡ gm
+
+-- types and maps stand in byte order of names and tokens in order of ids, and nothing is repeated
+pub record IsView (v : View) : Type 0 where
+  pub lights : in_order tag_cmp name_of v.lights ≡ true
+  pub sights : in_order tag_cmp name_of v.sights ≡ true
+  pub maps : in_order tag_cmp map_name v.maps ≡ true
+  pub tokens : in_order id_cmp token_id v.tokens ≡ true
+  pub each_map : All (IsMapView v.gm) v.maps
+  pub each_token : All (IsTokenView v.gm) v.tokens
+
+-- the sets of both maps have one size
+pub record HaveOneSize (m n : MapView) : Type 0 where
+  pub seen : n.seen.extent ≡ m.seen.extent
+  pub exposed : n.exposed.extent ≡ m.exposed.extent
+
+-- the map has the size of the one with its name among these, if there is one
+abbrev pub FitsAmong : List MapView → MapView → Type 0
+FitsAmong maps n = (m : MapView) → at_name map_name n.name maps ≡ Some m → HaveOneSize m n
+
+-- the test whether two maps have different names, or sets of one size
+abbrev pub fits_test : MapView → MapView → Bool
+fits_test m n =
+    not (bytes_eq n.name m.name)
+    || ((n.seen.extent.w == m.seen.extent.w && n.seen.extent.h == m.seen.extent.h) && (n.exposed.extent.w == m.exposed.extent.w && n.exposed.extent.h == m.exposed.extent.h))
+
+-- both views are of one role, a map that is in both has one size, and no type is lost
+pub record FollowsView (a b : View) : Type 0 where
+  pub gm : a.gm ≡ b.gm
+  pub sizes : All (λ m. All (λ n. m.name ≡ n.name → m.size ≡ n.size) b.maps) a.maps
+  pub lights : (name : List ℕ) → is_some (at_name name_of name a.lights) ≡ true → is_some (at_name name_of name b.lights) ≡ true
+  pub sights : (name : List ℕ) → is_some (at_name name_of name a.sights) ≡ true → is_some (at_name name_of name b.sights) ≡ true

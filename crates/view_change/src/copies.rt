@@ -1,0 +1,197 @@
+//! Copies of views and their parts. Each is the same once more, or `Memory` for want of memory.
+ghost use Rattle.std.specs.Prelude.{◌≡◌, IfOk};
+
+use crate::lists::{Letters, LightTexts, MapViews, PropTexts, SeatNos, SightTexts, TokenViews};
+use crate::view::{GmPart, MapView, OwnedPart, TokenView, View};
+use names::{Memory, Text};
+
+impl LightTexts {
+    /// The same list once more.
+    pub fn copy(&self) -> Result<LightTexts, Memory>
+        ensures { IfOk result (λ copy. copy ≡ self.now) }
+    {
+        match Vec::from_slice(*self.list.allocator(), self.items()) {
+            Ok(list) => Ok(LightTexts { list }),
+            Err(_) => Err(Memory),
+        }
+    }
+}
+
+impl SightTexts {
+    /// The same list once more.
+    pub fn copy(&self) -> Result<SightTexts, Memory>
+        ensures { IfOk result (λ copy. copy ≡ self.now) }
+    {
+        match Vec::from_slice(*self.list.allocator(), self.items()) {
+            Ok(list) => Ok(SightTexts { list }),
+            Err(_) => Err(Memory),
+        }
+    }
+}
+
+impl Letters {
+    /// The same list once more.
+    pub fn copy(&self) -> Result<Letters, Memory>
+        ensures { IfOk result (λ copy. copy ≡ self.now) }
+    {
+        match Vec::from_slice(*self.list.allocator(), self.items()) {
+            Ok(list) => Ok(Letters { list }),
+            Err(_) => Err(Memory),
+        }
+    }
+}
+
+impl SeatNos {
+    /// The same list once more.
+    pub fn copy(&self) -> Result<SeatNos, Memory>
+        ensures { IfOk result (λ copy. copy ≡ self.now) }
+    {
+        match Vec::from_slice(*self.list.allocator(), self.items()) {
+            Ok(list) => Ok(SeatNos { list }),
+            Err(_) => Err(Memory),
+        }
+    }
+}
+
+impl PropTexts {
+    /// The same list once more.
+    pub fn copy(&self) -> Result<PropTexts, Memory>
+        ensures { IfOk result (λ copy. copy ≡ self.now) }
+    {
+        let alloc = *self.list.allocator();
+        let mut list = Vec::new(alloc);
+        for (name, value) in self.items() {
+            let value = Text::copy(alloc, value.text())?;
+            if list.push((*name, value)).is_err() {
+                return Err(Memory);
+            }
+        }
+        Ok(PropTexts { list })
+    }
+}
+
+impl OwnedPart {
+    /// The same part once more.
+    pub fn copy(&self) -> Result<OwnedPart, Memory>
+        ensures { IfOk result (λ copy. copy ≡ self.now) }
+    {
+        Ok(OwnedPart {
+            sight: self.sight,
+            light: self.light,
+            own: self.own.copy()?,
+        })
+    }
+}
+
+impl GmPart {
+    /// The same part once more.
+    pub fn copy(&self) -> Result<GmPart, Memory>
+        ensures { IfOk result (λ copy. copy ≡ self.now) }
+    {
+        Ok(GmPart {
+            owners: self.owners.copy()?,
+            secret: self.secret.copy()?,
+            visible: self.visible,
+        })
+    }
+}
+
+fn copy_owned(part: &Option<OwnedPart>) -> Result<Option<OwnedPart>, Memory>
+    ensures { IfOk result (λ copy. copy ≡ part.now) }
+{
+    match part {
+        None => Ok(None),
+        Some(part) => Ok(Some(part.copy()?)),
+    }
+}
+
+fn copy_whole(part: &Option<GmPart>) -> Result<Option<GmPart>, Memory>
+    ensures { IfOk result (λ copy. copy ≡ part.now) }
+{
+    match part {
+        None => Ok(None),
+        Some(part) => Ok(Some(part.copy()?)),
+    }
+}
+
+impl TokenView {
+    /// The same token once more.
+    pub fn copy(&self) -> Result<TokenView, Memory>
+        ensures { IfOk result (λ copy. copy ≡ self.now) }
+    {
+        let alloc = *self.props.list.allocator();
+        Ok(TokenView {
+            id: self.id,
+            name: Text::copy(alloc, self.name.text())?,
+            map: self.map,
+            cell: self.cell,
+            size: self.size,
+            layer: self.layer,
+            props: self.props.copy()?,
+            owned: copy_owned(&self.owned)?,
+            whole: copy_whole(&self.whole)?,
+        })
+    }
+}
+
+impl MapView {
+    /// The same map once more.
+    pub fn copy(&self) -> Result<MapView, Memory>
+        ensures { IfOk result (λ copy. copy ≡ self.now) }
+    {
+        Ok(MapView {
+            name: self.name,
+            size: self.size,
+            mode: self.mode,
+            shown: self.shown,
+            seen: self.seen.copy()?,
+            exposed: self.exposed.copy()?,
+            letters: self.letters.copy()?,
+        })
+    }
+}
+
+impl MapViews {
+    /// The same list once more.
+    pub fn copy(&self) -> Result<MapViews, Memory>
+        ensures { IfOk result (λ copy. copy ≡ self.now) }
+    {
+        let mut list = Vec::new(*self.list.allocator());
+        for map in self.items() {
+            if list.push(map.copy()?).is_err() {
+                return Err(Memory);
+            }
+        }
+        Ok(MapViews { list })
+    }
+}
+
+impl TokenViews {
+    /// The same list once more.
+    pub fn copy(&self) -> Result<TokenViews, Memory>
+        ensures { IfOk result (λ copy. copy ≡ self.now) }
+    {
+        let mut list = Vec::new(*self.list.allocator());
+        for token in self.items() {
+            if list.push(token.copy()?).is_err() {
+                return Err(Memory);
+            }
+        }
+        Ok(TokenViews { list })
+    }
+}
+
+impl View {
+    /// The same view once more.
+    pub fn copy(&self) -> Result<View, Memory>
+        ensures { IfOk result (λ copy. copy ≡ self.now) }
+    {
+        Ok(View {
+            gm: self.gm,
+            lights: self.lights.copy()?,
+            sights: self.sights.copy()?,
+            maps: self.maps.copy()?,
+            tokens: self.tokens.copy()?,
+        })
+    }
+}

@@ -1,0 +1,294 @@
+//! The change from one view to another.
+ghost use Rattle.std.specs.Prelude.{◌≡◌, ◌↔◌, ◌++◌, [], None, Some, IfOk, OnOk, IsTrue, All, cond};
+ghost use Rattle.std.specs.List.{cons_option, list_all};
+ghost use Rattle.std.specs.Str.{bytes_eq};
+ghost use Rattle.names.specs.TokenId.{id_eq};
+ghost use Rattle.names.specs.Tag.{tag_cmp};
+ghost use Rattle.view_change.specs.declared.view.MapView.{MapView};
+ghost use Rattle.view_change.specs.Keys.{map_name, change_name, token_id};
+ghost use Rattle.view_change.specs.Keyed.{at, has_key, gone_from, news, is_in, puts_from, delta_from, deltas};
+ghost use Rattle.view_change.specs.Same.{same_light, same_bytes, same_letter, same_map as same_map_test, same_token as same_token_test};
+ghost use Rattle.view_change.specs.Views.{at_name, fits_test, HaveOneSize, FitsAmong};
+ghost use Rattle.view_change.specs.Change.{minus as minus_cells, mode_change as mode_change_of, shown_change as shown_change_of, map_change as map_change_of, difference as difference_of, change_of as change_between};
+
+use crate::change::{Change, MapChange};
+use crate::lists::{
+    Letters, LightTexts, MapChanges, MapViews, SightTexts, Tags, TokenIds, TokenViews,
+};
+use crate::same::{same_map, same_mode, same_shown, same_token, same_view};
+use crate::view::{MapView, TokenView, View};
+use cells::{Cell, CellSet};
+use names::{Memory, Mode, Tag, TokenId};
+use std::alloc::Global;
+
+fn has_light(list: &[(Tag, i64)], light: &(Tag, i64)) -> bool
+    ensures { result ≡ is_in same_light list.now light.now }
+{
+    list.iter().any(|old| old.0 == light.0 && old.1 == light.1)
+}
+
+fn new_lights(alloc: Global, before: &LightTexts, after: &LightTexts) -> Result<LightTexts, Memory>
+    ensures { IfOk result (λ lights. lights ≡ puts_from same_light before.now after.now) }
+{
+    let mut list = Vec::new(alloc);
+    for light in after.items() {
+        if !has_light(before.items(), light) && list.push(*light).is_err() {
+            return Err(Memory);
+        }
+    }
+    Ok(LightTexts { list })
+}
+
+fn has_sight(list: &[(Tag, [u8; 3])], sight: &(Tag, [u8; 3])) -> bool
+    ensures { result ≡ is_in same_bytes list.now sight.now }
+{
+    list.iter().any(|old| old.0 == sight.0 && old.1 == sight.1)
+}
+
+fn new_sights(alloc: Global, before: &SightTexts, after: &SightTexts) -> Result<SightTexts, Memory>
+    ensures { IfOk result (λ sights. sights ≡ puts_from same_bytes before.now after.now) }
+{
+    let mut list = Vec::new(alloc);
+    for sight in after.items() {
+        if !has_sight(before.items(), sight) && list.push(*sight).is_err() {
+            return Err(Memory);
+        }
+    }
+    Ok(SightTexts { list })
+}
+
+fn has_letter(list: &[(Cell, u8)], letter: &(Cell, u8)) -> bool
+    ensures { result ≡ is_in same_letter list.now letter.now }
+{
+    list.iter()
+        .any(|old| old.0 == letter.0 && old.1 == letter.1)
+}
+
+fn new_letters(alloc: Global, before: &Letters, after: &Letters) -> Result<Letters, Memory>
+    ensures { IfOk result (λ letters. letters ≡ puts_from same_letter before.now after.now) }
+{
+    let mut list = Vec::new(alloc);
+    for letter in after.items() {
+        if !has_letter(before.items(), letter) && list.push(*letter).is_err() {
+            return Err(Memory);
+        }
+    }
+    Ok(Letters { list })
+}
+
+fn has_same_token(list: &[TokenView], token: &TokenView) -> bool
+    ensures { result ≡ is_in same_token_test list.now token.now }
+{
+    list.iter().any(|old| same_token(old, token))
+}
+
+fn new_tokens(alloc: Global, before: &TokenViews, after: &TokenViews) -> Result<TokenViews, Memory>
+    ensures { IfOk result (λ tokens. tokens ≡ puts_from same_token_test before.now after.now) }
+{
+    let mut list = Vec::new(alloc);
+    for token in after.items() {
+        if !has_same_token(before.items(), token) && list.push(token.copy()?).is_err() {
+            return Err(Memory);
+        }
+    }
+    Ok(TokenViews { list })
+}
+
+fn has_token(list: &[TokenView], id: TokenId) -> bool
+    ensures { result ≡ has_key id_eq token_id list.now id }
+{
+    list.iter().any(|token| id == token.id)
+}
+
+fn gone_tokens(alloc: Global, before: &TokenViews, after: &TokenViews) -> Result<TokenIds, Memory>
+    ensures { IfOk result (λ ids. ids ≡ gone_from id_eq token_id before.now after.now) }
+{
+    let mut list = Vec::new(alloc);
+    for token in before.items() {
+        if !has_token(after.items(), token.id) && list.push(token.id).is_err() {
+            return Err(Memory);
+        }
+    }
+    Ok(TokenIds { list })
+}
+
+fn has_map(list: &[MapView], name: Tag) -> bool
+    ensures { result ≡ has_key bytes_eq map_name list.now name }
+{
+    list.iter().any(|map| name == map.name)
+}
+
+fn gone_maps(alloc: Global, before: &MapViews, after: &MapViews) -> Result<Tags, Memory>
+    ensures { IfOk result (λ names. names ≡ gone_from bytes_eq map_name before.now after.now) }
+{
+    let mut list = Vec::new(alloc);
+    for map in before.items() {
+        if !has_map(after.items(), map.name) && list.push(map.name).is_err() {
+            return Err(Memory);
+        }
+    }
+    Ok(Tags { list })
+}
+
+fn new_maps(alloc: Global, before: &MapViews, after: &MapViews) -> Result<MapViews, Memory>
+    ensures { IfOk result (λ maps. maps ≡ news bytes_eq map_name before.now after.now) }
+{
+    let mut list = Vec::new(alloc);
+    for map in after.items() {
+        if !has_map(before.items(), map.name) && list.push(map.copy()?).is_err() {
+            return Err(Memory);
+        }
+    }
+    Ok(MapViews { list })
+}
+
+fn minus(a: &CellSet, b: &CellSet) -> Result<CellSet, Memory>
+    requires { b.now.extent ≡ a.now.extent }
+    ensures { IfOk result (λ cells. cells ≡ minus_cells a.now b.now) }
+{
+    let mut cells = a.copy()?;
+    cells.minus_with(b);
+    Ok(cells)
+}
+
+fn new_mode(before: Mode, after: Mode) -> Option<Mode>
+    ensures { result ≡ mode_change_of before after }
+{
+    if same_mode(before, after) {
+        None
+    } else {
+        Some(after)
+    }
+}
+
+fn new_shown(before: Option<bool>, after: Option<bool>) -> Option<bool>
+    ensures { result ≡ shown_change_of before after }
+{
+    if same_shown(before, after) {
+        None
+    } else {
+        after
+    }
+}
+
+fn map_change(alloc: Global, before: &MapView, after: &MapView) -> Result<MapChange, Memory>
+    requires { HaveOneSize before.now after.now }
+    ensures { IfOk result (λ change. change ≡ map_change_of before.now after.now) }
+{
+    Ok(MapChange {
+        name: after.name,
+        mode: new_mode(before.mode, after.mode),
+        shown: new_shown(before.shown, after.shown),
+        dark: minus(&before.seen, &after.seen)?,
+        letters: new_letters(alloc, &before.letters, &after.letters)?,
+        hidden: minus(&before.exposed, &after.exposed)?,
+        lit: minus(&after.seen, &before.seen)?,
+    })
+}
+
+fn changed_map(
+    alloc: Global,
+    before: &MapView,
+    after: &MapView,
+) -> Result<Option<MapChange>, Memory>
+    requires { HaveOneSize before.now after.now }
+    ensures { IfOk result (λ change. change ≡ cond (same_map_test before.now after.now) None (Some (map_change_of before.now after.now))) }
+{
+    if same_map(before, after) {
+        return Ok(None);
+    }
+    Ok(Some(map_change(alloc, before, after)?))
+}
+
+/// How the map differs from the one with its name.
+fn map_delta(alloc: Global, before: &[MapView], map: &MapView) -> Result<Option<MapChange>, Memory>
+    requires { FitsAmong before.now map.now }
+    ensures { IfOk result (λ change. change ≡ delta_from tag_cmp map_name change_name same_map_test map_change_of (at_name map_name map.now.name before.now) map.now) }
+{
+    for old in before {
+        if map.name == old.name {
+            return changed_map(alloc, old, map);
+        }
+    }
+    Ok(None)
+}
+
+fn add_delta(list: &mut Vec<MapChange>, change: Option<MapChange>) -> Result<(), Memory>
+    ensures { OnOk result (list.new.items ≡ list.old.items ++ cons_option change []) }
+{
+    match change {
+        None => Ok(()),
+        Some(change) => match list.push(change) {
+            Ok(()) => Ok(()),
+            Err(_) => Err(Memory),
+        },
+    }
+}
+
+fn changed_maps(alloc: Global, before: &[MapView], after: &[MapView]) -> Result<MapChanges, Memory>
+    requires { All (FitsAmong before.now) after.now }
+    ensures { IfOk result (λ changes. changes ≡ deltas tag_cmp map_name change_name same_map_test map_change_of before.now after.now) }
+{
+    let mut list = Vec::new(alloc);
+    for map in after {
+        add_delta(&mut list, map_delta(alloc, before, map)?)?;
+    }
+    Ok(MapChanges { list })
+}
+
+#[tactic(auto, unfolding(crate::specs::Change::difference))]
+fn difference(alloc: Global, before: &View, after: &View) -> Result<Change, Memory>
+    requires { All (FitsAmong before.now.maps) after.now.maps }
+    ensures { IfOk result (λ change. change ≡ difference_of before.now after.now) }
+{
+    Ok(Change {
+        changed: changed_maps(alloc, before.maps.items(), after.maps.items())?,
+        gone: gone_tokens(alloc, &before.tokens, &after.tokens)?,
+        lights: new_lights(alloc, &before.lights, &after.lights)?,
+        maps: new_maps(alloc, &before.maps, &after.maps)?,
+        sights: new_sights(alloc, &before.sights, &after.sights)?,
+        tokens: new_tokens(alloc, &before.tokens, &after.tokens)?,
+        unmapped: gone_maps(alloc, &before.maps, &after.maps)?,
+    })
+}
+
+/// The change from one view to another; `None` exactly where the views are equal.
+///
+/// A map that is in both views has one size.
+#[tactic(auto, using(crate::proofs::ChangeShape::none_where_same, crate::proofs::ChangeShape::change_where_other))]
+pub fn change_of(alloc: Global, before: &View, after: &View) -> Result<Option<Change>, Memory>
+    requires { All (FitsAmong before.now.maps) after.now.maps }
+    ensures value { IfOk result (λ change. change ≡ change_between before.now after.now) }
+    ensures none { IfOk result (λ change. change ≡ None ↔ (before.now ≡ after.now)) }
+{
+    if same_view(before, after) {
+        return Ok(None);
+    }
+    Ok(Some(difference(alloc, before, after)?))
+}
+
+fn has_one_size(before: &MapView, after: &MapView) -> bool
+    ensures { result ≡ fits_test before.now after.now }
+{
+    after.name != before.name
+        || after.seen.size() == before.seen.size() && after.exposed.size() == before.exposed.size()
+}
+
+fn fits_among(before: &[MapView], map: &MapView) -> bool
+    ensures { result ≡ list_all (λ old. fits_test old map.now) before.now }
+{
+    before.iter().all(|old| has_one_size(old, map))
+}
+
+fn all_fit(before: &[MapView], after: &[MapView]) -> bool
+    ensures { result ≡ list_all (λ map. list_all (λ old. fits_test old map) before.now) after.now }
+{
+    after.iter().all(|map| fits_among(before, map))
+}
+
+/// Whether each map that is in both views has one size, as `change_of` asks.
+pub fn fit(before: &View, after: &View) -> bool
+    ensures { IsTrue result → All (FitsAmong before.now.maps) after.now.maps }
+{
+    all_fit(before.maps.items(), after.maps.items())
+}
