@@ -1,0 +1,4 @@
+pub mod OwnerLemmas
+pub mod PropertyLemmas
+pub mod OrderLemmas
+pub mod TokenLemmas
