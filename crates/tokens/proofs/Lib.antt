@@ -2,3 +2,4 @@ pub mod OwnerLemmas
 pub mod PropertyLemmas
 pub mod OrderLemmas
 pub mod TokenLemmas
+pub mod CoverLemmas

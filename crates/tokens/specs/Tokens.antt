@@ -1,5 +1,5 @@
 -- Tokens, and tables of tokens in order of ids.
-use Rattle.std.specs.Prelude.{ℕ, ◌+◌, Bool, not, ◌&&◌, nat_le, List, [], ◌∷◌, map, Option, is_some, if◌then◌else◌}
+use Rattle.std.specs.Prelude.{◌<◌, ◌≤◌, ℕ, ◌+◌, Bool, not, ◌&&◌, nat_le, List, [], ◌∷◌, map, Option, is_some, if◌then◌else◌}
 use Rattle.std.specs.List.{filter, find}
 use Rattle.std.specs.Ordering.{is_lt}
 use Rattle.std.specs.FinMap.Entries.{is_sorted}
@@ -19,6 +19,13 @@ use Rattle.tokens.specs.declared.token.Token.{Token}
 -- the token covers the cell in column x and row y: the square of cells of its size that begins at its cell has it
 abbrev pub covers : Token → ℕ → ℕ → Bool
 covers t x y = nat_le t.cell.x x && nat_le (x + 1) (t.cell.x + t.size) && nat_le t.cell.y y && nat_le (y + 1) (t.cell.y + t.size)
+
+-- the same in words
+pub record Covers (t : Token) (x y : ℕ) : Type 0 where
+  pub left : t.cell.x ≤ x
+  pub right : x < t.cell.x + t.size
+  pub above : t.cell.y ≤ y
+  pub under : y < t.cell.y + t.size
 
 -- where a token looks from, and where its light is: the centre of its square
 abbrev pub eye_of : Token → Coordinates

@@ -1,7 +1,7 @@
 //! One token.
-ghost use Rattle.std.specs.Prelude.{◌≡◌, ◌≤◌, ◌+◌, ◌<◌, ◌↔◌, ◌&&◌, nat_le, true, length, Err, IfOk, OnOk, OnErr};
+ghost use Rattle.std.specs.Prelude.{◌≡◌, ◌≤◌, ◌+◌, ◌<◌, ◌↔◌, ◌&&◌, nat_le, IsTrue, true, length, Err, IfOk, OnOk, OnErr};
 ghost use Rattle.tokens.specs.Properties.{is_full_for, value_limit};
-ghost use Rattle.tokens.specs.Tokens.{covers, eye_of, props_of, with_prop};
+ghost use Rattle.tokens.specs.Tokens.{Covers, covers, eye_of, props_of, with_prop};
 ghost use Rattle.tokens.specs.declared.props.PropFault.TheVariants.{PropertyLimit};
 
 use crate::owners::Owners;
@@ -62,7 +62,15 @@ impl Token {
     }
 
     /// Whether the token covers the cell: it covers the square of `size` by `size` cells that begins at `cell`.
+    #[tactic(auto, using(crate::proofs::CoverLemmas::covers_tells))]
     pub fn covers(&self, cell: Cell) -> bool
+        ensures test { result ≡ covers self.now cell.x cell.y }
+        ensures square { IsTrue result ↔ Covers self.now cell.x cell.y }
+    {
+        self.passes_covers(cell)
+    }
+
+    fn passes_covers(&self, cell: Cell) -> bool
         ensures { result ≡ covers self.now cell.x cell.y }
     {
         spans(self.cell.x, self.size, cell.x) && spans(self.cell.y, self.size, cell.y)
