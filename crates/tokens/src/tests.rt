@@ -1,6 +1,6 @@
-//! With ample memory, what takes memory gives what it says: orders, limits and copies.
+//! With ample memory, what takes memory gives what it says: a class takes its 64 names.
 
-use crate::{Owners, PropFault, Props, Token, TokenTable};
+use crate::{Owners, PropFault, Props, Token};
 use cells::Cell;
 use names::{Layer, PropClass, SeatNo, Tag, Text, TokenId};
 use std::alloc::Global;
@@ -29,28 +29,6 @@ fn token(alloc: Global, id: TokenId) -> Result<Token, Fail> {
         own: Props::new(alloc),
         secret: Props::new(alloc),
     })
-}
-
-// The tokens' makers and tags as they are made, and in order of ids.
-const MADE: [(u8, &[u8]); 4] = [(2, b"b"), (0, b"z"), (2, b"a"), (0, b"ab")];
-
-const IN_ORDER: [(u8, &[u8]); 4] = [(0, b"ab"), (0, b"z"), (2, b"a"), (2, b"b")];
-
-#[test]
-fn tokens_stand_in_order_of_ids(rt: HostRuntime) -> Result<(), Fail> {
-    let mut table = TokenTable::new(rt.alloc());
-    for (maker, tag) in MADE {
-        let id = id(maker, tag)?;
-        assert!(rt; table.get(id).is_none());
-        assert!(rt; table.make(token(rt.alloc(), id)?).is_ok());
-    }
-    let copy = table.copy()?;
-    assert_eq!(rt; copy.len(), 4);
-    for (place, (maker, tag)) in IN_ORDER.iter().enumerate() {
-        assert!(rt; place < copy.len());
-        assert!(rt; copy.at(place).id == id(*maker, tag)?);
-    }
-    Ok(())
 }
 
 #[test]
@@ -88,27 +66,5 @@ fn set(rt: &impl Abort, token: &mut Token, class: PropClass, number: u32) -> Res
         token.set_prop(class, Tag::read(name.as_bytes())?, value),
         Ok(())
     );
-    Ok(())
-}
-
-#[test]
-fn a_token_is_changed(rt: HostRuntime) -> Result<(), Fail> {
-    let ann = id(1, b"ann")?;
-    let seat = SeatNo::new(1).ok_or("no seat")?;
-    let mut table = TokenTable::new(rt.alloc());
-    assert!(rt; table.make(token(rt.alloc(), ann)?).is_ok());
-    assert!(rt; table.get(ann).is_some());
-    table.set_owner(ann, seat, true);
-    let value = Text::copy(rt.alloc(), "10")?;
-    assert_eq!(rt;
-        table.set_prop(ann, PropClass::Own, Tag::read(b"mp")?, value),
-        Ok(())
-    );
-    let taken = table.remove(ann).ok_or("no token")?;
-    assert!(rt; taken.owners.has(seat));
-    assert!(rt; taken.covers(Cell { x: 4, y: 5 }));
-    assert!(rt; !taken.covers(Cell { x: 5, y: 5 }));
-    assert_eq!(rt; taken.own.len(), 1);
-    assert_eq!(rt; table.len(), 0);
     Ok(())
 }
