@@ -1,6 +1,7 @@
 -- Tables of tokens after one token is put, changed or taken out.
-use Rattle.std.proofs.Common.{◌≡◌, ℕ, suc, ◌+◌, ◌<◌, ◌≤◌, Bool, true, false, cond, not, ◌&&◌, nat_lt, List, [], ◌∷◌, length, map, get_or, set, Option, Some, None, is_some, Result, Ok, Err, is_ok, refl, sym, ◌∙◌, ap, arith}
+use Rattle.std.proofs.Common.{◌≡◌, ℕ, suc, ◌+◌, ◌<◌, ◌≤◌, Bool, true, false, cond, not, ◌&&◌, nat_lt, List, [], ◌∷◌, length, map, get_or, set, Option, Some, None, is_some, Result, Ok, Err, is_ok, Bor, refl, sym, ◌∙◌, ap, arith}
 use Rattle.std.specs.Prelude.{unwrap_or, OnOk, OnErr}
+use Rattle.std.specs.Option.{option_copied}
 use Rattle.std.specs.List.{find, insert, remove, position, position_or_len}
 use Rattle.std.specs.Ordering.{is_lt}
 use Rattle.std.specs.FinMap.Entries.{below_all}
@@ -73,6 +74,10 @@ not_missing id ts there e =
 
 pub end_place : (p : Token → Bool) (ts : List Token) → None ≡ position p ts → length ts ≡ position_or_len p ts
 end_place p ts e = omega (arith, no_place p ts e, prefix_len-le-length (λ t. not (p t)) ts)
+
+pub copied_too : (r : Option (Bor Token)) → is_some r ≡ is_some (option_copied r)
+copied_too None = refl
+copied_too (Some t) = refl
 
 -- ---- order
 

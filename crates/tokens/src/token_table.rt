@@ -1,5 +1,5 @@
 //! The table of a campaign's tokens.
-ghost use Rattle.std.specs.Prelude.{◌≡◌, ◌<◌, ◌≤◌, ◌↔◌, ◌∷◌, ◌++◌, true, false, [], length, slice_get, Some, None, Err, IfOk, IfErr, IfSome, OnOk, OnErr, is_ok, if◌then◌else◌};
+ghost use Rattle.std.specs.Prelude.{◌≡◌, ◌<◌, ◌≤◌, ◌↔◌, ◌∷◌, ◌++◌, true, false, [], length, slice_get, Some, None, Err, IfOk, IfErr, IfSome, OnOk, OnErr, is_ok, is_some, if◌then◌else◌};
 ghost use Rattle.std.specs.Option.{option_copied};
 ghost use Rattle.std.specs.List.{insert, position, position_or_len};
 ghost use Rattle.std.specs.Ordering.{is_lt};
@@ -69,9 +69,10 @@ impl TokenTable {
 
     /// The token of that id; `None` exactly where it isn't there.
     pub fn get(&self, id: TokenId) -> Option<&Token>
-        ensures { option_copied result ≡ token_of id self.now }
+        ensures value { option_copied result ≡ token_of id self.now }
+        ensures there { is_some result ≡ has_token id self.now }
     {
-        self.tokens.iter().find(|token| token.id == id)
+        find_token(&self.tokens, id)
     }
 
     /// Puts a token in its place; its id isn't there. The token comes back for want of memory, and the table is then
@@ -190,6 +191,12 @@ fn insert_at(tokens: &mut Vec<Token>, place: usize, token: Token) -> Result<(), 
         Ok(()) => Ok(()),
         Err(failed) => Err(failed.value),
     }
+}
+
+fn find_token(tokens: &[Token], id: TokenId) -> Option<&Token>
+    ensures { option_copied result ≡ token_of id tokens.now }
+{
+    tokens.iter().find(|token| token.id == id)
 }
 
 /// Where the token of that id is, if it is there.
