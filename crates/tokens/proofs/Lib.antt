@@ -1,0 +1,5 @@
+pub mod OwnerLemmas
+pub mod PropertyLemmas
+pub mod OrderLemmas
+pub mod TokenLemmas
+pub mod CoverLemmas
