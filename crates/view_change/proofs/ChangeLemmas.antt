@@ -1,12 +1,11 @@
 -- The laws of changes.
 use Rattle.std.proofs.Common.{◌≡◌, ℕ, ◌<◌, Bool, true, false, cond, ◌&&◌, ◌||◌, List, [], ◌∷◌, Some, None, get_or, refl, sym, ◌∙◌, ap, subst, arith}
-use Rattle.std.specs.Prelude.{◌↔◌, Option, is_some, is_none, not, unwrap_or, map, nat_lt, All}
+use Rattle.std.specs.Prelude.{Option, is_some, is_none, not, unwrap_or, nat_lt, All}
 use Rattle.std.specs.Bool.{Decides}
 use Rattle.std.specs.Ordering.{eq_by_cmp, is_eq}
 use Rattle.std.specs.Cmp.{tied_itself}
 use Rattle.std.specs.Str.{bytes_eq}
 use Rattle.std.proofs.lemmas.Bool.Decides.{nat_tests, Decides-and, Decides-eqb, Decides-like, same_from_decides}
-use Rattle.std.proofs.lemmas.List.Elements.{All-head, All-tail}
 use Rattle.std.specs.List.{filter}
 use Rattle.cells.specs.Cell.{is_at}
 use Rattle.cells.specs.Cells.{Extent, Cells, has, cells_where, IsToldByCells}
@@ -15,12 +14,11 @@ use Rattle.cells.proofs.SetLaws.{has-cells_where, cells_where_same}
 use Rattle.names.specs.Tag.{tag_cmp}
 use Rattle.names.specs.TokenId.{id_cmp, id_eq}
 use Rattle.view_change.specs.declared.view.MapView.{MapView}
-use Rattle.view_change.specs.declared.view.TokenView.{TokenView}
 use Rattle.view_change.specs.declared.view.View.{View}
 use Rattle.view_change.specs.Keys.{Named, Letter, cell_cmp, name_of, cell_of, map_name, change_name, token_id}
 use Rattle.view_change.specs.Same.{same_option, same_bool, same_mode, same_letter, same_light, same_bytes, same_map, same_token, same_view}
 use Rattle.view_change.specs.Keyed.{at, in_order, put_all, applied, gone_from, is_among, puts_from}
-use Rattle.view_change.specs.Views.{at_name, letter_at, is_on_map, IsMapView, IsView, FitsAmong, HaveOneSize, FollowsView}
+use Rattle.view_change.specs.Views.{at_name, letter_at, is_on_map, IsMapView, IsView, FitsAmong, FollowsView}
 use Rattle.view_change.specs.Change.{minus, shown_change, map_change, or_old, has_letter, map_with, difference, change_of, apply_change}
 use Rattle.view_change.specs.Laws.{NoneIfSame, GivesAfter}
 use Rattle.view_change.proofs.SameLemmas.{Tells, same_option-tells, same_bool-tells, same_mode-tells, same_letter-tells, same_light-tells, same_bytes-tells, same_map-tells, same_token-tells, same_view-tells}

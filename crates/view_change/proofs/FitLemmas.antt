@@ -1,5 +1,5 @@
 -- What the test of sizes says.
-use Rattle.std.proofs.Common.{◌≡◌, ℕ, ◌<◌, true, false, Bool, ◌&&◌, ◌||◌, ◌==◌, List, [], ◌∷◌, Some, refl, sym, ◌∙◌, ap, get_or, arith}
+use Rattle.std.proofs.Common.{◌≡◌, true, false, Bool, ◌&&◌, ◌||◌, ◌==◌, List, [], ◌∷◌, refl, arith}
 use Rattle.std.specs.Prelude.{All, not}
 use Rattle.std.specs.List.{list_all}
 use Rattle.std.specs.Str.{bytes_eq}
@@ -10,7 +10,7 @@ use Rattle.cells.specs.Cells.{Extent}
 use Rattle.names.specs.Tag.{tag_cmp}
 use Rattle.view_change.specs.declared.view.MapView.{MapView}
 use Rattle.view_change.specs.Keys.{map_name}
-use Rattle.view_change.specs.Views.{at_name, fits_test, HaveOneSize, FitsAmong}
+use Rattle.view_change.specs.Views.{fits_test, HaveOneSize, FitsAmong}
 use Rattle.view_change.proofs.OrderLemmas.{tag_total, tag_anti}
 use Rattle.view_change.proofs.KeyedLemmas.{at-all, at-key}
 

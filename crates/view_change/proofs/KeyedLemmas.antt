@@ -1,9 +1,9 @@
 -- What becomes of lists in the order of a key.
-use Rattle.std.proofs.Common.{◌≡◌, ℕ, Bool, true, false, cond, ◌&&◌, ◌||◌, List, [], ◌∷◌, Some, None, refl, sym, ◌∙◌, ap, subst}
-use Rattle.std.specs.Prelude.{Option, option_map, map, is_some, is_none, not, unwrap_or, All}
+use Rattle.std.proofs.Common.{◌≡◌, Bool, true, false, cond, ◌&&◌, ◌||◌, List, [], ◌∷◌, Some, None, refl, sym, ◌∙◌, ap, subst}
+use Rattle.std.specs.Prelude.{Option, map, is_some, is_none, not, unwrap_or, All}
 use Rattle.std.proofs.lemmas.List.Elements.{All-head, All-tail}
 use Rattle.std.specs.Bool.{Decides}
-use Rattle.std.specs.List.{filter, list_any}
+use Rattle.std.specs.List.{filter}
 use Rattle.std.specs.declared.cmp.Ordering.{Ordering}
 use Rattle.std.specs.declared.cmp.Ordering.TheVariants.{Less, Equal, Greater}
 use Rattle.std.specs.Ordering.{eq_by_cmp, is_eq, is_lt}
@@ -11,7 +11,7 @@ use Rattle.std.specs.Cmp.{IsTotalOrder, tied_itself}
 use Rattle.std.specs.FinMap.{IsAntisymmetric}
 use Rattle.std.specs.FinMap.Entries as entries
 use Rattle.std.specs.FinMap.Entries.{find, is_sorted, where_key, below_all, by_order, find-put, is_sorted-put, find-where_key, is_sorted-where_key, find_tied, same_entries, is_some-find}
-use Rattle.view_change.specs.Keyed.{keyed, at, in_order, put_by, put, put_all, without, applied, has_key, news, gone_from, is_among, is_in, puts_from}
+use Rattle.view_change.specs.Keyed.{keyed, at, in_order, put_by, put, put_all, without, applied, has_key, gone_from, is_among, is_in, puts_from}
 use lib.Dec.{T}
 
 pub eq_is : (r : Ordering) → is_eq r ≡ true → r ≡ Equal

@@ -1,13 +1,12 @@
 -- No tree of a view or of a change has a float.
-use Rattle.std.proofs.Common.{◌≡◌, ℕ, ℤ, pos, negsuc, Bool, true, false, ◌||◌, List, [], ◌∷◌, Some, None, refl, sym, ◌∙◌, ap}
+use Rattle.std.proofs.Common.{◌≡◌, ℕ, ℤ, pos, negsuc, Bool, true, false, ◌||◌, List, [], ◌∷◌, Some, None, refl}
 use Rattle.std.specs.Prelude.{Option, map, codes}
 use Rattle.std.specs.List.{fold}
 use Rattle.std.specs.declared.cmp.Ordering.{Ordering}
 use Rattle.std.specs.declared.cmp.Ordering.TheVariants.{Less, Equal, Greater}
 use Rattle.std.specs.Ordering.{nat_cmp, match_ordering}
 use Rattle.std.specs.Cmp.Lexicographic.{slice_cmp}
-use Rattle.serde_json.specs.Data.{Data, null, boolean, number, unsigned, string, array, Items, no_items, item, object, Members, no_members, member}
-use Rattle.serde_json.specs.Find.{of_integer, is_float}
+use Rattle.serde_json.specs.Data.{Data, boolean, string, Members, no_members, member}
 use Rattle.serde_json.specs.View.{items_of}
 use Rattle.serde_json.specs.Written.{has_float, items_have_float, members_have_float}
 use Rattle.cells.specs.Runs.{runs_of}
@@ -21,7 +20,7 @@ use Rattle.view_change.specs.declared.view.View.{View}
 use Rattle.view_change.specs.declared.change.Change.{Change}
 use Rattle.view_change.specs.declared.change.MapChange.{MapChange}
 use Rattle.view_change.specs.Keys.{Named}
-use Rattle.view_change.specs.Lines.{with_member, whole, list_data, wholes_data, text_or_null, put_list, put_some, put_named, named_data, radius_data, lights_data, sights_data, put_lights, put_sights, prop_data, props_data, run_data, runs_data, terrain_run_data, terrain_data, mode_data, map_data, put_owned, put_whole, token_data, maps_data, tokens_data, cell_data, view_data, lettered, map_change_data, change_data, full_tree, change_tree}
+use Rattle.view_change.specs.Lines.{with_member, whole, list_data, wholes_data, text_or_null, put_list, put_some, put_named, radius_data, lights_data, sights_data, put_lights, put_sights, prop_data, props_data, run_data, runs_data, terrain_run_data, terrain_data, mode_data, map_data, put_owned, put_whole, token_data, maps_data, tokens_data, cell_data, view_data, lettered, map_change_data, change_data, full_tree, change_tree}
 
 none : (a b : Bool) → a ≡ false → b ≡ false → (a || b) ≡ false
 none a b e f = λ i. e i || f i

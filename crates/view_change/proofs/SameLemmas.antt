@@ -1,26 +1,18 @@
 -- The tests tell equality.
-use Rattle.std.proofs.Common.{◌≡◌, ℕ, zero, suc, Bool, true, false, cond, ◌&&◌, ◌==◌, List, Some, None, refl, sym, ◌∙◌, ap, ℤ}
-use Rattle.std.specs.Prelude.{Option, unwrap_or}
+use Rattle.std.proofs.Common.{◌≡◌, ℕ, zero, suc, Bool, true, false, ◌&&◌, ◌==◌, Some, None, refl, sym, ◌∙◌, ap}
+use Rattle.std.specs.Prelude.{unwrap_or}
 use Rattle.std.specs.Ordering.{int_eq}
 use Rattle.std.specs.Str.{bytes_eq}
 use Rattle.std.specs.Bool.{Decides}
 use Rattle.std.specs.Cmp.Lexicographic.{pointwise}
 use Rattle.std.proofs.lemmas.Bool.Decides.{Decides-and, Decides-like, Decides-eqb, Decides-int_eq}
 use Rattle.std.proofs.lemmas.Slice.Eq.{bytes_eq-Decides, slice_eq-Decides}
-use Rattle.cells.specs.Cells.{Extent, Cells, cells_eq}
-use Rattle.cells.specs.declared.cell.Cell.{Cell}
 use Rattle.cells.proofs.SetLaws.{cells_eq_tells}
 use Rattle.names.specs.declared.kinds.Mode.{Mode}
 use Rattle.names.specs.declared.kinds.Mode.TheVariants.{Off, Day, Night}
 use Rattle.names.specs.declared.kinds.Layer.{Layer}
 use Rattle.names.specs.declared.kinds.Layer.TheVariants.{Token, Hidden, Object, Background}
 use Rattle.names.proofs.SameIds.{id_eq-Decides}
-use Rattle.view_change.specs.Keys.{Named, Letter}
-use Rattle.view_change.specs.declared.view.MapView.{MapView}
-use Rattle.view_change.specs.declared.view.TokenView.{TokenView}
-use Rattle.view_change.specs.declared.view.OwnedPart.{OwnedPart}
-use Rattle.view_change.specs.declared.view.GmPart.{GmPart}
-use Rattle.view_change.specs.declared.view.View.{View}
 use Rattle.view_change.specs.Same.{same_option, same_bool, mode_number, same_mode, layer_number, same_layer, same_extent, same_cell, same_letter, same_light, same_bytes, same_props, same_map, same_owned, same_whole, same_token, same_view}
 
 -- a test that tells equality

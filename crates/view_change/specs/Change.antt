@@ -4,7 +4,6 @@ use Rattle.std.specs.List.{list_any}
 use Rattle.std.specs.Str.{bytes_eq}
 use Rattle.cells.specs.Cell.{is_at}
 use Rattle.cells.specs.Cells.{Cells, has, cells_where}
-use Rattle.cells.specs.declared.cell.Cell.{Cell}
 use Rattle.names.specs.declared.kinds.Mode.{Mode}
 use Rattle.names.specs.Tag.{tag_cmp}
 use Rattle.names.specs.TokenId.{id_cmp, id_eq}

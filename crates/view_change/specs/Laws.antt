@@ -1,5 +1,5 @@
 -- The laws of changes.
-use Rattle.std.specs.Prelude.{◌≡◌, ◌↔◌, ◌≢◌, None, true}
+use Rattle.std.specs.Prelude.{◌≡◌, ◌↔◌, None}
 use Rattle.view_change.specs.declared.view.View.{View}
 use Rattle.view_change.specs.Views.{IsView, FollowsView}
 use Rattle.view_change.specs.Change.{difference, change_of, apply_change}

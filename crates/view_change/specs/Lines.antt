@@ -2,7 +2,7 @@
 use Rattle.std.specs.Prelude.{ℕ, ℤ, ◌==◌, ◌&&◌, nat_le, Bool, List, [], ◌∷◌, map, codes, Option, Some, None}
 use Rattle.std.specs.List.{filter, flat_map, fold}
 use Rattle.std.specs.Char.{encode_utf8}
-use Rattle.serde_json.specs.Data.{Data, null, boolean, number, unsigned, string, array, Items, no_items, item, object, Members, no_members, member, put}
+use Rattle.serde_json.specs.Data.{Data, null, boolean, number, unsigned, string, array, object, Members, no_members, member, put}
 use Rattle.serde_json.specs.Find.{of_integer}
 use Rattle.serde_json.specs.View.{items_of}
 use Rattle.serde_json.specs.Written.{compact_text}
@@ -13,7 +13,6 @@ use Rattle.cells.specs.declared.cell.Run.{Run}
 use Rattle.names.specs.Words.{mode_word, layer_word}
 use Rattle.names.specs.TokenId.{id_text}
 use Rattle.names.specs.declared.kinds.Mode.{Mode}
-use Rattle.names.specs.declared.token_id.TokenId.{TokenId}
 use Rattle.view_change.specs.declared.view.MapView.{MapView}
 use Rattle.view_change.specs.declared.view.TokenView.{TokenView}
 use Rattle.view_change.specs.declared.view.OwnedPart.{OwnedPart}

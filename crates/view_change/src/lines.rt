@@ -2,7 +2,6 @@
 ghost use Rattle.std.specs.Prelude.{◌≡◌, IfOk};
 ghost use Rattle.json_fields.specs.Lines.{IsOneLine};
 ghost use Rattle.serde_json.specs.View.{view};
-ghost use Rattle.serde_json.specs.Data.{object, member, no_members};
 ghost use Rattle.view_change.specs.Lines.{full_tree, full_line as full_text, change_tree, change_line as change_text};
 
 use crate::change::Change;

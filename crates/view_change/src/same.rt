@@ -5,7 +5,7 @@ ghost use Rattle.std.specs.Cmp.Lexicographic.{pointwise};
 ghost use Rattle.cells.specs.Cells.{cells_eq};
 ghost use Rattle.view_change.specs.Same as same;
 
-use crate::lists::{Letters, LightTexts, MapViews, SightTexts, TokenViews};
+use crate::lists::{Letters, LightTexts, SightTexts};
 use crate::view::{GmPart, MapView, OwnedPart, TokenView, View};
 use cells::CellSet;
 use names::{Layer, Mode, Tag, Text};

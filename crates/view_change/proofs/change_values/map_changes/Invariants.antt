@@ -1,4 +1,4 @@
-use Rattle.std.proofs.Common.{◌≡◌, take, map, ◌++◌}
+use Rattle.std.proofs.Common.{◌≡◌, take, map}
 use Rattle.serde_json.specs.View.{view}
 use Rattle.view_change.specs.Lines.{map_change_data}
 use Rattle.view_change.proofs.change_values.map_changes.Given as goal

@@ -1,5 +1,4 @@
-use Rattle.std.proofs.Common.{◌≡◌, ◌∙◌, sym, refl, true, false}
-use Rattle.view_change.specs.Same.{same_view}
+use Rattle.std.proofs.Common.{◌∙◌, sym, refl}
 use Rattle.view_change.proofs.ChangeShape.{same_where_true, other_where_false}
 use Rattle.view_change.proofs.difference.change_of.Goals as goal
 

@@ -1,4 +1,4 @@
-use Rattle.std.proofs.Common.{rules, ◌≡◌, ◌∙◌, sym, ap, arith, true, false, Some, cond, subst}
+use Rattle.std.proofs.Common.{rules, ◌≡◌, sym, ap, arith, true, false, subst}
 use Rattle.std.specs.Prelude.{IfOk}
 use Rattle.std.specs.Str.{bytes_eq}
 use Rattle.names.specs.Tag.{tag_cmp}
@@ -6,7 +6,6 @@ use Rattle.view_change.specs.Keys.{map_name, change_name}
 use Rattle.view_change.specs.Keyed.{delta_from}
 use Rattle.view_change.specs.Same.{same_map}
 use Rattle.view_change.specs.Change.{map_change}
-use Rattle.view_change.specs.Views.{at_name}
 use Rattle.view_change.proofs.MapLoops.{found_here, passed_over, none_left}
 use Rattle.view_change.proofs.difference.map_delta.Goals as goal
 

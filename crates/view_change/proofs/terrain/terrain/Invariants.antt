@@ -1,4 +1,4 @@
-use Rattle.std.proofs.Common.{◌≡◌, take, map, ◌++◌}
+use Rattle.std.proofs.Common.{◌≡◌, map, ◌++◌}
 use Rattle.serde_json.specs.View.{view}
 use Rattle.cells.specs.Runs.{runs_of}
 use Rattle.view_change.specs.Lines.{terrain_run_data}

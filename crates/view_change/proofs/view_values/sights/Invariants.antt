@@ -1,5 +1,4 @@
-use Rattle.std.proofs.Common.{◌≡◌, take, map, ◌++◌}
-use Rattle.serde_json.specs.View.{view}
+use Rattle.std.proofs.Common.{◌≡◌, take}
 use Rattle.std.specs.List.{fold}
 use Rattle.serde_json.specs.Data.{no_members}
 use Rattle.serde_json.specs.View.{members_view}
