@@ -1,3 +1,4 @@
 pub mod Painting
 pub mod Changes
 pub mod Adding
+pub mod Joining

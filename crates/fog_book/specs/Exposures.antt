@@ -52,3 +52,17 @@ with_map fog name size = record { players = fog.players; sets = fog.sets ++ blan
 pub record AddsMap (old new : Fog) (name : List ℕ) (size : Extent) : Type 0 where
   pub blank : (seat : ℕ) → 1 ≤ seat → seat ≤ old.players → exposed_of old seat name ≡ None → exposed_of new seat name ≡ Some (cells_where size (λ x y. false))
   pub others : (seat : ℕ) (place : List ℕ) → place ≢ name → exposed_of new seat place ≡ exposed_of old seat place
+
+-- the set with what is seen
+abbrev pub with_seen : Exposure → Cells → Exposure
+with_seen set seen = record set { cells = joined set.cells seen }
+
+-- each set with what is seen of its map by its player
+abbrev pub with_each_seen : List Exposure → List Cells → List Exposure
+with_each_seen [] seen = []
+with_each_seen (set ∷ sets) [] = set ∷ sets
+with_each_seen (set ∷ sets) (cells ∷ seen) = with_seen set cells ∷ with_each_seen sets seen
+
+-- the set and what is seen have one size
+abbrev pub HaveOneSize : Exposure → Cells → Type 0
+HaveOneSize set seen = seen.extent ≡ set.cells.extent

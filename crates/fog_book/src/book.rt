@@ -1,7 +1,8 @@
 //! The fog of war of a campaign.
 ghost use Rattle.std.specs.Prelude.{◌≡◌, ◌≤◌, [], ◌∷◌, ◌++◌, Some, true, false, IsSome, IfOk, OnOk, OnErr};
 ghost use Rattle.std.specs.Option.{ForSome};
-ghost use Rattle.fog_book.specs.Exposures.{joined, blank_sets};
+ghost use Rattle.std.specs.List.{AllZip};
+ghost use Rattle.fog_book.specs.Exposures.{joined, blank_sets, with_each_seen, HaveOneSize};
 ghost use Rattle.fog_book.specs.Rects.{with_rect};
 
 use crate::exposure::{Exposure, join_with, place_of, set_rect_of};
@@ -98,6 +99,21 @@ impl FogBook {
         join_with(&mut self.sets, seat, map, seen);
     }
 
+    /// The sets, one for each player and map.
+    pub fn sets(&self) -> &[Exposure]
+        ensures { result.now ≡ self.now.sets }
+    {
+        self.sets.as_slice()
+    }
+
+    /// Exposes what is seen: to each set, in their order, the cells at its place in `seen`, which are of its size.
+    pub fn join_each(&mut self, seen: &[CellSet])
+        requires { AllZip HaveOneSize self.old.sets seen.now }
+        ensures { self.new ≡ record self.old { sets = with_each_seen self.old.sets seen.now } }
+    {
+        join_all(&mut self.sets, seen);
+    }
+
     /// The cells of the map that are exposed to the player.
     pub fn exposed(&self, seat: SeatNo, map: Tag) -> &CellSet
         requires { IsSome (exposed_of self.now seat map) }
@@ -105,6 +121,16 @@ impl FogBook {
     {
         let place = place_of(&self.sets, seat, map);
         &self.sets[place].cells
+    }
+}
+
+/// Adds to each set the cells at its place.
+fn join_all(sets: &mut Vec<Exposure>, seen: &[CellSet])
+    requires { AllZip HaveOneSize sets.old.items seen.now }
+    ensures { sets.new.items ≡ with_each_seen sets.old.items seen.now }
+{
+    for (place, cells) in seen.iter().enumerate() {
+        sets[place].cells.join_with(cells);
     }
 }
 
