@@ -12,9 +12,29 @@ verbs =
     (codes "bye", V.Bye) ∷
     (codes "look", V.Look) ∷
     (codes "say", V.Say) ∷
-    (codes "move", V.Move) ∷ []
+    (codes "move", V.Move) ∷
+    (codes "setprop", V.Setprop) ∷
+    (codes "light", V.Light) ∷
+    (codes "make", V.Make) ∷
+    (codes "remove", V.Remove) ∷ []
 
 -- the commands that the game master alone may give
 abbrev pub gm_verbs : List (List ℕ × GmVerb)
 gm_verbs =
-    (codes "map", G.Map) ∷ []
+    (codes "map", G.Map) ∷
+    (codes "mode", G.Mode) ∷
+    (codes "show", G.Show) ∷
+    (codes "terrain", G.Terrain) ∷
+    (codes "wall", G.Wall) ∷
+    (codes "unwall", G.Unwall) ∷
+    (codes "lighttype", G.Lighttype) ∷
+    (codes "sighttype", G.Sighttype) ∷
+    (codes "token", G.Token) ∷
+    (codes "own", G.Own) ∷
+    (codes "layer", G.Layer) ∷
+    (codes "visible", G.Visible) ∷
+    (codes "sight", G.Sight) ∷
+    (codes "place", G.Place) ∷
+    (codes "secret", G.Secret) ∷
+    (codes "expose", G.Expose) ∷
+    (codes "hide", G.Hide) ∷ []

@@ -2,7 +2,7 @@
 ghost use Rattle.std.specs.Prelude.{◌≡◌};
 ghost use Rattle.command_json.specs.declared.command.LineFault.TheVariants.{Memory as no_memory};
 
-use names::{Memory, SeatNo, Tag, Text, TokenId};
+use names::{Layer, Memory, Mode, PropClass, SeatNo, Tag, Text, TokenId, WallKind};
 use std::marker::Model;
 
 /// What a line asks for. A command has the fields of its JSON object, under their keys. Where nothing else is
@@ -11,17 +11,149 @@ use std::marker::Model;
 #[derive(Drop)]
 pub enum Command {
     /// Takes the seat. Of a seat that is Joined it is refused. The key has 1 to 64 bytes.
-    Hello { seat: SeatNo, key: Text },
+    Hello {
+        seat: SeatNo,
+        key: Text,
+    },
     /// Ends the session.
     Bye,
     /// Asks for the whole view.
     Look,
     /// Sends a text of 1 to 1,000 bytes to every seat.
-    Say { text: Text },
+    Say {
+        text: Text,
+    },
     /// Moves the token along a path of 1 to 64 cells.
-    Move { token: TokenId, path: CellPath },
-    /// Makes a map of 1 to 96 by 1 to 96 cells.
-    Map { name: Tag, w: i32, h: i32 },
+    Move {
+        token: TokenId,
+        path: CellPath,
+    },
+    /// Sets the token's Public or Own property of this name to a value of 0 to 200 bytes.
+    Setprop {
+        token: TokenId,
+        class: PropClass,
+        name: Tag,
+        value: Text,
+    },
+    /// Sets the token's light to the type of this name, or to none.
+    Light {
+        token: TokenId,
+        light: Option<Tag>,
+    },
+    /// Makes a token of the player. Its name has 1 to 40 bytes.
+    Make {
+        tag: Tag,
+        map: Tag,
+        cell: (i32, i32),
+        name: Text,
+    },
+    /// Removes the token.
+    Remove {
+        token: TokenId,
+    },
+    /// Makes a map of w by h cells, each 1 to 96.
+    Map {
+        name: Tag,
+        w: i32,
+        h: i32,
+    },
+    /// Sets how the map is lit.
+    Mode {
+        map: Tag,
+        mode: Mode,
+    },
+    /// Shows the map to the players, or hides it.
+    Show {
+        map: Tag,
+        on: bool,
+    },
+    /// Sets the letters of a rectangle: `a` to `z`, or `.`.
+    Terrain {
+        map: Tag,
+        rect: (i32, i32, i32, i32),
+        kind: u8,
+    },
+    /// Adds a wall from the point a to the point b.
+    Wall {
+        map: Tag,
+        kind: WallKind,
+        a: (i32, i32),
+        b: (i32, i32),
+    },
+    /// Removes the wall of these ends.
+    Unwall {
+        map: Tag,
+        kind: WallKind,
+        a: (i32, i32),
+        b: (i32, i32),
+    },
+    /// Sets a light type. The radius is 0 to 1,000 cells.
+    Lighttype {
+        name: Tag,
+        radius: i32,
+    },
+    /// Sets a sight type. The ranges by day and by night are 0 to 1,000 cells, and the multiplier of radii is 0 to 1,000
+    /// halves.
+    Sighttype {
+        name: Tag,
+        range: i32,
+        night: i32,
+        mult: i32,
+    },
+    /// Makes a token of the game master. Its name has 1 to 40 bytes, its size is 1 to 4 cells.
+    Token {
+        tag: Tag,
+        map: Tag,
+        cell: (i32, i32),
+        name: Text,
+        size: i32,
+        layer: Layer,
+    },
+    /// Makes the seat's player an owner of the token, or no owner.
+    Own {
+        token: TokenId,
+        seat: SeatNo,
+        on: bool,
+    },
+    /// Sets the token's layer.
+    Layer {
+        token: TokenId,
+        layer: Layer,
+    },
+    /// Sets whether the players may be shown the token.
+    Visible {
+        token: TokenId,
+        on: bool,
+    },
+    /// Sets the token's sight to the type of this name, or to none.
+    Sight {
+        token: TokenId,
+        sight: Option<Tag>,
+    },
+    /// Puts the token on a cell of a map.
+    Place {
+        token: TokenId,
+        map: Tag,
+        cell: (i32, i32),
+    },
+    /// Sets the token's Secret property of this name to a value of 0 to 200 bytes.
+    Secret {
+        token: TokenId,
+        name: Tag,
+        value: Text,
+    },
+    /// Exposes a rectangle to the seat's player.
+    Expose {
+        seat: SeatNo,
+        map: Tag,
+        rect: (i32, i32, i32, i32),
+    },
+    /// Takes a rectangle out of what is exposed to the seat's player.
+    Hide {
+        seat: SeatNo,
+        map: Tag,
+        rect: (i32, i32, i32, i32),
+    },
 }
 
 /// Why a line is no command.

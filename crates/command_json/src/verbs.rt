@@ -15,12 +15,32 @@ pub(crate) enum Verb {
     Look,
     Say,
     Move,
+    Setprop,
+    Light,
+    Make,
+    Remove,
 }
 
 /// A command that the game master alone may give.
 #[derive(Clone, Copy)]
 pub(crate) enum GmVerb {
     Map,
+    Mode,
+    Show,
+    Terrain,
+    Wall,
+    Unwall,
+    Lighttype,
+    Sighttype,
+    Token,
+    Own,
+    Layer,
+    Visible,
+    Sight,
+    Place,
+    Secret,
+    Expose,
+    Hide,
 }
 
 pub(crate) fn read_verb(value: &Value) -> Option<Verb>
@@ -32,6 +52,10 @@ pub(crate) fn read_verb(value: &Value) -> Option<Verb>
         ("look", Verb::Look),
         ("say", Verb::Say),
         ("move", Verb::Move),
+        ("setprop", Verb::Setprop),
+        ("light", Verb::Light),
+        ("make", Verb::Make),
+        ("remove", Verb::Remove),
     ];
     word(value, "do", &table)
 }
@@ -39,6 +63,24 @@ pub(crate) fn read_verb(value: &Value) -> Option<Verb>
 pub(crate) fn read_gm_verb(value: &Value) -> Option<GmVerb>
     ensures { result ≡ word_in (codes "do") gm_verbs (view value.now) }
 {
-    let table = [("map", GmVerb::Map)];
+    let table = [
+        ("map", GmVerb::Map),
+        ("mode", GmVerb::Mode),
+        ("show", GmVerb::Show),
+        ("terrain", GmVerb::Terrain),
+        ("wall", GmVerb::Wall),
+        ("unwall", GmVerb::Unwall),
+        ("lighttype", GmVerb::Lighttype),
+        ("sighttype", GmVerb::Sighttype),
+        ("token", GmVerb::Token),
+        ("own", GmVerb::Own),
+        ("layer", GmVerb::Layer),
+        ("visible", GmVerb::Visible),
+        ("sight", GmVerb::Sight),
+        ("place", GmVerb::Place),
+        ("secret", GmVerb::Secret),
+        ("expose", GmVerb::Expose),
+        ("hide", GmVerb::Hide),
+    ];
     word(value, "do", &table)
 }
