@@ -1,0 +1,2 @@
+pub mod SeatBits
+pub mod OneLines
