@@ -1,10 +1,3 @@
-pub mod Lists
-pub mod Seats
-pub mod Views
-pub mod Runs
-pub mod Outcomes
-pub mod Simulation
-pub mod Sessions
-pub mod States
-pub mod OneLines
-pub mod Refused
+pub mod Unique
+pub mod Places
+pub mod Openings

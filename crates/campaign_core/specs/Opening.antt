@@ -6,9 +6,9 @@ use Rattle.campaign_file.specs.declared.faults.BadCampaign.{BadCampaign}
 use Rattle.campaign_file.specs.declared.faults.Rule.TheVariants.{Form}
 use Rattle.campaign_core.specs.declared.campaign.OpenFault.{OpenFault}
 use Rattle.campaign_core.specs.declared.campaign.OpenFault.TheVariants.{Bad, Memory}
-use Rattle.campaign_core.specs.Views.{bare}
-use Rattle.campaign_core.specs.Seat.{fresh_seat}
-use Rattle.campaign_core.specs.World.{World}
+use Rattle.campaign_law.specs.Views.{bare}
+use Rattle.campaign_law.specs.Seat.{fresh_seat}
+use Rattle.campaign_law.specs.World.{World}
 
 abbrev pub opening_world : List Book → World
 opening_world books = record { seats = map fresh_seat books; scene = bare }

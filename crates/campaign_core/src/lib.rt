@@ -1,7 +1,7 @@
 //! The campaign: entries, commands, worlds and what players are sent.
 #![tactic(auto)]
 
-ghost use Rattle.campaign_core.specs.Law.{SentIsMachine, AgreeingSendAlike, NoLineEndIsSent, RefusedChangesLittle};
+ghost use Rattle.campaign_law.specs.Law.{SentIsMachine, AgreeingSendAlike, NoLineEndIsSent, RefusedChangesLittle};
 
 mod campaign;
 mod command;

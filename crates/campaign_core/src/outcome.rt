@@ -1,17 +1,18 @@
 //! What an entry does to its own seat.
 ghost use Rattle.std.specs.Prelude.{◌≡◌, ◌<◌, ◌≤◌, ◌∷◌, [], ℕ, Some, None, IfOk, IfSome, IfNone, ◌==◌, ◌≢◌, true};
 ghost use Rattle.seats.specs.Book.{join_refusal};
-ghost use Rattle.campaign_core.specs.Asked.{Asked};
-ghost use Rattle.campaign_core.specs.Commands.{command_of};
-ghost use Rattle.campaign_core.specs.Outcome.{nothing as nothing_lem, refused_direct as refused_direct_lem, refused_line as refused_line_lem, refusal_of_join as refusal_of_join_lem, join_outcome as join_outcome_lem, rule_of as rule_of_lem, book_done as book_done_lem, reply_line as reply_line_lem, messages_by as messages_by_lem, is_look as is_look_lem, accepted as accepted_lem, command_outcome as command_outcome_lem, refusal_of_line as refusal_of_line_lem, read_outcome as read_outcome_lem, absent_outcome as absent_outcome_lem, present_outcome as present_outcome_lem, seat_of as seat_of_lem, count_if_joined as count_if_joined_lem};
-ghost use Rattle.campaign_core.specs.World.{asked_of, steps_of as steps_of_lem, outcome_of};
-ghost use Rattle.campaign_core.specs.State.{world_in};
+ghost use Rattle.player_view.specs.Asked.{Asked};
+ghost use Rattle.command_json.specs.Commands.{command_of};
+ghost use Rattle.campaign_law.specs.Outcome.{nothing as nothing_lem, refused_direct as refused_direct_lem, refused_line as refused_line_lem, refusal_of_join as refusal_of_join_lem, join_outcome as join_outcome_lem, book_done as book_done_lem, reply_line as reply_line_lem, messages_by as messages_by_lem, is_look as is_look_lem, accepted as accepted_lem, command_outcome as command_outcome_lem, refusal_of_line as refusal_of_line_lem, read_outcome as read_outcome_lem, absent_outcome as absent_outcome_lem, present_outcome as present_outcome_lem, seat_of as seat_of_lem, count_if_joined as count_if_joined_lem};
+ghost use Rattle.campaign_law.specs.World.{asked_of, steps_of as steps_of_lem, outcome_of};
+ghost use Rattle.campaign_law.specs.State.{world_in};
 
-use crate::command::{Command, LineFault, Refusal};
-use crate::entry::Entry;
-use crate::read::read_line;
+use crate::effects::steps_by;
+use crate::rules::rule_of;
 use crate::state::State;
-use crate::texts::{hello_line, message_line, ok_line, refusal_line};
+use crate::texts::{hello_line, message_line, moved_line, ok_line, refusal_line};
+use campaign_law::{Entry, Refusal};
+use command_json::{Command, LineFault, read_line};
 use names::{LineText, Memory, SeatNo};
 use seats::{JoinRefusal, SeatBook};
 use std::alloc::Global;
@@ -38,8 +39,8 @@ pub(crate) struct Outcome {
 }
 
 impl Model for Outcome {
-    ghost use Rattle.campaign_core.specs.Outcome.{Outcome};
-    ghost use Rattle.campaign_core.specs.World.{some_to_list};
+    ghost use Rattle.campaign_law.specs.Outcome.{Outcome};
+    ghost use Rattle.campaign_law.specs.World.{some_to_list};
 
     ghost Value = { Outcome };
 
@@ -108,7 +109,7 @@ fn count_if_joined(book: &SeatBook) -> u32
     }
 }
 
-#[tactic(auto, unfolding(crate::specs::World::asked_of))]
+#[tactic(auto, unfolding(player_view::specs::Asked::asked_of))]
 fn join_outcome(
     alloc: Global,
     state: &State,
@@ -135,18 +136,6 @@ fn join_outcome(
 
 // ---- commands of a Joined seat
 
-/// The first broken rule.
-#[tactic(auto, unfolding(crate::specs::Outcome::rule_of))]
-fn rule_of(state: &State, seat: SeatNo, command: &Command) -> Option<Refusal>
-    ensures { result ≡ rule_of_lem (asked_of (world_in state.now) seat) seat command.now }
-{
-    match command {
-        Command::Hello { .. } => Some(Refusal::SeatTaken),
-        Command::Bye => None,
-        Command::Say { .. } => None,
-    }
-}
-
 /// What an accepted command does to the book, the line being counted.
 fn change_book(command: &Command, book: &mut SeatBook)
     ensures { book.new ≡ book_done_lem command.now book.old }
@@ -154,7 +143,9 @@ fn change_book(command: &Command, book: &mut SeatBook)
     match command {
         Command::Hello { .. } => {}
         Command::Bye => book.leave(),
+        Command::Look => {}
         Command::Say { .. } => {}
+        Command::Move { .. } => {}
     }
 }
 
@@ -164,7 +155,9 @@ fn reply_line(alloc: Global, steps: u32, n: u32, command: &Command) -> Result<Li
     match command {
         Command::Hello { .. } => ok_line(alloc, n, "hello"),
         Command::Bye => ok_line(alloc, n, "bye"),
+        Command::Look => ok_line(alloc, n, "look"),
         Command::Say { .. } => ok_line(alloc, n, "say"),
+        Command::Move { .. } => moved_line(alloc, n, steps),
     }
 }
 
@@ -188,7 +181,9 @@ fn is_look(command: &Command) -> bool
     match command {
         Command::Hello { .. } => false,
         Command::Bye => false,
+        Command::Look => true,
         Command::Say { .. } => false,
+        Command::Move { .. } => false,
     }
 }
 
@@ -218,7 +213,7 @@ fn command_outcome(
     requires { book.now.lines < 16384 }
     ensures { IfOk result (λ o. o ≡ command_outcome_lem (asked_of (world_in state.now) book.now.seat) steps book.now command) }
 {
-    match rule_of(state, book.seat(), &command) {
+    match rule_of(state.scene(), book.seat(), &command) {
         Some(refusal) => refused_line(alloc, book, refusal),
         None => accepted(alloc, steps, book, command),
     }
@@ -235,6 +230,7 @@ fn refusal_of_line(fault: LineFault) -> Option<Refusal>
     match fault {
         LineFault::BadJson => Some(Refusal::BadJson),
         LineFault::BadCommand => Some(Refusal::BadCommand),
+        LineFault::GmOnly => Some(Refusal::GmOnly),
         LineFault::BadField { name } => Some(Refusal::BadField { name }),
         LineFault::Memory => None,
     }
@@ -271,7 +267,7 @@ fn absent_outcome(alloc: Global, entry: &Entry) -> Result<Outcome, Memory>
     }
 }
 
-#[tactic(auto, unfolding(crate::specs::World::asked_of))]
+#[tactic(auto, unfolding(player_view::specs::Asked::asked_of))]
 fn present_outcome(
     alloc: Global,
     state: &State,
@@ -304,27 +300,52 @@ fn present_outcome(
     }
 }
 
-/// The steps of an accepted move, else 0. No command moves a token yet.
-#[tactic(auto, unfolding(crate::specs::World::steps_by))]
-pub(crate) fn steps_of(_state: &State, _entry: &Entry) -> u32
-    ensures { result ≡ steps_of_lem (world_in _state.now) _entry.now }
-{
-    0
-}
-
-/// What the entry does to its own seat.
-pub(crate) fn decide(
+/// What the entry does to its own seat, where an accepted move takes so many steps.
+fn outcome_with(
     alloc: Global,
     state: &State,
     steps: u32,
     entry: &Entry,
 ) -> Result<Outcome, Memory>
-    requires { steps ≡ steps_of_lem (world_in state.now) entry.now }
-    ensures { IfOk result (λ o. o ≡ outcome_of (world_in state.now) entry.now) }
+    ensures { IfOk result (λ o. o ≡ outcome_at (asked_of (world_in state.now) (seat_of_lem entry.now)) steps (seat_at (world_in state.now) (seat_of_lem entry.now)) entry.now) }
 {
     match state.post(seat_of(entry)) {
         Some(post) => present_outcome(alloc, state, steps, &post.book, entry),
         None => absent_outcome(alloc, entry),
+    }
+}
+
+fn done_steps(alloc: Global, state: &State, entry: &Entry, outcome: &Outcome) -> Result<u32, Memory>
+    requires { outcome.now ≡ outcome_at (asked_of (world_in state.now) (seat_of_lem entry.now)) 0 (seat_at (world_in state.now) (seat_of_lem entry.now)) entry.now }
+    ensures { IfOk result (λ steps. steps ≡ steps_of_lem (world_in state.now) entry.now) }
+{
+    match &outcome.done {
+        Some(command) => steps_by(alloc, state.scene(), own_seat(entry), command),
+        None => Ok(0),
+    }
+}
+
+/// What the entry does to its own seat, and the steps of an accepted move, else 0.
+pub(crate) fn decide(alloc: Global, state: &State, entry: &Entry) -> Result<(u32, Outcome), Memory>
+    ensures steps { IfOk result (λ d. d.0 ≡ steps_of_lem (world_in state.now) entry.now) }
+    ensures outcome { IfOk result (λ d. d.1 ≡ outcome_of (world_in state.now) entry.now) }
+{
+    let outcome = outcome_with(alloc, state, 0, entry)?;
+    let steps = done_steps(alloc, state, entry, &outcome)?;
+    if steps == 0 {
+        return Ok((steps, outcome));
+    }
+    Ok((steps, outcome_with(alloc, state, steps, entry)?))
+}
+
+/// The seat that acts.
+fn own_seat(entry: &Entry) -> SeatNo
+    ensures { result ≡ seat_of_lem entry.now }
+{
+    match entry {
+        Entry::Join { seat, .. } => *seat,
+        Entry::Line { seat, .. } => *seat,
+        Entry::Taken { seat, .. } => *seat,
     }
 }
 

@@ -1,10 +1,9 @@
 //! The lines that are sent.
 ghost use Rattle.std.specs.Prelude.{◌≡◌, codes, IfOk};
 ghost use Rattle.serde_json.specs.View.{view};
-ghost use Rattle.campaign_core.specs.Texts.{hello_tree, hello_line as hello_text, ok_tree, ok_line as ok_text, refusal_number, refusal_name, refusal_tree, refusal_line as refusal_text, message_tree, message_line as message_text};
-ghost use Rattle.campaign_core.specs.Views.{full_tree, full_line as full_text, no_view};
+ghost use Rattle.campaign_law.specs.Texts.{hello_tree, hello_line as hello_text, ok_tree, ok_line as ok_text, moved_tree, moved_line as moved_text, refusal_number, refusal_name, refusal_tree, refusal_line as refusal_text, message_tree, message_line as message_text};
 
-use crate::command::Refusal;
+use campaign_law::Refusal;
 use json_fields::compact_line;
 use names::{LineText, Memory, SeatNo};
 use serde_json::{Value, json};
@@ -17,7 +16,7 @@ fn hello_value(alloc: Global, n: u32, seat: u8, seats: u8) -> Result<Value, Allo
 }
 
 /// The reply to an accepted hello.
-#[tactic(auto, unfolding(crate::specs::Texts::hello_line))]
+#[tactic(auto, unfolding(campaign_law::specs::Texts::hello_line))]
 pub(crate) fn hello_line(alloc: Global, n: u32, seat: SeatNo, seats: u8) -> Result<LineText, Memory>
     ensures { IfOk result (λ t. t ≡ hello_text n seat seats) }
 {
@@ -34,11 +33,28 @@ fn ok_value(alloc: Global, n: u32, name: &str) -> Result<Value, AllocError>
 }
 
 /// The reply to an accepted command of that name.
-#[tactic(auto, unfolding(crate::specs::Texts::ok_line))]
+#[tactic(auto, unfolding(campaign_law::specs::Texts::ok_line))]
 pub(crate) fn ok_line(alloc: Global, n: u32, name: &str) -> Result<LineText, Memory>
     ensures { IfOk result (λ t. t ≡ ok_text n name.now) }
 {
     match ok_value(alloc, n, name) {
+        Ok(value) => compact_line(alloc, &value),
+        Err(_) => Err(Memory),
+    }
+}
+
+fn moved_value(alloc: Global, n: u32, steps: u32) -> Result<Value, AllocError>
+    ensures { IfOk result (λ v. view v ≡ moved_tree n steps) }
+{
+    json!(in alloc; {"moved": steps, "n": n, "ok": "move"})
+}
+
+/// The reply to an accepted move, with the steps that were taken.
+#[tactic(auto, unfolding(campaign_law::specs::Texts::moved_line))]
+pub(crate) fn moved_line(alloc: Global, n: u32, steps: u32) -> Result<LineText, Memory>
+    ensures { IfOk result (λ t. t ≡ moved_text n steps) }
+{
+    match moved_value(alloc, n, steps) {
         Ok(value) => compact_line(alloc, &value),
         Err(_) => Err(Memory),
     }
@@ -50,11 +66,16 @@ fn number(refusal: &Refusal) -> u8
     match refusal {
         Refusal::BadJson => 1,
         Refusal::BadCommand => 2,
+        Refusal::GmOnly => 3,
         Refusal::BadField { .. } => 4,
+        Refusal::NotYours => 5,
+        Refusal::OffMap => 8,
+        Refusal::BadPath => 9,
         Refusal::BadKey => 24,
         Refusal::SeatTaken => 25,
         Refusal::Spent => 26,
         Refusal::NoHello => 27,
+        Refusal::NoSuchToken => 42,
     }
 }
 
@@ -64,11 +85,16 @@ fn name(refusal: &Refusal) -> &'static str
     match refusal {
         Refusal::BadJson => "BadJson",
         Refusal::BadCommand => "BadCommand",
+        Refusal::GmOnly => "GmOnly",
         Refusal::BadField { .. } => "BadField",
+        Refusal::NotYours => "NotYours",
+        Refusal::OffMap => "OffMap",
+        Refusal::BadPath => "BadPath",
         Refusal::BadKey => "BadKey",
         Refusal::SeatTaken => "SeatTaken",
         Refusal::Spent => "Spent",
         Refusal::NoHello => "NoHello",
+        Refusal::NoSuchToken => "NoSuchToken",
     }
 }
 
@@ -82,7 +108,7 @@ fn refusal_value(alloc: Global, n: u32, refusal: &Refusal) -> Result<Value, Allo
 }
 
 /// The reply to a refused entry.
-#[tactic(auto, unfolding(crate::specs::Texts::refusal_line))]
+#[tactic(auto, unfolding(campaign_law::specs::Texts::refusal_line))]
 pub(crate) fn refusal_line(alloc: Global, n: u32, refusal: &Refusal) -> Result<LineText, Memory>
     ensures { IfOk result (λ t. t ≡ refusal_text n refusal.now) }
 {
@@ -99,28 +125,11 @@ fn message_value(alloc: Global, from: u8, text: &str) -> Result<Value, AllocErro
 }
 
 /// A message to every seat.
-#[tactic(auto, unfolding(crate::specs::Texts::message_line))]
+#[tactic(auto, unfolding(campaign_law::specs::Texts::message_line))]
 pub(crate) fn message_line(alloc: Global, from: SeatNo, text: &str) -> Result<LineText, Memory>
     ensures { IfOk result (λ t. t ≡ message_text from text.now) }
 {
     match message_value(alloc, from.number(), text) {
-        Ok(value) => compact_line(alloc, &value),
-        Err(_) => Err(Memory),
-    }
-}
-
-fn full_value(alloc: Global) -> Result<Value, AllocError>
-    ensures { IfOk result (λ v. view v ≡ full_tree) }
-{
-    json!(in alloc; {"full": {"lights": {}, "maps": [], "sights": {}, "tokens": []}})
-}
-
-/// The line that shows a whole view.
-#[tactic(auto, unfolding(crate::specs::Views::full_line))]
-pub(crate) fn full_line(alloc: Global) -> Result<LineText, Memory>
-    ensures { IfOk result (λ t. t ≡ full_text no_view) }
-{
-    match full_value(alloc) {
         Ok(value) => compact_line(alloc, &value),
         Err(_) => Err(Memory),
     }

@@ -1,7 +1,7 @@
 -- Lists that are mapped with their places.
 use Rattle.std.proofs.Common.{◌≡◌, ℕ, zero, suc, ◌+◌, ◌<◌, get_or, List, [], ◌∷◌, ◌++◌, length, map, drop, Some, refl, sym, ◌∙◌, ap, subst, arith, add-zero}
 use Rattle.std.specs.Prelude.{slice_get, option_map}
-use Rattle.campaign_core.specs.World.{mapped_from}
+use Rattle.campaign_law.specs.World.{mapped_from}
 
 pub ap₂ : {A B C : Type 0} (f : A → B → C) {x y : A} {u v : B} → x ≡ y → u ≡ v → f x u ≡ f y v
 ap₂ f p q = λ i. f (p i) (q i)

@@ -1,26 +1,32 @@
 -- No line that is sent holds an LF.
 use Rattle.std.proofs.Common.{ℕ, Bool, true, false, cond, ◌&&◌, eqb, List, [], ◌∷◌, ◌++◌, Some, None}
-use Rattle.std.specs.Prelude.{Option, Result, Ok, Err}
+use Rattle.std.specs.Prelude.{Option, option_map, Result, Ok, Err}
 use Rattle.std.specs.List.{AllByRecursion}
 use Rattle.seats.specs.Book.{Book, join_refusal}
 use Rattle.seats.specs.SeatState.{is_joined}
 use Rattle.seats.specs.declared.seat_state.JoinRefusal.{JoinRefusal}
 use Rattle.json_fields.specs.Lines.{IsOneLine}
 use Rattle.json_fields.proofs.OneLine.{IsOneLine-compact_text}
-use Rattle.campaign_core.specs.declared.entry.Entry.{Entry}
-use Rattle.campaign_core.specs.declared.entry.Entry.TheVariants.{Join, Line, Taken}
-use Rattle.campaign_core.specs.declared.command.Command.{Command}
-use Rattle.campaign_core.specs.declared.command.Command.TheVariants.{Hello, Bye, Say}
-use Rattle.campaign_core.specs.declared.command.LineFault.{LineFault}
-use Rattle.campaign_core.specs.declared.command.Refusal.{Refusal}
-use Rattle.campaign_core.specs.declared.command.Refusal.TheVariants.{NoHello, BadKey}
-use Rattle.campaign_core.specs.Asked.{Asked}
-use Rattle.campaign_core.specs.Commands.{command_of}
-use Rattle.campaign_core.specs.Texts.{hello_line, hello_tree, ok_line, ok_tree, refusal_line, refusal_tree, message_line, message_tree}
-use Rattle.campaign_core.specs.Views.{View, full_line, full_tree, change_line, view_of}
-use Rattle.campaign_core.specs.Seat.{Seat}
-use Rattle.campaign_core.specs.Outcome.{Outcome, refused_direct, refused_line, refusal_of_join, count_if_joined, join_outcome, reply_line, messages_by, decided, rule_of, read_outcome, outcome_at, seat_of}
-use Rattle.campaign_core.specs.World.{World, addressed, view_lines, some_to_list, entry_lines, is_present, lines_of, step, scene_after, outcome_of, steps_of, asked_of, seat_at, sent}
+use Rattle.campaign_law.specs.declared.entry.Entry.{Entry}
+use Rattle.campaign_law.specs.declared.entry.Entry.TheVariants.{Join, Line, Taken}
+use Rattle.command_json.specs.declared.command.Command.{Command}
+use Rattle.command_json.specs.declared.command.Command.TheVariants.{Hello, Bye, Look, Say, Move}
+use Rattle.command_json.specs.declared.command.LineFault.{LineFault}
+use Rattle.campaign_law.specs.declared.refusal.Refusal.{Refusal}
+use Rattle.campaign_law.specs.declared.refusal.Refusal.TheVariants.{NoHello, BadKey}
+use Rattle.player_view.specs.Asked.{Asked}
+use Rattle.command_json.specs.Commands.{command_of}
+use Rattle.campaign_law.specs.Texts.{hello_line, hello_tree, ok_line, ok_tree, moved_line, moved_tree, refusal_line, refusal_tree, message_line, message_tree}
+use Rattle.view_change.specs.declared.view.View.{View}
+use Rattle.view_change.specs.Change.{change_of}
+use Rattle.view_change.specs.declared.change.Change.{Change}
+use Rattle.view_change.specs.Lines.{full_line, full_tree, change_tree, change_line as line_of}
+use Rattle.player_view.specs.View.{view_of}
+use Rattle.campaign_law.specs.Views.{change_line}
+use Rattle.campaign_law.specs.Rules.{rule_of}
+use Rattle.campaign_law.specs.Seat.{Seat}
+use Rattle.campaign_law.specs.Outcome.{Outcome, refused_direct, refused_line, refusal_of_join, count_if_joined, join_outcome, reply_line, messages_by, decided, read_outcome, outcome_at, seat_of}
+use Rattle.campaign_law.specs.World.{World, addressed, view_lines, some_to_list, entry_lines, is_present, lines_of, step, scene_after, outcome_of, steps_of, asked_of, seat_at, sent}
 
 abbrev pub AreOneLine : List (List ℕ) → Type 0
 AreOneLine lines = AllByRecursion IsOneLine lines
@@ -39,6 +45,10 @@ ok_one : (n : ℕ) (name : List ℕ) → IsOneLine (ok_line n name)
 unfolding ok_line
 ok_one n name = IsOneLine-compact_text (ok_tree n name)
 
+moved_one : (n steps : ℕ) → IsOneLine (moved_line n steps)
+unfolding moved_line
+moved_one n steps = IsOneLine-compact_text (moved_tree n steps)
+
 refusal_one : (n : ℕ) (r : Refusal) → IsOneLine (refusal_line n r)
 unfolding refusal_line
 refusal_one n r = IsOneLine-compact_text (refusal_tree n r)
@@ -49,11 +59,19 @@ message_one from text = IsOneLine-compact_text (message_tree from text)
 
 full_one : (v : View) → IsOneLine (full_line v)
 unfolding full_line
-full_one v = IsOneLine-compact_text full_tree
+full_one v = IsOneLine-compact_text (full_tree v)
+
+line_of_one : (c : Change) → IsOneLine (line_of c)
+unfolding line_of
+line_of_one c = IsOneLine-compact_text (change_tree c)
+
+changed_one : (c : Option Change) → AreOneLine (some_to_list (option_map line_of c))
+changed_one None = tt
+changed_one (Some c) = (line_of_one c, tt)
 
 change_one : (v v' : View) → AreOneLine (some_to_list (change_line v v'))
 unfolding change_line
-change_one v v' = tt
+change_one v v' = changed_one (change_of v v')
 
 view_one : (full : Bool) (v v' : View) → AreOneLine (view_lines full v v')
 view_one true v v' = (full_one v', tt)
@@ -83,12 +101,16 @@ join_one asked b reader writer None = record { reply = (hello_one _ b.seat asked
 reply_one : (steps n : ℕ) (c : Command) → IsOneLine (reply_line steps n c)
 reply_one steps n (Hello named key) = ok_one n _
 reply_one steps n Bye = ok_one n _
+reply_one steps n Look = ok_one n _
 reply_one steps n (Say text) = ok_one n _
+reply_one steps n (Move token path) = moved_one n steps
 
 messages_one : (seat : ℕ) (c : Command) → AreOneLine (messages_by seat c)
 messages_one seat (Hello named key) = tt
 messages_one seat Bye = tt
+messages_one seat Look = tt
 messages_one seat (Say text) = (message_one seat text, tt)
+messages_one seat (Move token path) = tt
 
 decided_one : (steps : ℕ) (b : Book) (c : Command) (r : Option Refusal) → SendsOneLine (decided steps b c r)
 decided_one steps b c (Some r) = refused_one b r

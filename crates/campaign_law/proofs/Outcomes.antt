@@ -4,18 +4,19 @@ use Rattle.std.specs.Prelude.{option_map, Option, unwrap_or, Result, Ok, Err}
 use Rattle.seats.specs.declared.seat_state.JoinRefusal.{JoinRefusal}
 use Rattle.seats.specs.Book.{Book, counted, blank_book, join_refusal}
 use Rattle.seats.specs.SeatState.{is_joined}
-use Rattle.campaign_core.specs.declared.entry.Entry.{Entry}
-use Rattle.campaign_core.specs.declared.entry.Entry.TheVariants.{Join, Line, Taken}
-use Rattle.campaign_core.specs.declared.command.Command.{Command}
-use Rattle.campaign_core.specs.declared.command.Command.TheVariants.{Hello, Bye, Say}
-use Rattle.campaign_core.specs.declared.command.LineFault.{LineFault}
-use Rattle.campaign_core.specs.declared.command.Refusal.{Refusal}
-use Rattle.campaign_core.specs.declared.command.Refusal.TheVariants.{NoHello}
-use Rattle.campaign_core.specs.Asked.{Asked}
-use Rattle.campaign_core.specs.Commands.{command_of}
-use Rattle.campaign_core.specs.Seat.{Seat, blank_seat, was_joined}
-use Rattle.campaign_core.specs.Outcome.{Outcome, nothing, outcome_at, join_outcome, read_outcome, rule_of, book_done, accepted, decided, refused_direct, refused_line, refusal_of_join, blank_entry, seat_of}
-use Rattle.campaign_core.specs.World.{changed, is_present, queued_reply}
+use Rattle.campaign_law.specs.declared.entry.Entry.{Entry}
+use Rattle.campaign_law.specs.declared.entry.Entry.TheVariants.{Join, Line, Taken}
+use Rattle.command_json.specs.declared.command.Command.{Command}
+use Rattle.command_json.specs.declared.command.Command.TheVariants.{Hello, Bye, Look, Say, Move}
+use Rattle.command_json.specs.declared.command.LineFault.{LineFault}
+use Rattle.campaign_law.specs.declared.refusal.Refusal.{Refusal}
+use Rattle.campaign_law.specs.declared.refusal.Refusal.TheVariants.{NoHello}
+use Rattle.player_view.specs.Asked.{Asked}
+use Rattle.command_json.specs.Commands.{command_of}
+use Rattle.campaign_law.specs.Seat.{Seat, blank_seat, was_joined}
+use Rattle.campaign_law.specs.Outcome.{Outcome, nothing, outcome_at, join_outcome, read_outcome, book_done, accepted, decided, refused_direct, refused_line, refusal_of_join, blank_entry, seat_of}
+use Rattle.campaign_law.specs.Rules.{rule_of}
+use Rattle.campaign_law.specs.World.{changed, is_present, queued_reply}
 use Rattle.seats.proofs.Books.{is_joined-blank, counted-blank, joined-blank, left-blank, join_refusal-blank}
 
 -- ---- decides alike: each part, without pass numbers
@@ -34,7 +35,9 @@ refused_line-blank b r = ap (λ c. record (refused_line b r) { book = Some c }) 
 book_done-blank : (c : Command) (b : Book) → book_done c (blank_book b) ≡ blank_book (book_done c b)
 book_done-blank (Hello named key) b = refl
 book_done-blank Bye b = left-blank b
+book_done-blank Look b = refl
 book_done-blank (Say text) b = refl
+book_done-blank (Move token path) b = refl
 
 accepted-blank : (steps : ℕ) (b : Book) (c : Command) → accepted steps (blank_book b) c ≡ blank_outcome (accepted steps b c)
 accepted-blank steps b c = ap (λ x. record (accepted steps b c) { book = Some x }) (ap (book_done c) (counted-blank b) ∙ book_done-blank c (counted b))

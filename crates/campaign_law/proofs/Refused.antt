@@ -5,22 +5,28 @@ use Rattle.std.proofs.lemmas.Bool.Decides.{nat_tests}
 use Rattle.seats.specs.Book.{join_refusal, counted}
 use Rattle.seats.specs.SeatState.{is_joined}
 use Rattle.seats.specs.declared.seat_state.JoinRefusal.{JoinRefusal}
-use Rattle.campaign_core.specs.declared.entry.Entry.{Entry}
-use Rattle.campaign_core.specs.declared.entry.Entry.TheVariants.{Join, Line, Taken}
-use Rattle.campaign_core.specs.declared.command.Command.{Command}
-use Rattle.campaign_core.specs.declared.command.LineFault.{LineFault}
-use Rattle.campaign_core.specs.declared.command.Refusal.{Refusal}
-use Rattle.campaign_core.specs.declared.command.Refusal.TheVariants.{NoHello, BadKey}
-use Rattle.campaign_core.specs.Asked.{Asked}
-use Rattle.campaign_core.specs.Commands.{command_of}
-use Rattle.campaign_core.specs.Views.{View, Scene, view_of, change_line}
-use Rattle.campaign_core.specs.Seat.{Seat, settled, taken_to}
-use Rattle.campaign_core.specs.Outcome.{Outcome, refused_direct, refused_line, refusal_of_join, count_if_joined, join_outcome, decided, rule_of, read_outcome, outcome_at, seat_of}
-use Rattle.campaign_core.specs.World.{World, seat_at, addressed, view_lines, queued_lines, queued_reply, is_present, changed, seat_by, seat_after, replay, scene_after, outcome_of, steps_of, asked_of}
-use Rattle.campaign_core.specs.Session.{session}
-use Rattle.campaign_core.specs.Law.{IsOpening, refused_seat, RefusedChangesLittle}
-use Rattle.campaign_core.proofs.Seats.{IsSound}
-use Rattle.campaign_core.proofs.Sessions.{IsKept, seat_at-after, kept_at}
+use Rattle.campaign_law.specs.declared.entry.Entry.{Entry}
+use Rattle.campaign_law.specs.declared.entry.Entry.TheVariants.{Join, Line, Taken}
+use Rattle.command_json.specs.declared.command.Command.{Command}
+use Rattle.command_json.specs.declared.command.LineFault.{LineFault}
+use Rattle.campaign_law.specs.declared.refusal.Refusal.{Refusal}
+use Rattle.campaign_law.specs.declared.refusal.Refusal.TheVariants.{NoHello, BadKey}
+use Rattle.view_change.specs.declared.view.View.{View}
+use Rattle.player_view.specs.View.{view_of}
+use Rattle.player_view.specs.Asked.{Asked}
+use Rattle.command_json.specs.Commands.{command_of}
+use Rattle.world.specs.Scene.{Scene}
+use Rattle.campaign_law.specs.Rules.{rule_of}
+use Rattle.campaign_law.specs.Settle.{IsSettled}
+use Rattle.campaign_law.specs.Seat.{Seat, settled, taken_to}
+use Rattle.campaign_law.specs.Outcome.{Outcome, refused_direct, refused_line, refusal_of_join, count_if_joined, join_outcome, decided, read_outcome, outcome_at, seat_of}
+use Rattle.campaign_law.specs.World.{World, seat_at, addressed, view_lines, some_to_list, queued_lines, queued_reply, is_present, changed, seat_by, seat_after, replay, scene_after, outcome_of, steps_of, asked_of}
+use Rattle.campaign_law.specs.Session.{session}
+use Rattle.campaign_law.specs.Law.{IsOpening, refused_seat, RefusedChangesLittle}
+use Rattle.campaign_law.proofs.Seats.{IsSound}
+use Rattle.campaign_law.proofs.Sessions.{IsKept, seat_at-after, kept_at}
+use Rattle.campaign_law.proofs.Views.{same_no_change}
+use Rattle.campaign_law.proofs.Settled.{scene_stays, replay_settled}
 
 -- ---- a refusal has one of two forms
 
@@ -56,13 +62,9 @@ refuses asked steps (Some s) (Taken seat count) h = cc
 
 -- no messages, and no line on the view, which stays
 quiet : (seat : ℕ) (scene : Scene) (q : ℕ) (present : Bool) → cond present (addressed seat [] ++ view_lines false (view_of scene q) (view_of scene q)) [] ≡ []
-unfolding addressed change_line
-quiet seat scene q true = refl
+unfolding addressed
+quiet seat scene q true = ap some_to_list (same_no_change (view_of scene q))
 quiet seat scene q false = refl
-
-scene_stays : (w : World) (e : Entry) → scene_after w e ≡ w.scene
-unfolding scene_after
-scene_stays w e = refl
 
 taken_stays : (s : Seat) → taken_to 0 s.queued s.taken ≡ s.taken
 taken_stays s = omega arith
@@ -106,27 +108,31 @@ line_counts seat s r scene =
 eqb-same : (n : ℕ) → eqb n n ≡ true
 eqb-same n = grind (arith, nat_tests)
 
+not_done : (before : Option Seat) (o : Outcome) → Refuses before o → o.done ≡ None
+not_done before o (directly n r is) = ap (λ (x : Outcome). x.done) is
+not_done before o (the_line s r b is) = ap (λ (x : Outcome). x.done) is
+
 quiet_refusal : (before : Option Seat) (o : Outcome) → Refuses before o → (o.messages ≡ []) × (o.full ≡ false)
 quiet_refusal before o (directly n r is) = (ap (λ (x : Outcome). x.messages) is, ap (λ (x : Outcome). x.full) is)
 quiet_refusal before o (the_line s r b is) = (ap (λ (x : Outcome). x.messages) is, ap (λ (x : Outcome). x.full) is)
 
-after_at : (w : World) (e : Entry) (p : ℕ) (acts : Bool) (s : Seat) → eqb (seat_of e) p ≡ acts → seat_after w e p s ≡ after_quiet p acts (outcome_of w e) (view_of w.scene p) s
-after_at w e p acts s is = ap (λ v. seat_by p (eqb (seat_of e) p) (outcome_of w e) (view_of w.scene p) (view_of v p) s) (scene_stays w e) ∙ ap (λ a. after_quiet p a (outcome_of w e) (view_of w.scene p) s) is
+after_at : (w : World) (e : Entry) (p : ℕ) (acts : Bool) (s : Seat) → scene_after w e ≡ w.scene → eqb (seat_of e) p ≡ acts → seat_after w e p s ≡ after_quiet p acts (outcome_of w e) (view_of w.scene p) s
+after_at w e p acts s stays is = ap (λ v. seat_by p (eqb (seat_of e) p) (outcome_of w e) (view_of w.scene p) (view_of v p) s) stays ∙ ap (λ a. after_quiet p a (outcome_of w e) (view_of w.scene p) s) is
 
-other_at : (w : World) (e : Entry) (p : ℕ) (o : Option Seat) → IfSome o IsSound → eqb (seat_of e) p ≡ false → ((outcome_of w e).messages ≡ []) × ((outcome_of w e).full ≡ false) → option_map (seat_after w e p) o ≡ o
-other_at w e p None sound is q = refl
-other_at w e p (Some s) sound is q = ap Some (after_at w e p false s is ∙ other_stays p s (outcome_of w e) w.scene sound q.0 q.1)
+other_at : (w : World) (e : Entry) (p : ℕ) (o : Option Seat) → scene_after w e ≡ w.scene → IfSome o IsSound → eqb (seat_of e) p ≡ false → ((outcome_of w e).messages ≡ []) × ((outcome_of w e).full ≡ false) → option_map (seat_after w e p) o ≡ o
+other_at w e p None stays sound is q = refl
+other_at w e p (Some s) stays sound is q = ap Some (after_at w e p false s stays is ∙ other_stays p s (outcome_of w e) w.scene sound q.0 q.1)
 
-own_at : (w : World) (e : Entry) (o : Option Seat) → seat_at w (seat_of e) ≡ o → IfSome o IsSound → Refuses o (outcome_of w e) → option_map (seat_after w e (seat_of e)) o ≡ option_map (refused_seat (outcome_of w e).direct) o
-own_at w e None at sound r = refl
-own_at w e (Some s) at sound (directly n r is) =
-    ap Some (after_at w e (seat_of e) true s (eqb-same (seat_of e))
+own_at : (w : World) (e : Entry) (o : Option Seat) → scene_after w e ≡ w.scene → seat_at w (seat_of e) ≡ o → IfSome o IsSound → Refuses o (outcome_of w e) → option_map (seat_after w e (seat_of e)) o ≡ option_map (refused_seat (outcome_of w e).direct) o
+own_at w e None stays at sound r = refl
+own_at w e (Some s) stays at sound (directly n r is) =
+    ap Some (after_at w e (seat_of e) true s stays (eqb-same (seat_of e))
     ∙ ap (λ x. after_quiet (seat_of e) true x (view_of w.scene (seat_of e)) s) is
     ∙ direct_stays (seat_of e) s n r w.scene sound
     ∙ sym (ap (λ (x : Outcome). refused_seat x.direct s) is))
-own_at w e (Some s) at sound (the_line t r there is) =
+own_at w e (Some s) stays at sound (the_line t r there is) =
     let same : s ≡ t = cc in
-    ap Some (after_at w e (seat_of e) true s (eqb-same (seat_of e))
+    ap Some (after_at w e (seat_of e) true s stays (eqb-same (seat_of e))
     ∙ ap (λ x. after_quiet (seat_of e) true x (view_of w.scene (seat_of e)) s) (is ∙ ap (λ (x : Seat). refused_line x.book r) (sym same))
     ∙ line_counts (seat_of e) s r w.scene
     ∙ sym (ap (λ (x : Outcome). refused_seat x.direct s) is))
@@ -142,8 +148,9 @@ pub refused_changes_little : RefusedChangesLittle
 refused_changes_little w h e fresh is =
     let now : World = replay w h in
     let r = refuses (asked_of now (seat_of e)) (steps_of now e) (seat_at now (seat_of e)) e is in
+    let stays : scene_after now e ≡ now.scene = scene_stays now e (replay_settled w h fresh.scene) (not_done (seat_at now (seat_of e)) (outcome_of now e) r) in
     record {
-      scene = scene_stays now e;
-      others = λ p other. seat_at-after now e p ∙ other_at now e p (seat_at now p) (sound_at w h p fresh) other (quiet_refusal (seat_at now (seat_of e)) (outcome_of now e) r);
-      own = seat_at-after now e (seat_of e) ∙ own_at now e (seat_at now (seat_of e)) refl (sound_at w h (seat_of e) fresh) r;
+      scene = stays;
+      others = λ p other. seat_at-after now e p ∙ other_at now e p (seat_at now p) stays (sound_at w h p fresh) other (quiet_refusal (seat_at now (seat_of e)) (outcome_of now e) r);
+      own = seat_at-after now e (seat_of e) ∙ own_at now e (seat_at now (seat_of e)) stays refl (sound_at w h (seat_of e) fresh) r;
     }

@@ -2,13 +2,15 @@
 use Rattle.std.proofs.Common.{◌≡◌, ℕ, ◌+◌, Bool, true, false, cond, List, [], ◌∷◌, ◌++◌, map, length, Some, None, refl, sym, ◌∙◌, ap, append_assoc, arith}
 use Rattle.std.specs.Prelude.{is_some, option_map, Option, IfSome}
 use Rattle.seats.specs.SeatState.{is_joined}
-use Rattle.campaign_core.specs.Views.{View, full_line, change_line}
-use Rattle.campaign_core.specs.Seat.{Seat, settled}
-use Rattle.campaign_core.specs.World.{view_lines, some_to_list}
-use Rattle.campaign_core.specs.Player.{Item, message, view, Machine, printed, after, run, view_items}
-use Rattle.campaign_core.proofs.Lists.{ap₂, ap₃}
-use Rattle.campaign_core.proofs.Seats.{settled-settled, joined_stays, joined_still}
-use Rattle.campaign_core.proofs.Views.{no_change}
+use Rattle.view_change.specs.declared.view.View.{View}
+use Rattle.view_change.specs.Lines.{full_line}
+use Rattle.campaign_law.specs.Views.{change_line}
+use Rattle.campaign_law.specs.Seat.{Seat, settled}
+use Rattle.campaign_law.specs.World.{view_lines, some_to_list}
+use Rattle.campaign_law.specs.Player.{Item, message, view, Machine, printed, after, run, view_items}
+use Rattle.campaign_law.proofs.Lists.{ap₂, ap₃}
+use Rattle.campaign_law.proofs.Seats.{settled-settled, joined_stays, joined_still}
+use Rattle.campaign_law.proofs.Views.{no_change}
 
 abbrev pub after_all : Machine → List Item → Machine
 after_all m [] = m

@@ -3,7 +3,7 @@ use Rattle.std.proofs.Common.{◌≡◌, ℕ, ◌+◌, ◌<◌, ◌≤◌, Bool,
 use Rattle.std.proofs.lemmas.Bool.Decides.{nat_tests}
 use Rattle.seats.specs.SeatState.{is_free, is_joined, is_closing}
 use Rattle.seats.proofs.Books.{is_free-blank, is_closing-blank, joined_not_closing, joined_not_free}
-use Rattle.campaign_core.specs.Seat.{Seat, blank_seat, freed_seat, is_let_go, let_go, settled}
+use Rattle.campaign_law.specs.Seat.{Seat, blank_seat, freed_seat, is_let_go, let_go, settled}
 
 -- ---- without pass numbers
 

@@ -3,18 +3,18 @@ use Rattle.std.proofs.Common.{◌≡◌, ℕ, ◌+◌, ◌-◌, ◌≤◌, Bool,
 use Rattle.std.specs.Prelude.{Option, option_map, IfSome, slice_get}
 use Rattle.std.proofs.lemmas.List.{drop-append-le, drop-drop}
 use Rattle.seats.specs.SeatState.{is_free}
-use Rattle.campaign_core.specs.declared.entry.Entry.{Entry}
-use Rattle.campaign_core.specs.Views.{view_of}
-use Rattle.campaign_core.specs.Seat.{Seat, IsFreshSeat, freed_seat, is_let_go, settled}
-use Rattle.campaign_core.specs.Outcome.{Outcome, seat_of}
-use Rattle.campaign_core.specs.World.{World, seat_at, outcome_of, scene_after, queued_lines, changed, seat_after, mapped_from, step, replay}
-use Rattle.campaign_core.specs.Session.{queued_of, unless_free, session_after, session_from, session}
-use Rattle.campaign_core.specs.State.{world_in, mail_after, post_after, state_after, post_of, state_of}
-use Rattle.campaign_core.specs.Law.{IsOpening}
-use Rattle.campaign_core.proofs.Lists.{ap₂, slice_get-mapped_from, mapped_from-same, mapped_from-mapped_from, map-mapped_from, mapped_from-itself}
-use Rattle.campaign_core.proofs.Seats.{grown, IsSound, settled-IsSound}
-use Rattle.campaign_core.proofs.Outcomes.{taken_within}
-use Rattle.campaign_core.proofs.Simulation.{fresh_sound, fresh_at}
+use Rattle.campaign_law.specs.declared.entry.Entry.{Entry}
+use Rattle.player_view.specs.View.{view_of}
+use Rattle.campaign_law.specs.Seat.{Seat, IsFreshSeat, freed_seat, is_let_go, settled}
+use Rattle.campaign_law.specs.Outcome.{Outcome, seat_of}
+use Rattle.campaign_law.specs.World.{World, seat_at, outcome_of, scene_after, queued_lines, changed, seat_after, mapped_from, step, replay}
+use Rattle.campaign_law.specs.Session.{queued_of, unless_free, session_after, session_from, session}
+use Rattle.campaign_law.specs.State.{world_in, mail_after, post_after, state_after, post_of, state_of}
+use Rattle.campaign_law.specs.Law.{IsOpening}
+use Rattle.campaign_law.proofs.Lists.{ap₂, slice_get-mapped_from, mapped_from-same, mapped_from-mapped_from, map-mapped_from, mapped_from-itself}
+use Rattle.campaign_law.proofs.Seats.{grown, IsSound, settled-IsSound}
+use Rattle.campaign_law.proofs.Outcomes.{taken_within}
+use Rattle.campaign_law.proofs.Simulation.{fresh_sound, fresh_at}
 
 -- a seat and its session
 pub record IsKept (lines : List (List ℕ)) (s : Seat) : Type 0 where
@@ -103,7 +103,7 @@ fresh_kept None f = tt
 fresh_kept (Some s) f = record { sound = fresh_sound s f; count = sym f.queued }
 
 pub kept_at : (w : World) (h : List Entry) (p : ℕ) → IsOpening w → KeepsAt (replay w h) p (session w h p)
-kept_at w h p fresh = kept_from w h p [] (fresh_kept (seat_at w p) (fresh_at w.seats p fresh))
+kept_at w h p fresh = kept_from w h p [] (fresh_kept (seat_at w p) (fresh_at w.seats p fresh.seats))
 
 pub replay_more : (w : World) (h : List Entry) (e : Entry) → replay w (h ++ e ∷ []) ≡ step (replay w h) e
 replay_more w [] e = refl

@@ -6,18 +6,20 @@ use Rattle.std.proofs.lemmas.Bool.{eqb-true}
 use Rattle.seats.specs.Book.{Book, blank_book}
 use Rattle.seats.specs.SeatState.{is_free, is_joined, is_closing}
 use Rattle.seats.proofs.Books.{is_joined-blank}
-use Rattle.campaign_core.specs.declared.entry.Entry.{Entry}
-use Rattle.campaign_core.specs.Views.{View, view_of, no_view}
-use Rattle.campaign_core.specs.Asked.{Asked}
-use Rattle.campaign_core.specs.Seat.{Seat, IsFreshSeat, fresh_seat, blank_seat, freed_seat, settled, was_joined}
-use Rattle.campaign_core.specs.Outcome.{Outcome, outcome_at, seat_of, blank_entry}
-use Rattle.campaign_core.specs.World.{World, seat_at, asked_of, outcome_of, steps_of, scene_after, is_present, view_lines, messages_to, lines_if_present, entry_lines, queued_reply, queued_lines, changed, lines_of, seat_after, step, sent}
-use Rattle.campaign_core.specs.Player.{Item, message, view_items, items_if_present, entry_items, items_of, trace, Machine, asked_of_view, own_outcome, own_messages, after_own, run, opening, started}
-use Rattle.campaign_core.specs.Law.{IsOpening, SentIsMachine, AgreeingSendAlike}
-use Rattle.campaign_core.proofs.Lists.{ap₂, slice_get-mapped_from, length-mapped_from}
-use Rattle.campaign_core.proofs.Seats.{settled-blank, Stays, settled-settled, settled_again, settled-none, IsSound, settled-IsSound, joined_stays, waiting_stays, joined_before}
-use Rattle.campaign_core.proofs.Runs.{run-messages, run-append, after_all, after_all-append, after_messages, seen_view}
-use Rattle.campaign_core.proofs.Outcomes.{blank_outcome, outcome_at-blank, outcome_at-unasked, IsFit, outcome_fits, absent_joins, absent_full, seat_of-blank, taken_within}
+use Rattle.campaign_law.specs.declared.entry.Entry.{Entry}
+use Rattle.view_change.specs.declared.view.View.{View}
+use Rattle.player_view.specs.View.{view_of, no_view}
+use Rattle.player_view.specs.Asked.{Asked, asked_of_view, asked_of as asked_of_scene}
+use Rattle.player_view.proofs.Alike.{asked_alike as asked_alike_of}
+use Rattle.campaign_law.specs.Seat.{Seat, IsFreshSeat, fresh_seat, blank_seat, freed_seat, settled, was_joined}
+use Rattle.campaign_law.specs.Outcome.{Outcome, outcome_at, seat_of, blank_entry}
+use Rattle.campaign_law.specs.World.{World, seat_at, asked_of, outcome_of, steps_of, scene_after, is_present, view_lines, messages_to, lines_if_present, entry_lines, queued_reply, queued_lines, changed, lines_of, seat_after, step, sent}
+use Rattle.campaign_law.specs.Player.{Item, message, view_items, items_if_present, entry_items, items_of, trace, Machine, own_outcome, own_messages, after_own, run, opening, started}
+use Rattle.campaign_law.specs.Law.{IsOpening, SentIsMachine, AgreeingSendAlike}
+use Rattle.campaign_law.proofs.Lists.{ap₂, slice_get-mapped_from, length-mapped_from}
+use Rattle.campaign_law.proofs.Seats.{settled-blank, Stays, settled-settled, settled_again, settled-none, IsSound, settled-IsSound, joined_stays, waiting_stays, joined_before}
+use Rattle.campaign_law.proofs.Runs.{run-messages, run-append, after_all, after_all-append, after_messages, seen_view}
+use Rattle.campaign_law.proofs.Outcomes.{blank_outcome, outcome_at-blank, outcome_at-unasked, IsFit, outcome_fits, absent_joins, absent_full, seat_of-blank, taken_within}
 
 -- a machine at this seat, without pass numbers
 abbrev at : ℕ → Option Seat → View → Machine
@@ -213,11 +215,10 @@ acts_any seats before e steps o v v' last l sound fit absent agrees =
 
 -- a view answers as the world, question by question
 asked_alike : (w : World) (p : ℕ) → asked_of_view (length w.seats) (view_of w.scene p) ≡ asked_of w p
-unfolding asked_of_view asked_of
-asked_alike w p = refl
+asked_alike w p = asked_alike_of (length w.seats) w.scene p
 
 same_seats : (w : World) (p : ℕ) (last : View) → (asked_of_view (length w.seats) last).seats ≡ (asked_of w p).seats
-unfolding asked_of_view asked_of
+unfolding asked_of_view asked_of_scene
 same_seats w p last = refl
 
 decides_alike : (w : World) (e : Entry) (last : View) (j : Bool) → was_joined (seat_at w (seat_of e)) ≡ j → (j ≡ true → last ≡ view_of w.scene (seat_of e)) → outcome_at (asked_of_view (length w.seats) last) (steps_of w e) (seat_at w (seat_of e)) e ≡ outcome_of w e
@@ -298,7 +299,7 @@ fresh_follows seats (Some s) v f = record { last = no_view; is = refl; seen = λ
 
 started_follows : (w : World) (p : ℕ) → IsOpening w → FollowsWorld w p (started (opening w p))
 started_follows w p fresh =
-    let f : IfSome (seat_at w p) IsFreshSeat = fresh_at w.seats p fresh in
+    let f : IfSome (seat_at w p) IsFreshSeat = fresh_at w.seats p fresh.seats in
     subst (λ s. FollowsWorld w p (record { seat = s; seats = length w.seats; last = no_view; due = false })) (sym (fresh_started (seat_at w p) f)) (fresh_follows (length w.seats) (seat_at w p) (view_of w.scene p) f)
 
 pub sent_is_machine : SentIsMachine

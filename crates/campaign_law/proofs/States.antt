@@ -1,24 +1,24 @@
 -- The state that a running campaign keeps.
 use Rattle.std.proofs.Common.{◌≡◌, ℕ, zero, suc, ◌+◌, ◌<◌, eqb, List, [], ◌∷◌, length, map, drop, Some, None, refl, sym, ◌∙◌, ap, arith, zero-add}
 use Rattle.std.specs.Prelude.{Option, option_map, slice_get}
-use Rattle.std.specs.List.{AllByRecursion}
 use Rattle.seats.specs.Book.{Book}
-use Rattle.campaign_file.specs.Campaign.{AreFreshFrom, IsOpening as IsOpeningList}
-use Rattle.campaign_core.specs.declared.entry.Entry.{Entry}
-use Rattle.campaign_core.specs.Views.{bare, no_view, view_of}
-use Rattle.campaign_core.specs.Seat.{Seat, fresh_seat, IsFreshSeat}
-use Rattle.campaign_core.specs.Outcome.{Outcome, seat_of}
-use Rattle.campaign_core.specs.World.{World, seat_at, outcome_of, scene_after, seat_after, mapped_from, step, replay}
-use Rattle.campaign_core.specs.Session.{session}
-use Rattle.campaign_core.specs.State.{Post, State, opening_post, opening_state, world_in, post_by, state_after, post_of, state_of}
-use Rattle.campaign_core.specs.Opening.{opening_world}
-use Rattle.campaign_core.specs.Law.{IsOpening}
-use Rattle.campaign_core.proofs.Lists.{length-mapped_from, slice_get-mapped_from}
+use Rattle.campaign_law.specs.declared.entry.Entry.{Entry}
+use Rattle.world.specs.Scene.{Scene}
+use Rattle.player_view.specs.View.{view_of}
+use Rattle.campaign_law.specs.Settle.{settled}
+use Rattle.campaign_law.specs.Seat.{Seat, fresh_seat, IsFreshSeat}
+use Rattle.campaign_law.specs.Outcome.{Outcome, seat_of}
+use Rattle.campaign_law.specs.World.{World, seat_at, outcome_of, scene_after, seat_after, mapped_from, step, replay}
+use Rattle.campaign_law.specs.Session.{session}
+use Rattle.campaign_law.specs.State.{Post, State, opening_post, opening_state, world_in, post_by, state_after, post_of, state_of}
+use Rattle.campaign_law.proofs.Lists.{length-mapped_from, slice_get-mapped_from}
 
--- of a state without maps and tokens
-pub stated : (state : State) (e : Entry) (o : Outcome) (posts : List Post) → state.scene ≡ bare → o ≡ outcome_of (world_in state) e → posts ≡ mapped_from (λ seat post. post_by seat (eqb (seat_of e) seat) o no_view no_view post) 0 state.posts → record { posts = posts; scene = bare } ≡ state_after state e
-unfolding view_of scene_after
-stated state e o posts s h is = λ i. record { posts = (is ∙ ap (λ o. mapped_from (λ seat post. post_by seat (eqb (seat_of e) seat) o no_view no_view post) 0 state.posts) h) i; scene = sym s i }
+-- the posts and the scene after an entry are the state after it
+pub stated : (state : State) (e : Entry) (o : Outcome) (scene : Scene) (posts : List Post) → o ≡ outcome_of (world_in state) e → scene ≡ scene_after (world_in state) e → posts ≡ mapped_from (λ seat post. post_by seat (eqb (seat_of e) seat) o (view_of state.scene seat) (view_of scene seat) post) 0 state.posts → record { posts = posts; scene = scene } ≡ state_after state e
+stated state e o scene posts h k is = λ i. record {
+  posts = (is ∙ (λ j. mapped_from (λ seat post. post_by seat (eqb (seat_of e) seat) (h j) (view_of state.scene seat) (view_of (k j) seat) post) 0 state.posts)) i;
+  scene = k i;
+}
 
 pub length-replay : (w : World) (h : List Entry) → length (replay w h).seats ≡ length w.seats
 length-replay w [] = refl
@@ -61,19 +61,9 @@ opening_posts : (books : List Book) (k : ℕ) (w : World) → mapped_from (post_
 opening_posts [] k w = refl
 opening_posts (b ∷ books) k w = ap (λ posts. opening_post b ∷ posts) (opening_posts books (suc k) w)
 
-pub opened : (books : List Book) → opening_state books ≡ state_of (world_in (opening_state books)) []
-opened books = ap (λ posts. record { posts = posts; scene = bare }) (sym (opening_posts books 0 (world_in (opening_state books))))
+pub opened : (books : List Book) (scene : Scene) → opening_state books scene ≡ state_of (world_in (opening_state books scene)) []
+opened books scene = ap (λ posts. record { posts = posts; scene = settled scene }) (sym (opening_posts books 0 (world_in (opening_state books scene))))
 
-posts_seats : (books : List Book) → map (λ post. post.seat) (map opening_post books) ≡ map fresh_seat books
+pub posts_seats : (books : List Book) → map (λ post. post.seat) (map opening_post books) ≡ map fresh_seat books
 posts_seats [] = refl
 posts_seats (b ∷ books) = ap (λ seats. fresh_seat b ∷ seats) (posts_seats books)
-
-pub opening_world_in : (books : List Book) → world_in (opening_state books) ≡ opening_world books
-opening_world_in books = ap (λ seats. record { seats = seats; scene = bare }) (posts_seats books)
-
-fresh_seats : (place : ℕ) (books : List Book) → AreFreshFrom place books → AllByRecursion IsFreshSeat (map (λ post. post.seat) (map opening_post books))
-fresh_seats place [] f = tt
-fresh_seats place (b ∷ books) f = (record { book = f.0.fresh; queued = refl; taken = refl }, fresh_seats (place + 1) books f.1)
-
-pub opening_is : (books : List Book) → IsOpeningList books → IsOpening (world_in (opening_state books))
-opening_is books f = fresh_seats 0 books f.fresh

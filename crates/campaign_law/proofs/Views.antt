@@ -1,17 +1,25 @@
--- Laws of views.
-use Rattle.std.proofs.Common.{◌≡◌, ℕ, Bool, true, false, List, [], ◌∷◌, ◌++◌, None, refl, sym, ◌∙◌, ap}
-use Rattle.campaign_core.specs.Views.{View, blank, no_view, full_line, change_line}
-use Rattle.campaign_core.specs.World.{view_lines}
-use Rattle.campaign_core.proofs.Lists.{append_nil}
+-- Laws of the lines that show views.
+use Rattle.std.proofs.Common.{◌≡◌, ℕ, Bool, true, false, List, Some, None, refl, sym, ◌∙◌, ap}
+use Rattle.std.specs.Prelude.{Option, option_map}
+use Rattle.view_change.specs.declared.view.View.{View}
+use Rattle.view_change.specs.Change.{change_of}
+use Rattle.view_change.specs.Lines.{change_line as line_of}
+use Rattle.view_change.proofs.ChangeLemmas.{none_if_same}
+use Rattle.campaign_law.specs.Views.{change_line}
+
+nothing_mapped : {A B : Type 0} (f : A → B) (o : Option A) → option_map f o ≡ None → o ≡ None
+nothing_mapped f None h = refl
+nothing_mapped f (Some a) h = cc
 
 -- where there is no change line the views are equal
 pub no_change : (v v' : View) → change_line v v' ≡ None → v ≡ v'
-no_change blank blank h = refl
-
--- no line where the view stays and the full line isn't due
-pub view_lines_unchanged : (lines : List (List ℕ)) (full : Bool) → full ≡ false → lines ≡ lines ++ view_lines full no_view no_view
 unfolding change_line
-view_lines_unchanged lines full h = sym (ap (λ f. lines ++ view_lines f no_view no_view) h ∙ append_nil lines)
+no_change v v' h = (none_if_same v v').0 (nothing_mapped line_of (change_of v v') h)
 
-pub view_lines_full : view_lines true no_view no_view ≡ full_line no_view ∷ []
-view_lines_full = refl
+-- a view that stays has no change line
+pub same_no_change : (v : View) → change_line v v ≡ None
+unfolding change_line
+same_no_change v = ap (option_map line_of) ((none_if_same v v').1 refl)
+  where
+    v' : View
+    v' = v

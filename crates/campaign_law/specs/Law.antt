@@ -1,18 +1,20 @@
 -- Campaigns as their contracts see them, and the law of what a player is sent.
 use Rattle.std.specs.Prelude.{◌≡◌, ◌==◌, ℕ, Bool, true, false, List, [], ◌∷◌, ◌++◌, flat_map, Option, Some, None, option_map, is_some, if◌then◌else◌}
 use Rattle.std.specs.List.{AllByRecursion}
-use Rattle.campaign_core.specs.declared.entry.Entry.{Entry}
-use Rattle.campaign_core.specs.declared.campaign.Answer.{Answer}
+use Rattle.campaign_law.specs.declared.entry.Entry.{Entry}
+use Rattle.campaign_law.specs.declared.answer.Answer.{Answer}
 use Rattle.seats.specs.Book.{counted}
 use Rattle.json_fields.specs.Lines.{IsOneLine}
-use Rattle.campaign_core.specs.Seat.{Seat, IsFreshSeat, settled}
-use Rattle.campaign_core.specs.World.{World, seat_at, sent, step, replay, outcome_of, steps_of}
-use Rattle.campaign_core.specs.Outcome.{Outcome, seat_of}
-use Rattle.campaign_core.specs.Player.{opening, trace, machine}
+use Rattle.campaign_law.specs.Seat.{Seat, IsFreshSeat, settled}
+use Rattle.campaign_law.specs.Settle.{IsSettled}
+use Rattle.campaign_law.specs.World.{World, seat_at, sent, step, replay, outcome_of, steps_of}
+use Rattle.campaign_law.specs.Outcome.{Outcome, seat_of}
+use Rattle.campaign_law.specs.Player.{opening, trace, machine}
 
--- a campaign's world as it opens: each seat is Free, without lines
-abbrev pub IsOpening : World → Type 0
-IsOpening w = AllByRecursion IsFreshSeat w.seats
+-- a campaign's world as it opens: each seat is Free, without lines, and what is seen is exposed
+pub record IsOpening (w : World) : Type 0 where
+  pub seats : AllByRecursion IsFreshSeat w.seats
+  pub scene : IsSettled w.scene
 
 -- a campaign: the world that it began with, and its entries since
 pub record Course : Type 0 where

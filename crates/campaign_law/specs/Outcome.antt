@@ -4,18 +4,19 @@ use Rattle.seats.specs.Book.{Book, joined, left, counted, join_refusal}
 use Rattle.seats.specs.SeatState.{is_joined}
 use Rattle.seats.specs.declared.seat_state.JoinRefusal.{JoinRefusal}
 use Rattle.seats.specs.declared.seat_state.JoinRefusal.TheVariants as joins
-use Rattle.campaign_core.specs.declared.entry.Entry.{Entry}
-use Rattle.campaign_core.specs.declared.entry.Entry.TheVariants.{Join, Line, Taken}
-use Rattle.campaign_core.specs.declared.command.Command.{Command}
-use Rattle.campaign_core.specs.declared.command.Command.TheVariants.{Hello, Bye, Say}
-use Rattle.campaign_core.specs.declared.command.LineFault.{LineFault}
-use Rattle.campaign_core.specs.declared.command.LineFault.TheVariants as faults
-use Rattle.campaign_core.specs.declared.command.Refusal.{Refusal}
-use Rattle.campaign_core.specs.declared.command.Refusal.TheVariants.{BadJson, BadCommand, BadField, BadKey, SeatTaken, Spent, NoHello}
-use Rattle.campaign_core.specs.Asked.{Asked}
-use Rattle.campaign_core.specs.Commands.{command_of}
-use Rattle.campaign_core.specs.Texts.{hello_line, ok_line, refusal_line, message_line}
-use Rattle.campaign_core.specs.Seat.{Seat}
+use Rattle.campaign_law.specs.declared.entry.Entry.{Entry}
+use Rattle.campaign_law.specs.declared.entry.Entry.TheVariants.{Join, Line, Taken}
+use Rattle.command_json.specs.declared.command.Command.{Command}
+use Rattle.command_json.specs.declared.command.Command.TheVariants.{Hello, Bye, Look, Say, Move}
+use Rattle.command_json.specs.declared.command.LineFault.{LineFault}
+use Rattle.command_json.specs.declared.command.LineFault.TheVariants as faults
+use Rattle.campaign_law.specs.declared.refusal.Refusal.{Refusal}
+use Rattle.campaign_law.specs.declared.refusal.Refusal.TheVariants.{BadJson, BadCommand, GmOnly, BadField, BadKey, SeatTaken, Spent, NoHello}
+use Rattle.player_view.specs.Asked.{Asked}
+use Rattle.command_json.specs.Commands.{command_of}
+use Rattle.campaign_law.specs.Rules.{rule_of}
+use Rattle.campaign_law.specs.Texts.{hello_line, ok_line, moved_line, refusal_line, message_line}
+use Rattle.campaign_law.specs.Seat.{Seat}
 
 pub record Outcome : Type 0 where
   pub refusal : Option Refusal
@@ -70,33 +71,35 @@ join_outcome asked b reader writer None = record nothing {
 
 -- ---- commands of a Joined seat
 
--- the first broken rule
-unfoldable pub rule_of : Asked → ℕ → Command → Option Refusal
-rule_of asked seat (Hello named key) = Some SeatTaken
-rule_of asked seat Bye = None
-rule_of asked seat (Say text) = None
-
 -- what an accepted command does to the book, the line being counted
 abbrev pub book_done : Command → Book → Book
 book_done (Hello named key) b = b
 book_done Bye b = left b
+book_done Look b = b
 book_done (Say text) b = b
+book_done (Move token path) b = b
 
 abbrev pub reply_line : ℕ → ℕ → Command → List ℕ
 reply_line steps n (Hello named key) = ok_line n (codes "hello")
 reply_line steps n Bye = ok_line n (codes "bye")
+reply_line steps n Look = ok_line n (codes "look")
 reply_line steps n (Say text) = ok_line n (codes "say")
+reply_line steps n (Move token path) = moved_line n steps
 
 abbrev pub messages_by : ℕ → Command → List (List ℕ)
 messages_by seat (Hello named key) = []
 messages_by seat Bye = []
+messages_by seat Look = []
 messages_by seat (Say text) = message_line seat text ∷ []
+messages_by seat (Move token path) = []
 
 -- the command asks for the full line
 abbrev pub is_look : Command → Bool
 is_look (Hello named key) = false
 is_look Bye = false
+is_look Look = true
 is_look (Say text) = false
+is_look (Move token path) = false
 
 abbrev pub accepted : ℕ → Book → Command → Outcome
 accepted steps b c = record nothing {
@@ -121,6 +124,7 @@ command_outcome asked steps b c = decided steps b c (rule_of asked b.seat c)
 abbrev pub refusal_of_line : LineFault → Refusal
 refusal_of_line faults.BadJson = BadJson
 refusal_of_line faults.BadCommand = BadCommand
+refusal_of_line faults.GmOnly = GmOnly
 refusal_of_line (faults.BadField name) = BadField name
 refusal_of_line faults.Memory = BadJson
 

@@ -1,12 +1,14 @@
 -- The player machine, which holds no world.
 use Rattle.std.specs.Prelude.{ℕ, ◌==◌, ◌&&◌, ◌||◌, Bool, true, false, List, [], ◌∷◌, ◌++◌, length, map, if◌then◌else◌, Option, option_map, is_some}
 use Rattle.seats.specs.Book.{Book, blank_book}
-use Rattle.campaign_core.specs.declared.entry.Entry.{Entry}
-use Rattle.campaign_core.specs.Views.{View, no_view, view_of, change_line}
-use Rattle.campaign_core.specs.Asked.{Asked}
-use Rattle.campaign_core.specs.Seat.{Seat, fresh_seat, settled}
-use Rattle.campaign_core.specs.Outcome.{Outcome, outcome_at, seat_of, blank_entry}
-use Rattle.campaign_core.specs.World.{World, seat_at, outcome_of, steps_of, scene_after, is_present, view_lines, messages_to, queued_reply, changed, step}
+use Rattle.campaign_law.specs.declared.entry.Entry.{Entry}
+use Rattle.view_change.specs.declared.view.View.{View}
+use Rattle.player_view.specs.View.{view_of, no_view}
+use Rattle.player_view.specs.Asked.{asked_of_view}
+use Rattle.campaign_law.specs.Views.{change_line}
+use Rattle.campaign_law.specs.Seat.{Seat, fresh_seat, settled}
+use Rattle.campaign_law.specs.Outcome.{Outcome, outcome_at, seat_of, blank_entry}
+use Rattle.campaign_law.specs.World.{World, seat_at, outcome_of, steps_of, scene_after, is_present, view_lines, messages_to, queued_reply, changed, step}
 
 -- ---- what a player may know: its opening and its trace
 
@@ -55,10 +57,6 @@ pub record Machine : Type 0 where
   pub last : View
   -- the full line is due
   pub due : Bool
-
--- what a view answers to the rules
-unfoldable pub asked_of_view : ℕ → View → Asked
-asked_of_view seats v = record { seats = seats }
 
 abbrev pub own_outcome : Machine → Entry → ℕ → Outcome
 own_outcome m e steps = outcome_at (asked_of_view m.seats m.last) steps m.seat e

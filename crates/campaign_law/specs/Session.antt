@@ -1,11 +1,11 @@
 -- A seat's present session: the lines that were queued for it since its Join, and those that wait.
 use Rattle.std.specs.Prelude.{ℕ, ◌==◌, List, [], ◌∷◌, ◌++◌, drop, map, max, if◌then◌else◌, Option, Some, None}
 use Rattle.seats.specs.SeatState.{is_free}
-use Rattle.campaign_core.specs.declared.entry.Entry.{Entry}
-use Rattle.campaign_core.specs.Views.{view_of}
-use Rattle.campaign_core.specs.Seat.{Seat}
-use Rattle.campaign_core.specs.Outcome.{seat_of}
-use Rattle.campaign_core.specs.World.{World, seat_at, outcome_of, scene_after, queued_lines, step}
+use Rattle.campaign_law.specs.declared.entry.Entry.{Entry}
+use Rattle.player_view.specs.View.{view_of}
+use Rattle.campaign_law.specs.Seat.{Seat}
+use Rattle.campaign_law.specs.Outcome.{seat_of}
+use Rattle.campaign_law.specs.World.{World, seat_at, outcome_of, scene_after, queued_lines, step}
 
 -- the lines of an entry that are queued for a seat
 abbrev pub queued_of : World → Entry → ℕ → List (List ℕ)

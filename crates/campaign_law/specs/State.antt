@@ -2,12 +2,15 @@
 use Rattle.std.specs.Prelude.{ℕ, ◌==◌, ◌-◌, Bool, List, ◌++◌, [], map, drop, if◌then◌else◌, Some}
 use Rattle.seats.specs.Book.{Book}
 use Rattle.seats.specs.SeatState.{is_free}
-use Rattle.campaign_core.specs.declared.entry.Entry.{Entry}
-use Rattle.campaign_core.specs.Views.{Scene, bare, View, view_of}
-use Rattle.campaign_core.specs.Seat.{Seat, fresh_seat}
-use Rattle.campaign_core.specs.Outcome.{Outcome, seat_of}
-use Rattle.campaign_core.specs.World.{World, outcome_of, scene_after, queued_lines, seat_by, mapped_from, replay}
-use Rattle.campaign_core.specs.Session.{session}
+use Rattle.campaign_law.specs.declared.entry.Entry.{Entry}
+use Rattle.view_change.specs.declared.view.View.{View}
+use Rattle.world.specs.Scene.{Scene}
+use Rattle.player_view.specs.View.{view_of}
+use Rattle.campaign_law.specs.Seat.{Seat, fresh_seat}
+use Rattle.campaign_law.specs.Settle.{settled}
+use Rattle.campaign_law.specs.Outcome.{Outcome, seat_of}
+use Rattle.campaign_law.specs.World.{World, outcome_of, scene_after, queued_lines, seat_by, mapped_from, replay}
+use Rattle.campaign_law.specs.Session.{session}
 
 -- a seat, and the lines of its session that weren't taken
 pub record Post : Type 0 where
@@ -21,9 +24,9 @@ pub record State : Type 0 where
 abbrev pub opening_post : Book → Post
 opening_post book = record { seat = fresh_seat book; mail = [] }
 
--- of a campaign that opens with these seats
-abbrev pub opening_state : List Book → State
-opening_state books = record { posts = map opening_post books; scene = bare }
+-- of a campaign that opens with these seats and this scene
+abbrev pub opening_state : List Book → Scene → State
+opening_state books scene = record { posts = map opening_post books; scene = settled scene }
 
 abbrev pub world_in : State → World
 world_in state = record { seats = map (λ post. post.seat) state.posts; scene = state.scene }

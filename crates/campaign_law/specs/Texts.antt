@@ -2,8 +2,8 @@
 use Rattle.std.specs.Prelude.{ℕ, List, codes}
 use Rattle.serde_json.specs.Data.{Data, unsigned, number, string, object, Members, member, no_members}
 use Rattle.serde_json.specs.Written.{compact_text}
-use Rattle.campaign_core.specs.declared.command.Refusal.{Refusal}
-use Rattle.campaign_core.specs.declared.command.Refusal.TheVariants.{BadJson, BadCommand, BadField, BadKey, SeatTaken, Spent, NoHello}
+use Rattle.campaign_law.specs.declared.refusal.Refusal.{Refusal}
+use Rattle.campaign_law.specs.declared.refusal.Refusal.TheVariants.{BadJson, BadCommand, GmOnly, BadField, NotYours, OffMap, BadPath, BadKey, SeatTaken, Spent, NoHello, NoSuchToken}
 
 abbrev pub whole : ℕ → Data
 whole n = number (unsigned n)
@@ -20,23 +20,40 @@ ok_tree n name = object (member (codes "n") (whole n) (member (codes "ok") (stri
 unfoldable pub ok_line : ℕ → List ℕ → List ℕ
 ok_line n name = compact_text (ok_tree n name)
 
+-- of an accepted move, with the steps that were taken
+abbrev pub moved_tree : ℕ → ℕ → Data
+moved_tree n steps = object (member (codes "moved") (whole steps) (member (codes "n") (whole n) (member (codes "ok") (string (codes "move")) no_members)))
+
+unfoldable pub moved_line : ℕ → ℕ → List ℕ
+moved_line n steps = compact_text (moved_tree n steps)
+
 abbrev pub refusal_number : Refusal → ℕ
 refusal_number BadJson = 1
 refusal_number BadCommand = 2
+refusal_number GmOnly = 3
 refusal_number (BadField name) = 4
+refusal_number NotYours = 5
+refusal_number OffMap = 8
+refusal_number BadPath = 9
 refusal_number BadKey = 24
 refusal_number SeatTaken = 25
 refusal_number Spent = 26
 refusal_number NoHello = 27
+refusal_number NoSuchToken = 42
 
 abbrev pub refusal_name : Refusal → List ℕ
 refusal_name BadJson = codes "BadJson"
 refusal_name BadCommand = codes "BadCommand"
+refusal_name GmOnly = codes "GmOnly"
 refusal_name (BadField name) = codes "BadField"
+refusal_name NotYours = codes "NotYours"
+refusal_name OffMap = codes "OffMap"
+refusal_name BadPath = codes "BadPath"
 refusal_name BadKey = codes "BadKey"
 refusal_name SeatTaken = codes "SeatTaken"
 refusal_name Spent = codes "Spent"
 refusal_name NoHello = codes "NoHello"
+refusal_name NoSuchToken = codes "NoSuchToken"
 
 abbrev pub refusal_members : ℕ → Refusal → Members
 refusal_members n r = member (codes "n") (whole n) (member (codes "no") (whole (refusal_number r)) (member (codes "refused") (string (refusal_name r)) no_members))

@@ -1,33 +1,9 @@
--- What a seat is shown, and the lines that show it.
-use Rattle.std.specs.Prelude.{ℕ, List, Option, None, codes}
-use Rattle.serde_json.specs.Data.{Data, array, no_items, object, member, no_members}
-use Rattle.serde_json.specs.Written.{compact_text}
-
--- all of a world but its seats: no map and no token yet
-pub data Scene : Type 0 where
-  bare : Scene
-
--- what a seat is shown: nothing yet
-pub data View : Type 0 where
-  blank : View
-
--- of a seat that was shown nothing
-abbrev pub no_view : View
-no_view = blank
-
-unfoldable pub view_of : Scene → ℕ → View
-view_of scene seat = blank
-
--- no type, map or token
-abbrev pub blank_tree : Data
-blank_tree = object (member (codes "lights") (object no_members) (member (codes "maps") (array no_items) (member (codes "sights") (object no_members) (member (codes "tokens") (array no_items) no_members))))
-
-abbrev pub full_tree : Data
-full_tree = object (member (codes "full") blank_tree no_members)
-
-unfoldable pub full_line : View → List ℕ
-full_line view = compact_text full_tree
+-- The lines that show a seat what it sees.
+use Rattle.std.specs.Prelude.{ℕ, List, Option, option_map}
+use Rattle.view_change.specs.declared.view.View.{View}
+use Rattle.view_change.specs.Change.{change_of}
+use Rattle.view_change.specs.Lines.{change_line as line_of}
 
 -- the change line between two views, none where they are equal
 unfoldable pub change_line : View → View → Option (List ℕ)
-change_line before after = None
+change_line before after = option_map line_of (change_of before after)

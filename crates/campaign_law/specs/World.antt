@@ -1,11 +1,16 @@
 -- Worlds, steps and what is sent.
 use Rattle.std.specs.Prelude.{ℕ, suc, ◌==◌, ◌&&◌, ◌||◌, Bool, List, [], ◌∷◌, ◌++◌, length, slice_get, if◌then◌else◌, Option, Some, None, unwrap_or}
-use Rattle.campaign_core.specs.declared.entry.Entry.{Entry}
-use Rattle.campaign_core.specs.declared.command.Command.{Command}
-use Rattle.campaign_core.specs.Views.{Scene, View, view_of, full_line, change_line}
-use Rattle.campaign_core.specs.Asked.{Asked}
-use Rattle.campaign_core.specs.Seat.{Seat, settled, taken_to, was_joined}
-use Rattle.campaign_core.specs.Outcome.{Outcome, outcome_at, seat_of}
+use Rattle.campaign_law.specs.declared.entry.Entry.{Entry}
+use Rattle.view_change.specs.declared.view.View.{View}
+use Rattle.view_change.specs.Lines.{full_line}
+use Rattle.world.specs.Scene.{Scene}
+use Rattle.player_view.specs.View.{view_of}
+use Rattle.player_view.specs.Asked.{Asked, asked_of as asked_of_scene}
+use Rattle.campaign_law.specs.Effects.{steps_by, scene_by}
+use Rattle.campaign_law.specs.Settle.{settled as settled_scene}
+use Rattle.campaign_law.specs.Views.{change_line}
+use Rattle.campaign_law.specs.Seat.{Seat, settled, taken_to, was_joined}
+use Rattle.campaign_law.specs.Outcome.{Outcome, outcome_at, seat_of}
 
 pub record World : Type 0 where
   -- by number
@@ -16,12 +21,8 @@ abbrev pub seat_at : World → ℕ → Option Seat
 seat_at w seat = slice_get w.seats seat
 
 -- what a world answers to the rules of a seat
-unfoldable pub asked_of : World → ℕ → Asked
-asked_of w seat = record { seats = length w.seats }
-
--- the steps of an accepted move, else 0
-unfoldable pub steps_by : Scene → ℕ → Option Command → ℕ
-steps_by scene seat command = 0
+abbrev pub asked_of : World → ℕ → Asked
+asked_of w seat = asked_of_scene (length w.seats) w.scene seat
 
 abbrev pub steps_of : World → Entry → ℕ
 steps_of w e = steps_by w.scene (seat_of e) (outcome_at (asked_of w (seat_of e)) 0 (seat_at w (seat_of e)) e).done
@@ -31,7 +32,7 @@ outcome_of w e = outcome_at (asked_of w (seat_of e)) (steps_of w e) (seat_at w (
 
 -- all but the seats after an entry
 unfoldable pub scene_after : World → Entry → Scene
-scene_after w e = w.scene
+scene_after w e = settled_scene (scene_by (steps_of w e) (seat_of e) w.scene (outcome_of w e).done)
 
 -- ---- an entry for one seat, which stood so before, acts or not, and is shown these views before and after
 

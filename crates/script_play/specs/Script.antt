@@ -4,11 +4,11 @@ use Rattle.std.specs.List.{AllByRecursion}
 use Rattle.std.specs.Option.{option_map_or}
 use Rattle.line_io.specs.Lines.{lines_of}
 use Rattle.line_io.specs.Script.{script_parts}
-use Rattle.campaign_core.specs.declared.entry.Entry.{Entry}
-use Rattle.campaign_core.specs.declared.entry.Entry.TheVariants.{Join, Line, Taken}
-use Rattle.campaign_core.specs.Commands.{command_of, hello_part}
-use Rattle.campaign_core.specs.Seat.{Seat, was_joined}
-use Rattle.campaign_core.specs.World.{World, seat_at, step, replay}
+use Rattle.campaign_law.specs.declared.entry.Entry.{Entry}
+use Rattle.campaign_law.specs.declared.entry.Entry.TheVariants.{Join, Line, Taken}
+use Rattle.command_json.specs.Commands.{command_of, hello_part}
+use Rattle.campaign_law.specs.Seat.{Seat, was_joined}
+use Rattle.campaign_law.specs.World.{World, seat_at, step, replay}
 
 -- how a script ends
 pub data Ending : Type 0 where

@@ -1,10 +1,10 @@
 //! The entry of a script line.
 ghost use Rattle.std.specs.Prelude.{◌≡◌, ◌<◌, ◌==◌, length, IfOk, Ok, Some};
-ghost use Rattle.campaign_core.specs.Commands.{command_of, hello_part};
-ghost use Rattle.campaign_core.specs.Law.{world_of};
-ghost use Rattle.campaign_core.specs.Outcome.{seat_of as seat_of_lem};
-ghost use Rattle.campaign_core.specs.Seat.{was_joined};
-ghost use Rattle.campaign_core.specs.World.{seat_at};
+ghost use Rattle.command_json.specs.Commands.{command_of, hello_part};
+ghost use Rattle.campaign_law.specs.Law.{world_of};
+ghost use Rattle.campaign_law.specs.Outcome.{seat_of as seat_of_lem};
+ghost use Rattle.campaign_law.specs.Seat.{was_joined};
+ghost use Rattle.campaign_law.specs.World.{seat_at};
 ghost use Rattle.script_play.specs.Script.{entry_of as entry_of_lem, entry_of_line as entry_of_line_lem, joining_key as joining_key_lem, key_for};
 
 use campaign_core::{Campaign, Command, Entry, LineFault, read_line};

@@ -3,7 +3,7 @@ ghost use Rattle.std.specs.Prelude.{◌≡◌, ◌≤◌, ◌<◌, ◌∷◌, []
 ghost use Rattle.line_io.specs.Counts.{CountRose};
 ghost use Rattle.line_io.specs.Reader.{bytes_to_come};
 ghost use Rattle.line_io.specs.Told.{WhereTold};
-ghost use Rattle.campaign_core.specs.Law.{IsOpening, IsSentAsMachine, world_of};
+ghost use Rattle.campaign_law.specs.Law.{IsOpening, IsSentAsMachine, world_of};
 ghost use Rattle.script_play.specs.Script.{NothingWaits, script_from, script_of, takens, with_takens};
 ghost use Rattle.script_play.specs.Played.{GoesOn, HasEntered, HasRead, HasWritten, LeavesNothing, IsPrefix, IsOfLine, IsCutShort, IsLineStop, entries_since, played};
 

@@ -3,8 +3,8 @@ ghost use Rattle.std.specs.Prelude.{◌≡◌, ◌≤◌, ◌<◌, ◌==◌, ◌
 ghost use Rattle.std.specs.List.{flat_map};
 ghost use Rattle.std.specs.Option.{option_to_list};
 ghost use Rattle.line_io.specs.Counts.{CountRose};
-ghost use Rattle.campaign_core.specs.Law.{IsOpening, world_of};
-ghost use Rattle.campaign_core.specs.World.{seat_at, some_to_list};
+ghost use Rattle.campaign_law.specs.Law.{IsOpening, world_of};
+ghost use Rattle.campaign_law.specs.World.{seat_at, some_to_list};
 ghost use Rattle.script_play.specs.Tagged.{seat_tag, tagged_line, tagged_lines};
 ghost use Rattle.script_play.specs.Script.{taken_of, takens};
 ghost use Rattle.script_play.specs.Sending.{waiting_lines, reply_to, sent_below, Sends};

@@ -2,7 +2,7 @@
 ghost use Rattle.std.specs.Prelude.{◌≡◌, ◌≤◌, ◌↔◌, ◌⊎◌, ℕ, List, Option, Some, None, length, map, string_bytes, option_and_then, IfOk};
 ghost use Rattle.std.specs.Io.KnownBytes.{append_known};
 ghost use Rattle.line_io.specs.Counts.{CountRose};
-ghost use Rattle.campaign_core.specs.World.{World};
+ghost use Rattle.campaign_law.specs.World.{World};
 ghost use Rattle.campaign_core.specs.Opening.{world_of_text};
 ghost use Rattle.script_play.specs.Script.{script_of, done};
 ghost use Rattle.tabletop.specs.Words.{play_file as play_file_lem};

@@ -1,7 +1,7 @@
-use Rattle.campaign_core.proofs.Simulation.{sent_is_machine, agreeing_send_alike}
-use Rattle.campaign_core.proofs.OneLines.{sent_one}
-use Rattle.campaign_core.proofs.Refused.{refused_changes_little}
-use Rattle.campaign_core.proofs.sent_is_machine.Goals as goal
+use Rattle.campaign_law.proofs.Simulation.{sent_is_machine, agreeing_send_alike}
+use Rattle.campaign_law.proofs.OneLines.{sent_one}
+use Rattle.campaign_law.proofs.Refused.{refused_changes_little}
+use Rattle.campaign_law.proofs.sent_is_machine.Goals as goal
 
 pub returns-clause-machine : goal.returns-clause-machine
 returns-clause-machine c = sent_is_machine

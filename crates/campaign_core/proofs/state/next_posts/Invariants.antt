@@ -1,7 +1,7 @@
 use Rattle.std.proofs.Common.{◌≡◌, ◌++◌, drop, eqb}
-use Rattle.campaign_core.specs.Views.{no_view}
-use Rattle.campaign_core.specs.World.{mapped_from}
-use Rattle.campaign_core.specs.State.{post_by}
+use Rattle.campaign_law.specs.Views.{no_view}
+use Rattle.campaign_law.specs.World.{mapped_from}
+use Rattle.campaign_law.specs.State.{post_by}
 use Rattle.campaign_core.proofs.state.next_posts.Given as goal
 
 -- what is made and what is left make the whole

@@ -1,0 +1,11 @@
+pub mod Lists
+pub mod Seats
+pub mod Views
+pub mod Settled
+pub mod Runs
+pub mod Outcomes
+pub mod Simulation
+pub mod Sessions
+pub mod States
+pub mod OneLines
+pub mod Refused

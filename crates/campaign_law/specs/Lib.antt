@@ -1,0 +1,12 @@
+pub mod Texts
+pub mod Views
+pub mod Seat
+pub mod Rules
+pub mod Effects
+pub mod Settle
+pub mod Outcome
+pub mod World
+pub mod Session
+pub mod State
+pub mod Player
+pub mod Law

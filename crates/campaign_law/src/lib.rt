@@ -1,0 +1,24 @@
+//! What a campaign is: entries, worlds, the rules of commands and their effects, what is sent, and
+//! the player machine, which holds no world. The laws of what players are sent stand on a function.
+#![tactic(auto)]
+
+ghost use Rattle.campaign_law.specs.Law.{SentIsMachine, AgreeingSendAlike, NoLineEndIsSent, RefusedChangesLittle};
+
+mod answer;
+mod entry;
+mod refusal;
+
+pub use answer::Answer;
+pub use entry::Entry;
+pub use refusal::Refusal;
+
+/// The laws of what players are sent, over every opening world, every history and every seat: it is
+/// what the player machine prints, which holds no world; histories that agree for a player send it
+/// the same lines; and no line holds an LF. A refused entry changes no more than its seat's count,
+/// the queue by its reply, and the history.
+pub fn sent_is_machine()
+    ensures machine { SentIsMachine }
+    ensures agreeing { AgreeingSendAlike }
+    ensures one_line { NoLineEndIsSent }
+    ensures refused { RefusedChangesLittle }
+{}
