@@ -13,6 +13,7 @@ ghost use Rattle.tabletop.specs.Ends.{HasEnded, JobEnds, WorldEnds, IsToldAs, ca
 use crate::endings::{Ended, fixed_line, status_of};
 use crate::words::play_file;
 use campaign_core::{Campaign, OpenFault};
+use topology::PlainEye;
 use line_io::{Desk, DeskFault, Sink, Source, write_whole};
 use names::{LineText, Memory};
 use script_play::{Played, play};
@@ -89,7 +90,7 @@ fn play_text<S: Source, O: Sink>(
     ensures write_fault { result ≡ Ended.WriteFault → CountRose (O.faults_of out.old) (O.faults_of out.new) }
     ensures out_count { O.faults_of out.old ≤ O.faults_of out.new }
 {
-    match Campaign::open(alloc, text.bytes()) {
+    match Campaign::open(alloc, text.bytes(), PlainEye::new()) {
         Ok(mut campaign) => ended_by(play(alloc, &mut campaign, script, out)),
         Err(OpenFault::Bad(_)) => Ended::BadCampaign,
         Err(OpenFault::Memory) => Ended::Memory,
