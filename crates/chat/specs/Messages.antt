@@ -2,6 +2,7 @@
 use Rattle.std.specs.Prelude.{ℕ, List, codes}
 use Rattle.serde_json.specs.Data.{Data, unsigned, number, string, object, member, no_members}
 use Rattle.serde_json.specs.Written.{compact_text}
+use Rattle.json_fields.specs.Lines.{IsOneLine}
 use Rattle.chat.specs.declared.to.To.{To}
 use Rattle.chat.specs.declared.to.To.TheVariants.{SelfOnly, Gm, GmSelf, All, Seat}
 
@@ -21,3 +22,7 @@ message_tree from to text = object
 
 unfoldable pub message_line : ℕ → To → List ℕ → List ℕ
 message_line from to text = compact_text (message_tree from to text)
+
+-- no message holds an LF, so that a text of lines tells them apart
+abbrev pub MessagesAreOneLine : Type 0
+MessagesAreOneLine = (from : ℕ) (to : To) (text : List ℕ) → IsOneLine (message_line from to text)

@@ -4,11 +4,13 @@
 //! address reaches is `is_addressed` of `specs/Addresses`.
 #![tactic(auto)]
 
+mod laws;
 mod message;
 mod reach;
 mod seat_set;
 mod to;
 
+pub use laws::a_message_is_one_line;
 pub use message::message_line;
 pub use reach::receivers;
 pub use seat_set::SeatSet;

@@ -1,6 +1,8 @@
 -- A seat's book, and what joins, lines and leaves do to it.
-use Rattle.std.specs.Prelude.{◌≡◌, ◌<◌, ◌≤◌, ◌^◌, ℕ, ◌+◌, ◌==◌, true, not, List, if◌then◌else◌, Option, Some, None}
+use Rattle.std.specs.Prelude.{◌≡◌, ◌<◌, ◌≤◌, ◌^◌, ℕ, ◌+◌, ◌==◌, nat_le, Bool, true, not, List, [], ◌∷◌, ◌++◌, length, if◌then◌else◌, Option, Some, None}
+use Rattle.std.specs.List.{list_any, IsDistinct}
 use Rattle.std.specs.Str.{bytes_eq}
+use Rattle.seat_random.specs.Stream.{Stream}
 use Rattle.seats.specs.declared.seat_state.SeatState.{SeatState}
 use Rattle.seats.specs.declared.seat_state.SeatState.TheVariants.{Free, Joined}
 use Rattle.seats.specs.declared.seat_state.JoinRefusal.{JoinRefusal}
@@ -14,6 +16,8 @@ pub record Book : Type 0 where
   pub seed : List ℕ
   -- how many words of the seed's stream were drawn
   pub drawn : ℕ
+  -- the tags that the seat used, in order of use
+  pub tags : List (List ℕ)
   -- how many lines were counted
   pub lines : ℕ
   pub state : SeatState
@@ -26,15 +30,20 @@ line_limit = 16384
 abbrev pub drawn_limit : ℕ
 drawn_limit = 2 ^ 62
 
--- what holds of every book's numbers
-pub record IsKept (lines drawn : ℕ) (state : SeatState) : Type 0 where
+-- how many tags a seat uses at most: seat 0 is the game master's
+abbrev pub most_tags : ℕ → ℕ
+most_tags seat = if seat == 0 then 2048 else 16
+
+-- what holds of every book
+pub record IsKept (seat : ℕ) (tags : List (List ℕ)) (lines : ℕ) (state : SeatState) : Type 0 where
   pub in_line_limit : lines ≤ line_limit
   -- the last line closes the seat
   pub lines_left : is_joined state ≡ true → lines < line_limit
-  pub in_drawn_limit : drawn < drawn_limit
+  pub tags_differ : IsDistinct bytes_eq tags
+  pub in_tag_limit : length tags ≤ most_tags seat
 
 abbrev pub fresh_book : ℕ → List ℕ → List ℕ → ℕ → Book
-fresh_book seat key seed drawn = record { seat = seat; key = key; seed = seed; drawn = drawn; lines = 0; state = Free }
+fresh_book seat key seed drawn = record { seat = seat; key = key; seed = seed; drawn = drawn; tags = []; lines = 0; state = Free }
 
 -- a book as it is when a campaign opens
 pub record IsFresh (b : Book) : Type 0 where
@@ -67,3 +76,25 @@ join_refusal b key =
     else (if not (is_free b.state) then Some SeatTaken
     else (if b.lines == line_limit then Some Spent
     else None))
+
+-- ---- tags
+
+abbrev pub tag_used : List (List ℕ) → List ℕ → Bool
+tag_used tags tag = list_any (λ used. bytes_eq used tag) tags
+
+-- whether a seat that used these tags has used all that it may
+abbrev pub tags_spent : ℕ → List (List ℕ) → Bool
+tags_spent seat tags = nat_le (most_tags seat) (length tags)
+
+-- the tag is the last that was used
+abbrev pub with_tag : Book → List ℕ → Book
+with_tag b tag = record b { tags = b.tags ++ tag ∷ [] }
+
+-- ---- dice
+
+-- the stream of the seat's dice
+abbrev pub stream_of : Book → Stream
+stream_of b = record { seed = b.seed; drawn = b.drawn }
+
+abbrev pub with_stream : Book → Stream → Book
+with_stream b stream = record b { seed = stream.seed; drawn = stream.drawn }

@@ -1,15 +1,17 @@
-//! Seats' books: one for each seat of a campaign, with its key, its seed of dice, its count of
-//! lines and whether a session sits in it.
+//! Seats' books: one for each seat of a campaign, with its key, the stream of its dice, the tags
+//! that it used, its count of lines and whether a session sits in it.
 //!
 //! In contracts a `SeatBook` is the record `Book`, and what happens to it is a word of `specs/Book`:
-//! `joined`, `counted`, `left` and `freed`.
+//! `joined`, `counted`, `left`, `freed`, `with_tag` and `with_stream`.
 #![tactic(auto)]
 
 mod seat_book;
 mod seat_state;
+mod tag_fault;
 
 pub use seat_book::SeatBook;
 pub use seat_state::{JoinRefusal, SeatState};
+pub use tag_fault::TagFault;
 
 #[cfg(test)]
 mod tests;

@@ -1,27 +1,40 @@
 //! One seat's book.
-ghost use Rattle.std.specs.Prelude.{◌≡◌, ◌≢◌, ◌<◌, ◌≤◌, ◌↔◌, ◌^◌, true, false, Err, IfOk, OnOk, OnErr};
+ghost use Rattle.std.specs.Prelude.{◌≡◌, ◌≢◌, ◌<◌, ◌≤◌, ◌↔◌, ◌^◌, true, false, length, slice_get, Some, Err, IfOk, OnOk, OnErr};
+ghost use Rattle.std.specs.Borrow.{sem};
+ghost use Rattle.std.specs.List.{IsDistinct};
 ghost use Rattle.std.specs.Result.{result_err};
+ghost use Rattle.std.specs.Str.{bytes_eq};
 ghost use Rattle.seats.specs.declared.seat_state.JoinRefusal.TheVariants.{BadKey, NoHello, SeatTaken, Spent};
 ghost use Rattle.seats.specs.SeatState.{is_free, is_joined};
-ghost use Rattle.seats.specs.Book.{counted, freed, fresh_book, join_refusal as join_refusal_lem, joined, left, line_limit, IsFresh};
+ghost use Rattle.seats.specs.declared.tag_fault.TagFault.TheVariants.{TagUsed, TagsSpent};
+ghost use Rattle.seats.specs.Book.{counted, freed, fresh_book, join_refusal as join_refusal_lem, joined, left, line_limit, most_tags, stream_of, tag_used, tags_spent as tags_spent_lem, with_tag, IsFresh};
+ghost use Rattle.seats.specs.Lending.{LendsStream};
 
 use crate::seat_state::{JoinRefusal, SeatState};
-use names::{Memory, SeatNo, Text};
+use crate::tag_fault::TagFault;
+use names::{Memory, SeatNo, Tag, Text};
+use seat_random::SeatStream;
 use std::alloc::Global;
 use std::marker::Model;
 
 /// How many lines a seat has in one run, its joins among them.
 const LINE_LIMIT: u32 = 16384;
 
-/// One seat's book: its number, its key, the 32-byte seed of its dice and how many words of the
-/// seed's stream were drawn, its count of lines in this run, and its state.
+/// How many tags the game master's seat uses at most.
+const GM_TAG_LIMIT: usize = 2048;
+
+/// How many tags a player's seat uses at most.
+const TAG_LIMIT: usize = 16;
+
+/// One seat's book: its number, its key, the stream of its dice (a 32-byte seed and how many of its
+/// words were drawn), the tags that it used, its count of lines in this run, and its state.
 #[derive(Drop)]
 pub struct SeatBook {
     alloc: Global,
     seat: SeatNo,
     key: Text,
-    seed: [u8; 32],
-    drawn: u64,
+    stream: SeatStream,
+    tags: Vec<Tag>,
     lines: u32,
     state: SeatState,
 }
@@ -31,13 +44,13 @@ impl Model for SeatBook {
 
     ghost Value = { Book };
 
-    ghost view = { λ b. record { seat = b.seat; key = b.key; seed = b.seed; drawn = b.drawn; lines = b.lines; state = b.state } };
+    ghost view = { λ b. record { seat = b.seat; key = b.key; seed = b.stream.seed; drawn = b.stream.drawn; tags = b.tags.items; lines = b.lines; state = b.state } };
 
-    ghost invariant = { λ b. IsKept b.lines b.drawn b.state };
+    ghost invariant = { λ b. IsKept b.seat b.tags.items b.lines b.state };
 }
 
 impl SeatBook {
-    /// A Free seat's book with no lines. `drawn` is below 2^62.
+    /// A Free seat's book with no tags and no lines. `drawn` is below 2^62.
     pub fn new(alloc: Global, seat: SeatNo, key: Text, seed: [u8; 32], drawn: u64) -> SeatBook
         requires { drawn < 2 ^ 62 }
         ensures value { result ≡ fresh_book seat key seed drawn }
@@ -47,8 +60,8 @@ impl SeatBook {
             alloc,
             seat,
             key,
-            seed,
-            drawn,
+            stream: SeatStream::new(seed, drawn),
+            tags: Vec::new(alloc),
             lines: 0,
             state: SeatState::Free,
         }
@@ -58,12 +71,16 @@ impl SeatBook {
     pub fn copy(&self) -> Result<SeatBook, Memory>
         ensures { IfOk result (λ b. b ≡ self.now) }
     {
+        let key = Text::copy(self.alloc, self.key.text())?;
+        let Ok(tags) = Vec::from_slice(self.alloc, self.tags.as_slice()) else {
+            return Err(Memory);
+        };
         Ok(SeatBook {
             alloc: self.alloc,
             seat: self.seat,
-            key: Text::copy(self.alloc, self.key.text())?,
-            seed: self.seed,
-            drawn: self.drawn,
+            key,
+            stream: SeatStream::new(self.seed(), self.drawn()),
+            tags,
             lines: self.lines,
             state: self.state,
         })
@@ -147,7 +164,7 @@ impl SeatBook {
     pub fn seed(&self) -> [u8; 32]
         ensures { result ≡ self.now.seed }
     {
-        self.seed
+        self.stream.seed()
     }
 
     /// How many words of the seed's stream were drawn: below 2^62.
@@ -155,7 +172,72 @@ impl SeatBook {
         ensures value { result ≡ self.now.drawn }
         ensures limit { result < 2 ^ 62 }
     {
-        self.drawn
+        self.stream.drawn()
+    }
+
+    /// The stream of the seat's dice, to be drawn from. All else of the book stays.
+    pub fn stream(&mut self) -> &mut SeatStream
+        ensures* lent { sem 𝓛 (LendsStream self.entry result) }
+        ensures value { result.now ≡ stream_of self.old }
+    {
+        &mut self.stream
+    }
+
+    /// The seat uses the tag. After each fault the book is as before: `TagUsed` where it used the
+    /// tag already, else `TagsSpent` where it has used all that it may, 2,048 tags for seat 0 and 16
+    /// for another, else `Memory` for want of memory.
+    pub fn use_tag(&mut self, tag: Tag) -> Result<(), TagFault>
+        ensures tag_used { (result ≡ Err TagUsed) ↔ (tag_used self.old.tags tag ≡ true) }
+        ensures tags_spent { (result ≡ Err TagsSpent) ↔ ((tag_used self.old.tags tag ≡ false) × (tags_spent_lem self.old.seat self.old.tags ≡ true)) }
+        ensures ok { OnOk result (self.new ≡ with_tag self.old tag) }
+        ensures refused { OnErr result (self.new ≡ self.old) }
+    {
+        if self.has_tag(tag) {
+            return Err(TagFault::TagUsed);
+        }
+        if self.tags_spent() {
+            return Err(TagFault::TagsSpent);
+        }
+        match self.tags.push(tag) {
+            Ok(()) => Ok(()),
+            Err(_) => Err(TagFault::Memory),
+        }
+    }
+
+    /// Whether the seat used the tag.
+    pub fn has_tag(&self, tag: Tag) -> bool
+        ensures { result ≡ tag_used self.now.tags tag }
+    {
+        self.tags.contains(&tag)
+    }
+
+    /// Whether the seat has used all the tags that it may.
+    fn tags_spent(&self) -> bool
+        ensures { result ≡ tags_spent_lem self.now.seat self.now.tags }
+    {
+        let limit = if self.seat.number() == 0 {
+            GM_TAG_LIMIT
+        } else {
+            TAG_LIMIT
+        };
+        self.tags.len() >= limit
+    }
+
+    /// How many tags the seat used: at most 2,048 for seat 0, else 16. No tag is used twice.
+    pub fn tag_count(&self) -> usize
+        ensures value { result ≡ length self.now.tags }
+        ensures limit { result ≤ most_tags self.now.seat }
+        ensures differ { IsDistinct bytes_eq self.now.tags }
+    {
+        self.tags.len()
+    }
+
+    /// The tag at that place, in order of use.
+    pub fn tag_at(&self, place: usize) -> Tag
+        requires { place < length self.now.tags }
+        ensures { slice_get self.now.tags place ≡ Some result }
+    {
+        self.tags[place]
     }
 
     /// The seat's state. A Joined seat has lines left.
