@@ -1,7 +1,7 @@
-use Rattle.std.proofs.Common.{◌≡◌, ℕ, ◌*◌, ◌≤◌, ◌<◌, Bool, List, [], ◌∷◌, zero, suc, length, get_or, subst, sym, refl, arith, inl, inr, ◌⊎◌}
+use Rattle.std.proofs.Common.{◌≡◌, ℕ, ◌*◌, ◌≤◌, Bool, List, refl, ap, ◌∙◌, ◌||◌}
 use Rattle.std.specs.Bool.{Decides}
 use Rattle.std.specs.List.{list_any, Any}
-use Rattle.std.proofs.lemmas.Bool.{false≢true}
+use Rattle.std.proofs.lemmas.List.Folds.{Any-from_list_any, list_any-from_Any}
 use Rattle.std.proofs.lemmas.Bool.Decides.{Decides-and, Decides-or, Decides-like}
 use Rattle.names.specs.declared.kinds.Mode.{Mode}
 use Rattle.names.specs.declared.kinds.Mode.TheVariants.{Off, Day, Night}
@@ -12,24 +12,17 @@ use Rattle.topology.specs.Sight.{IsClear}
 use Rattle.topology.proofs.SightLemmas.{clear_test_tells, reach_test_tells}
 use Rattle.sight_types.specs.declared.Sight.{Sight}
 use Rattle.vision.specs.declared.lamp.Lamp.{Lamp}
-use Rattle.vision.specs.Seen.{IsSeen, IsLit, sees_test, lit_test}
+use Rattle.cells.specs.Cells.{Cells, has}
+use Rattle.cells.proofs.SetLaws.{has-cells_where}
+use Rattle.vision.specs.Seen.{AddsSeen, IsSeen, IsLit, sees_test, lit_test, with_cells}
 
 -- a test of some element tells whether the fact holds of some element
 pub Decides-any : {X : Type 0} (p : X → Bool) (P : X → Type 0) → ((x : X) → Decides (p x) (P x)) → (xs : List X)
     → Decides (list_any p xs) (Any P xs)
-Decides-any p P each [] = (λ e. absurd (false≢true e), λ a. absurd (omega (arith, a.2)))
-Decides-any {X} p P each (x ∷ xs) = Decides-like _ from to (Decides-or _ _ (each x) (Decides-any p P each xs))
-  where
-    from : P x ⊎ Any P xs → Any P (x ∷ xs)
-    from (inl h) = (0, x, omega arith, refl, h)
-    from (inr a) = (suc a.0, a.1, omega (arith, a.2), a.3, a.4)
-
-    at : (k : ℕ) (y : X) → k < length (x ∷ xs) → get_or (x ∷ xs) k y ≡ y → P y → P x ⊎ Any P xs
-    at zero y lt e h = inl (subst P (sym e) h)
-    at (suc k) y lt e h = inr (k, y, omega (arith, lt), e, h)
-
-    to : Any P (x ∷ xs) → P x ⊎ Any P xs
-    to a = at a.0 a.1 a.2 a.3 a.4
+Decides-any p P each xs = (
+  λ h. let some = Any-from_list_any p xs h in (some.0, some.1, some.2, some.3, (each some.1).0 some.4),
+  λ some. list_any-from_Any p xs (some.0, some.1, some.2, some.3, (each some.1).1 some.4),
+)
 
 -- the test tells whether some lamp lights the cell
 pub lit_test_tells : (walls : WallLists) (lamps : List Lamp) (mult x y : ℕ)
@@ -53,3 +46,15 @@ sees_test_tells Night walls lamps sight eye x y =
     (Decides-and _ _ (clear_test_tells walls eye x y)
     (Decides-and _ _ (reach_test_tells eye x y sight.range)
     (Decides-or _ _ (reach_test_tells eye x y sight.night) (lit_test_tells walls lamps sight.mult x y))))
+
+-- the set with the cells that pass the test is the set with the cells that are seen
+pub AddsSeen-with_cells : (mode : Mode) (walls : WallLists) (lamps : List Lamp) (sight : Sight) (eye : Coordinates) (old new : Cells)
+    → new ≡ with_cells old (sees_test mode walls lamps sight eye) → AddsSeen mode walls lamps sight eye old new
+AddsSeen-with_cells mode walls lamps sight eye old new e = record {
+  map = ap (λ (s : Cells). s.extent) e;
+  cells = λ x y hx hy.
+      let told = Decides-or (has old x y) (sees_test mode walls lamps sight eye x y) (λ h. h, λ h. h) (sees_test_tells mode walls lamps sight eye x y) in
+      let cell : has new x y ≡ (has old x y || sees_test mode walls lamps sight eye x y) =
+      ap (λ (s : Cells). has s x y) e ∙ has-cells_where old.extent (λ x y. has old x y || sees_test mode walls lamps sight eye x y) x y hx hy in
+      rw cell told;
+}

@@ -1,9 +1,10 @@
 -- What a token sees of a map that is shown.
-use Rattle.std.specs.Prelude.{ℕ, ◌≤◌, ◌*◌, ◌⊎◌, ⊤, Bool, true, ◌&&◌, ◌||◌, List, Any}
+use Rattle.std.specs.Prelude.{ℕ, ◌≡◌, ◌<◌, ◌≤◌, ◌*◌, ◌⊎◌, ◌↔◌, ⊤, IsTrue, Bool, true, ◌&&◌, ◌||◌, List, Any}
 use Rattle.std.specs.List.{list_any}
 use Rattle.names.specs.declared.kinds.Mode.{Mode}
 use Rattle.names.specs.declared.kinds.Mode.TheVariants.{Off, Day, Night}
 use Rattle.lattice.specs.Coordinates.{Coordinates, centre_of, squared_distance, within_test}
+use Rattle.cells.specs.Cells.{Cells, has, cells_where}
 use Rattle.topology.specs.WallLists.{WallLists}
 use Rattle.topology.specs.Sight.{IsClear, IsInReach, clear_test, reach_test}
 use Rattle.sight_types.specs.declared.Sight.{Sight}
@@ -38,3 +39,18 @@ sees_test Day walls lamps sight eye x y = clear_test walls eye x y && reach_test
 sees_test Night walls lamps sight eye x y =
     clear_test walls eye x y
     && (reach_test eye x y sight.range && (reach_test eye x y sight.night || lit_test walls lamps sight.mult x y))
+
+-- the tests hold exactly where the relations do
+pub record AreTold (mode : Mode) (lamps : List Lamp) (sight : Sight) (eye : Coordinates) : Type 0 where
+  pub lit : (walls : WallLists) (x y : ℕ) → IsTrue (lit_test walls lamps sight.mult x y) ↔ IsLit walls lamps sight.mult x y
+  pub seen : (walls : WallLists) (x y : ℕ) → IsTrue (sees_test mode walls lamps sight eye x y) ↔ IsSeen mode walls lamps sight eye x y
+
+-- the set with the cells of the map at which f holds
+abbrev pub with_cells : Cells → (ℕ → ℕ → Bool) → Cells
+with_cells set f = cells_where set.extent (λ x y. has set x y || f x y)
+
+-- the new set has just the cells of the old one and those that the token sees
+pub record AddsSeen (mode : Mode) (walls : WallLists) (lamps : List Lamp) (sight : Sight) (eye : Coordinates) (old new : Cells) : Type 0 where
+  pub map : new.extent ≡ old.extent
+  pub cells : (x y : ℕ) → x < old.extent.w → y < old.extent.h
+      → IsTrue (has new x y) ↔ (IsTrue (has old x y) ⊎ IsSeen mode walls lamps sight eye x y)
