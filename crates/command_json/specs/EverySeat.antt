@@ -3,12 +3,13 @@ use Rattle.std.specs.Prelude.{[], ◌∷◌, Result, codes}
 use Rattle.serde_json.specs.Data.{Data}
 use Rattle.json_fields.specs.Kinds.{whole_from, text_from, tag_from, id_from, class_from, or_null}
 use Rattle.json_fields.specs.Objects.{◌>>=◌}
+use Rattle.chat.specs.declared.to.To.TheVariants.{All}
 use Rattle.command_json.specs.declared.command.Command.{Command}
 use Rattle.command_json.specs.declared.command.Command.TheVariants as C
 use Rattle.command_json.specs.declared.command.LineFault.{LineFault}
 use Rattle.command_json.specs.declared.verbs.Verb.{Verb}
 use Rattle.command_json.specs.declared.verbs.Verb.TheVariants as V
-use Rattle.command_json.specs.Fields.{field, place_from, path_from, only}
+use Rattle.command_json.specs.Fields.{field, field_else, place_from, path_from, to_from, only}
 
 unfoldable pub hello_in : Data → Result Command LineFault
 hello_in d = do
@@ -25,7 +26,14 @@ look_in d = only [] d C.Look
 unfoldable pub say_in : Data → Result Command LineFault
 say_in d = do
   text ← field (codes "text") (text_from 1 1000) d
-  only (codes "text" ∷ []) d (C.Say text)
+  to ← field_else All (codes "to") to_from d
+  only (codes "text" ∷ codes "to" ∷ []) d (C.Say text to)
+
+unfoldable pub roll_in : Data → Result Command LineFault
+roll_in d = do
+  dice ← field (codes "dice") (text_from 1 200) d
+  to ← field_else All (codes "to") to_from d
+  only (codes "dice" ∷ codes "to" ∷ []) d (C.Roll dice to)
 
 unfoldable pub move_in : Data → Result Command LineFault
 move_in d = do
@@ -66,6 +74,7 @@ fields_in d V.Hello = hello_in d
 fields_in d V.Bye = bye_in d
 fields_in d V.Look = look_in d
 fields_in d V.Say = say_in d
+fields_in d V.Roll = roll_in d
 fields_in d V.Move = move_in d
 fields_in d V.Setprop = setprop_in d
 fields_in d V.Light = light_in d

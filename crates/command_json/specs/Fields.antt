@@ -1,12 +1,14 @@
 -- The fields of a command, and the kinds of value that only commands have.
 use Rattle.std.specs.Prelude.{ℕ, ◌||◌, ◌==◌, ℤ, pos, negsuc, List, [], ◌∷◌, Option, Some, None, option_and_then, option_map, Result, if◌then◌else◌, codes}
 use Rattle.std.specs.Char.{is_ascii_lowercase}
-use Rattle.std.specs.Option.{option_zip}
+use Rattle.std.specs.Option.{option_or, option_zip}
 use Rattle.serde_json.specs.Data.{Data, Items, no_items, item}
 use Rattle.serde_json.specs.Find.{as_str}
 use Rattle.json_fields.specs.Fields.{field_in, field_or, unknown_in}
-use Rattle.json_fields.specs.Kinds.{integer_from, pair_from, rectangle_from, list_from}
+use Rattle.json_fields.specs.Kinds.{integer_from, whole_from, word_from, pair_from, rectangle_from, list_from}
 use Rattle.json_fields.specs.Objects.{needed, unless_unknown}
+use Rattle.chat.specs.declared.to.To.{To}
+use Rattle.chat.specs.declared.to.To.TheVariants.{SelfOnly, Gm, GmSelf, All, Seat}
 use Rattle.command_json.specs.declared.command.Command.{Command}
 use Rattle.command_json.specs.declared.command.LineFault.{LineFault}
 use Rattle.command_json.specs.declared.command.LineFault.TheVariants.{BadField}
@@ -24,6 +26,14 @@ abbrev pub only : List (List ℕ) → Data → Command → Result Command LineFa
 only keys d command = unless_unknown BadField (unknown_in (codes "do" ∷ keys) d) command
 
 -- ---- kinds
+
+-- the words of addresses
+abbrev pub to_words : List (List ℕ × To)
+to_words = (codes "self", SelfOnly) ∷ (codes "gm", Gm) ∷ (codes "gmself", GmSelf) ∷ (codes "all", All) ∷ []
+
+-- a word, or the number of a seat
+unfoldable pub to_from : Data → Option To
+to_from d = option_or (word_from to_words d) (option_map Seat (whole_from 0 32 d))
 
 -- a whole number from least to most
 abbrev pub number_from : ℕ → ℕ → Data → Option ℤ

@@ -12,6 +12,7 @@ verbs =
     (codes "bye", V.Bye) ∷
     (codes "look", V.Look) ∷
     (codes "say", V.Say) ∷
+    (codes "roll", V.Roll) ∷
     (codes "move", V.Move) ∷
     (codes "setprop", V.Setprop) ∷
     (codes "light", V.Light) ∷

@@ -2,6 +2,7 @@
 ghost use Rattle.std.specs.Prelude.{◌≡◌};
 ghost use Rattle.command_json.specs.declared.command.LineFault.TheVariants.{Memory as no_memory};
 
+use chat::To;
 use names::{Layer, Memory, Mode, PropClass, SeatNo, Tag, Text, TokenId, WallKind};
 use std::marker::Model;
 
@@ -19,9 +20,15 @@ pub enum Command {
     Bye,
     /// Asks for the whole view.
     Look,
-    /// Sends a text of 1 to 1,000 bytes to every seat.
+    /// Sends a text of 1 to 1,000 bytes.
     Say {
         text: Text,
+        to: To,
+    },
+    /// Rolls dice, told by a text of 1 to 200 bytes, and sends the total.
+    Roll {
+        dice: Text,
+        to: To,
     },
     /// Moves the token along a path of 1 to 64 cells.
     Move {

@@ -2,7 +2,7 @@
 ghost use Rattle.serde_json.specs.View.{view};
 ghost use Rattle.json_fields.specs.Objects.{Gives};
 ghost use Rattle.command_json.specs.Faults.{Fails};
-ghost use Rattle.command_json.specs.EverySeat.{hello_in, bye_in, look_in, say_in, move_in, setprop_in, light_in, make_in, remove_in, fields_in};
+ghost use Rattle.command_json.specs.EverySeat.{hello_in, bye_in, look_in, say_in, roll_in, move_in, setprop_in, light_in, make_in, remove_in, fields_in};
 
 use crate::command::{Command, LineFault};
 use crate::fields;
@@ -43,7 +43,27 @@ fn say_of(alloc: Global, object: &Value) -> Result<Command, LineFault>
     ensures { Gives Fails (λ c. c) result (say_in (view object.now)) }
 {
     let text = fields::text(alloc, object, "text", 1, 1000)?;
-    fields::only(alloc, object, &["do", "text"], Command::Say { text })
+    let to = fields::to(alloc, object, "to")?;
+    fields::only(
+        alloc,
+        object,
+        &["do", "text", "to"],
+        Command::Say { text, to },
+    )
+}
+
+#[tactic(auto, unfolding(crate::specs::EverySeat::roll_in))]
+fn roll_of(alloc: Global, object: &Value) -> Result<Command, LineFault>
+    ensures { Gives Fails (λ c. c) result (roll_in (view object.now)) }
+{
+    let dice = fields::text(alloc, object, "dice", 1, 200)?;
+    let to = fields::to(alloc, object, "to")?;
+    fields::only(
+        alloc,
+        object,
+        &["do", "dice", "to"],
+        Command::Roll { dice, to },
+    )
 }
 
 #[tactic(auto, unfolding(crate::specs::EverySeat::move_in))]
@@ -134,6 +154,7 @@ pub(crate) fn read_fields(alloc: Global, object: &Value, verb: Verb) -> Result<C
         Verb::Bye => bye_of(alloc, object),
         Verb::Look => look_of(alloc, object),
         Verb::Say => say_of(alloc, object),
+        Verb::Roll => roll_of(alloc, object),
         Verb::Move => move_of(alloc, object),
         Verb::Setprop => setprop_of(alloc, object),
         Verb::Light => light_of(alloc, object),

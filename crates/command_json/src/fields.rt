@@ -2,15 +2,17 @@
 //! value is of another kind, the fault names the key.
 ghost use Rattle.std.specs.Prelude.{◌≡◌, ◌∷◌, codes, map, option_map, IfOk};
 ghost use Rattle.serde_json.specs.View.{view, items_view};
+ghost use Rattle.chat.specs.declared.to.To.TheVariants.{All, Seat};
 ghost use Rattle.serde_json.specs.Find.{as_bool};
 ghost use Rattle.json_fields.specs.Fields.{field_in, unknown_in};
-ghost use Rattle.json_fields.specs.Kinds.{integer_from, whole_from, text_from, tag_from, id_from, mode_from, layer_from, wall_kind_from, class_from, or_null};
+ghost use Rattle.json_fields.specs.Kinds.{integer_from, whole_from, text_from, tag_from, id_from, mode_from, layer_from, wall_kind_from, class_from, word_from, or_null};
 ghost use Rattle.json_fields.specs.Objects.{Gives, needed, unless_unknown};
 ghost use Rattle.command_json.specs.declared.command.LineFault.TheVariants.{BadField};
 ghost use Rattle.command_json.specs.Faults.{Fails};
-ghost use Rattle.command_json.specs.Fields.{field as field_lem, field_else, place_from, places_from, path_from, rect_from, letter_of as letter_of_lem, letter_from};
+ghost use Rattle.command_json.specs.Fields.{field as field_lem, field_else, place_from, places_from, path_from, rect_from, letter_of as letter_of_lem, letter_from, to_words, to_from};
 
 use crate::command::{CellPath, Command, LineFault};
+use chat::To;
 use json_fields::{fields, kinds};
 use names::{Layer, Memory, Mode, PropClass, SeatNo, Tag, Text, TokenId, WallKind};
 use serde_json::Value;
@@ -225,6 +227,42 @@ fn letter_of(text: &[u8]) -> Option<u8>
         [letter] if letter.is_ascii_lowercase() || *letter == b'.' => Some(*letter),
         _ => None,
     }
+}
+
+/// An address, or every seat where the key is missing.
+pub(crate) fn to(alloc: Global, value: &Value, key: &str) -> Result<To, LineFault>
+    ensures { Gives Fails (λ to. to) result (field_else All key.now to_from (view value.now)) }
+{
+    match value.get(key) {
+        Some(field) => found(alloc, key, to_of(field)),
+        None => Ok(To::All),
+    }
+}
+
+#[tactic(auto, unfolding(crate::specs::Fields::to_from))]
+fn to_of(value: &Value) -> Option<To>
+    ensures { result ≡ to_from (view value.now) }
+{
+    to_word(value).or(to_seat(value))
+}
+
+fn to_word(value: &Value) -> Option<To>
+    ensures { result ≡ word_from to_words (view value.now) }
+{
+    let table = [
+        ("self", To::SelfOnly),
+        ("gm", To::Gm),
+        ("gmself", To::GmSelf),
+        ("all", To::All),
+    ];
+    kinds::word(value, &table)
+}
+
+fn to_seat(value: &Value) -> Option<To>
+    ensures { result ≡ option_map Seat (whole_from 0 32 (view value.now)) }
+{
+    let number = kinds::whole_u8(value, 0, 32)?;
+    Some(To::Seat(SeatNo::new(number)?))
 }
 
 /// A path of 1 to 64 cells.
