@@ -192,6 +192,17 @@ IsScene-with_sight s name sight is = record {
   fog = is.fog;
 }
 
+-- other types, as the code writes them
+pub IsScene-lights_if_ok : {E : Type 0} (result : Result (Unit {0}) E) (s : Scene) (name : List ℕ) (radius : ℕ) (new : List (List ℕ × ℕ)) → OnOk result (new ≡ with_type name radius s.lights) → OnErr result (new ≡ s.lights)
+    → IsScene s → IsScene (record s { lights = new })
+IsScene-lights_if_ok (Ok _) s name radius new done same is = subst (λ ts. IsScene (record s { lights = ts })) (sym done) (IsScene-with_light s name radius is)
+IsScene-lights_if_ok (Err _) s name radius new done same is = subst (λ ts. IsScene (record s { lights = ts })) (sym same) is
+
+pub IsScene-sights_if_ok : {E : Type 0} (result : Result (Unit {0}) E) (s : Scene) (name : List ℕ) (sight : Sight) (new : List (List ℕ × Sight)) → OnOk result (new ≡ with_type name sight s.sights) → OnErr result (new ≡ s.sights)
+    → IsScene s → IsScene (record s { sights = new })
+IsScene-sights_if_ok (Ok _) s name sight new done same is = subst (λ ts. IsScene (record s { sights = ts })) (sym done) (IsScene-with_sight s name sight is)
+IsScene-sights_if_ok (Err _) s name sight new done same is = subst (λ ts. IsScene (record s { sights = ts })) (sym same) is
+
 -- ---- fog
 
 -- another fog, as the code writes it

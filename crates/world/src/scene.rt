@@ -1,21 +1,24 @@
 //! All of a campaign but its seats' books.
-ghost use Rattle.std.specs.Prelude.{◌≡◌, ◌≤◌, ◌↔◌, IsTrue, true, false, length, Err, Some, IfOk, IfErr, IfSome, OnOk, OnErr};
+ghost use Rattle.std.specs.Prelude.{◌≡◌, ◌≤◌, ◌↔◌, IsTrue, true, false, length, Err, Some, None, IfOk, IfErr, IfSome, OnOk, OnErr};
 ghost use Rattle.cells.specs.Cells.{IsToldByCells};
 ghost use Rattle.fog_book.specs.Exposures.{ChangesOnly, joined, with_change};
 ghost use Rattle.fog_book.specs.Rects.{with_rect};
+ghost use Rattle.lights.specs.Lights.{IsFaultOf as IsLightFaultOf, light_fault};
 ghost use Rattle.maps.specs.Maps.{has_map};
+ghost use Rattle.sight_types.specs.Sights.{IsFaultOf as IsSightFaultOf, sight_fault};
 ghost use Rattle.tokens.specs.Properties.{is_full_for, value_limit};
 ghost use Rattle.tokens.specs.Tokens.{has_token, on_layer, owned_by, placed, props_of, put, shown_if, token_of, with_light, with_prop, with_sight, without};
 ghost use Rattle.tokens.specs.declared.props.PropFault.TheVariants.{PropertyLimit};
+ghost use Rattle.type_table.specs.Types.{with_type};
 ghost use Rattle.world.specs.Rules.{IsScene, belongs, fits_on, is_known, is_player, size_of};
 ghost use Rattle.world.specs.Scene.{bare, with_token};
 
 use cells::{Cell, CellSet, Rect};
 use fog_book::FogBook;
-use lights::LightTable;
+use lights::{LightFault, LightTable};
 use maps::MapTable;
 use names::{Layer, Memory, PropClass, SeatNo, Tag, Text, TokenId};
-use sight_types::SightTable;
+use sight_types::{SightFault, SightTable};
 use std::alloc::Global;
 use std::marker::Model;
 use tokens::{PropFault, Token, TokenTable};
@@ -97,6 +100,49 @@ impl Scene {
             sights: SightTable::new(alloc),
             fog: FogBook::open(alloc, players)?,
         })
+    }
+
+    /// An equal scene, or `Memory` for want of memory.
+    pub fn copy(&self) -> Result<Scene, Memory>
+        ensures { IfOk result (λ scene. scene ≡ self.now) }
+    {
+        Ok(Scene {
+            maps: self.maps.copy()?,
+            tokens: self.tokens.copy()?,
+            lights: self.lights.copy()?,
+            sights: self.sights.copy()?,
+            fog: self.fog.copy()?,
+        })
+    }
+
+    /// Adds the light type with this name, or changes its radius. All else stays.
+    ///
+    /// The checks are made in the order of `LightFault`; after a fault the scene is as before.
+    pub fn set_light_type(&mut self, name: Tag, radius: u32) -> Result<(), LightFault>
+        ensures set { OnOk result (self.new ≡ record self.old { lights = with_type name radius self.old.lights }) }
+        ensures ok { OnOk result (light_fault self.old.lights name radius ≡ None) }
+        ensures fault { IfErr result (IsLightFaultOf (light_fault self.old.lights name radius)) }
+        ensures unchanged { OnErr result (self.new ≡ self.old) }
+    {
+        self.lights.set(name, radius)
+    }
+
+    /// Adds the sight type with this name, or changes its sight. All else stays.
+    ///
+    /// The checks are made in the order of `SightFault`; after a fault the scene is as before.
+    pub fn set_sight_type(
+        &mut self,
+        name: Tag,
+        range: u32,
+        night: u32,
+        mult: u32,
+    ) -> Result<(), SightFault>
+        ensures set { OnOk result (self.new ≡ record self.old { sights = with_type name (record { range = range; night = night; mult = mult }) self.old.sights }) }
+        ensures ok { OnOk result (sight_fault self.old.sights name range night mult ≡ None) }
+        ensures fault { IfErr result (IsSightFaultOf (sight_fault self.old.sights name range night mult)) }
+        ensures unchanged { OnErr result (self.new ≡ self.old) }
+    {
+        self.sights.set(name, range, night, mult)
     }
 
     /// Puts a token in its place. Its id isn't there, and it belongs to the scene: its square is on a map that is there,

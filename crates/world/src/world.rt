@@ -38,6 +38,15 @@ impl World {
         Ok(World { scene, seats })
     }
 
+    /// An equal world, or `Memory` for want of memory.
+    pub fn copy(&self) -> Result<World, Memory>
+        ensures { IfOk result (λ world. world ≡ self.now) }
+    {
+        let seats = copied(&self.seats)?;
+        let scene = self.scene.copy()?;
+        Ok(World { scene, seats })
+    }
+
     /// A world of a scene and its seats' books.
     pub fn from_parts(scene: Scene, seats: Vec<SeatBook>) -> World
         requires { IsWorld (record { scene = scene; books = seats.items }) }
@@ -86,5 +95,24 @@ impl World {
         ensures number { result.now.seat ≡ seat }
     {
         &self.seats[seat.number() as usize]
+    }
+}
+
+fn copied(books: &Vec<SeatBook>) -> Result<Vec<SeatBook>, Memory>
+    ensures { IfOk result (λ copy. copy.items ≡ books.now.items) }
+{
+    let mut copy = Vec::new(*books.allocator());
+    for book in books {
+        push(&mut copy, book.copy()?)?;
+    }
+    Ok(copy)
+}
+
+fn push(books: &mut Vec<SeatBook>, book: SeatBook) -> Result<(), Memory>
+    ensures { OnOk result (books.new.items ≡ books.old.items ++ book ∷ []) }
+{
+    match books.push(book) {
+        Ok(()) => Ok(()),
+        Err(_) => Err(Memory),
     }
 }
