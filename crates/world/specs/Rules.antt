@@ -1,5 +1,5 @@
 -- What fits together in a scene.
-use Rattle.std.specs.Prelude.{◌≡◌, ◌≤◌, ℕ, ◌+◌, ◌&&◌, Bool, IsTrue, true, false, nat_le, List, Option, Some, None, option_map, is_some}
+use Rattle.std.specs.Prelude.{◌≡◌, ℕ, ◌+◌, ◌&&◌, Bool, IsTrue, true, false, nat_le, List, Option, Some, None, option_map, is_some}
 use Rattle.std.specs.List.{list_all}
 use Rattle.cells.specs.Cells.{Extent, Cells, IsToldByCells}
 use Rattle.cells.specs.declared.cell.Cell.{Cell}
