@@ -2,17 +2,16 @@
 ghost use Rattle.std.specs.Prelude.{◌≡◌, ◌==◌, None, Some, IfOk};
 ghost use Rattle.player_view.specs.Fields.{HasFields};
 ghost use Rattle.campaign_law.specs.Outcome.{seat_of};
-ghost use Rattle.campaign_law.specs.Settle.{IsSettled};
+ghost use Rattle.command_rules.specs.Settle.{IsSettled};
 ghost use Rattle.campaign_law.specs.World.{outcome_of, steps_of, scene_after};
 ghost use Rattle.campaign_law.specs.State.{world_in, state_after};
 ghost use Rattle.campaign_core.specs.Changed.{IsChanged, scene_in};
 
-use crate::effects::scene_by;
 use crate::outcome::{Outcome, own_seat};
 use crate::queues::{Glances, next_posts};
-use crate::settle::settle;
 use crate::state::{Post, State};
 use campaign_law::Entry;
+use command_rules::{scene_by, settle};
 use names::Memory;
 use player_view::fields_of;
 use std::alloc::Global;

@@ -7,11 +7,10 @@ ghost use Rattle.campaign_law.specs.Outcome.{nothing as nothing_lem, refused_dir
 ghost use Rattle.campaign_law.specs.World.{asked_of, steps_of as steps_of_lem, outcome_of};
 ghost use Rattle.campaign_law.specs.State.{world_in};
 
-use crate::effects::steps_by;
-use crate::rules::rule_of;
 use crate::state::State;
 use crate::texts::{hello_line, message_line, moved_line, ok_line, refusal_line};
-use campaign_law::{Entry, Refusal};
+use campaign_law::Entry;
+use command_rules::{Refusal, rule_of, steps_by};
 use command_json::{Command, LineFault, read_line};
 use names::{LineText, Memory, SeatNo};
 use seats::{JoinRefusal, SeatBook};

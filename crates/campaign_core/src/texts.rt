@@ -3,7 +3,7 @@ ghost use Rattle.std.specs.Prelude.{◌≡◌, codes, IfOk};
 ghost use Rattle.serde_json.specs.View.{view};
 ghost use Rattle.campaign_law.specs.Texts.{hello_tree, hello_line as hello_text, ok_tree, ok_line as ok_text, moved_tree, moved_line as moved_text, refusal_number, refusal_name, refusal_tree, refusal_line as refusal_text, message_tree, message_line as message_text};
 
-use campaign_law::Refusal;
+use command_rules::Refusal;
 use json_fields::compact_line;
 use names::{LineText, Memory, SeatNo};
 use serde_json::{Value, json};

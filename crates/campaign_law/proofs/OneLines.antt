@@ -1,6 +1,6 @@
 -- No line that is sent holds an LF.
 use Rattle.std.proofs.Common.{ℕ, Bool, true, false, cond, ◌&&◌, eqb, List, [], ◌∷◌, ◌++◌, Some, None}
-use Rattle.std.specs.Prelude.{Option, option_map, Result, Ok, Err}
+use Rattle.std.specs.Prelude.{Option, option_map, map, filter, Result, Ok, Err}
 use Rattle.std.specs.List.{AllByRecursion}
 use Rattle.seats.specs.Book.{Book, join_refusal}
 use Rattle.seats.specs.SeatState.{is_joined}
@@ -10,23 +10,24 @@ use Rattle.json_fields.proofs.OneLine.{IsOneLine-compact_text}
 use Rattle.campaign_law.specs.declared.entry.Entry.{Entry}
 use Rattle.campaign_law.specs.declared.entry.Entry.TheVariants.{Join, Line, Taken}
 use Rattle.command_json.specs.declared.command.Command.{Command}
-use Rattle.command_json.specs.declared.command.Command.TheVariants.{Hello, Bye, Look, Say, Move}
+use Rattle.chat.specs.declared.to.To.{To}
+use Rattle.chat.proofs.OneLines.{message_is_one_line}
 use Rattle.command_json.specs.declared.command.LineFault.{LineFault}
-use Rattle.campaign_law.specs.declared.refusal.Refusal.{Refusal}
-use Rattle.campaign_law.specs.declared.refusal.Refusal.TheVariants.{NoHello, BadKey}
+use Rattle.command_rules.specs.declared.refusal.Refusal.{Refusal}
+use Rattle.command_rules.specs.declared.refusal.Refusal.TheVariants.{NoHello, BadKey}
 use Rattle.player_view.specs.Asked.{Asked}
 use Rattle.command_json.specs.Commands.{command_of}
-use Rattle.campaign_law.specs.Texts.{hello_line, hello_tree, ok_line, ok_tree, moved_line, moved_tree, refusal_line, refusal_tree, message_line, message_tree}
+use Rattle.campaign_law.specs.Texts.{hello_line, hello_tree, ok_line, ok_tree, moved_line, moved_tree, refusal_line, refusal_tree}
 use Rattle.view_change.specs.declared.view.View.{View}
 use Rattle.view_change.specs.Change.{change_of}
 use Rattle.view_change.specs.declared.change.Change.{Change}
 use Rattle.view_change.specs.Lines.{full_line, full_tree, change_tree, change_line as line_of}
 use Rattle.player_view.specs.View.{view_of}
 use Rattle.campaign_law.specs.Views.{change_line}
-use Rattle.campaign_law.specs.Rules.{rule_of}
+use Rattle.command_rules.specs.Rules.{rule_of}
 use Rattle.campaign_law.specs.Seat.{Seat}
-use Rattle.campaign_law.specs.Outcome.{Outcome, refused_direct, refused_line, refusal_of_join, count_if_joined, join_outcome, reply_line, messages_by, decided, read_outcome, outcome_at, seat_of}
-use Rattle.campaign_law.specs.World.{World, addressed, view_lines, some_to_list, entry_lines, is_present, lines_of, step, scene_after, outcome_of, steps_of, asked_of, seat_at, sent}
+use Rattle.campaign_law.specs.Outcome.{Outcome, refused_direct, refused_line, refusal_of_join, count_if_joined, join_outcome, is_move, said, reply_name, reply_line, Message, message_by, decided, read_outcome, outcome_at, seat_of}
+use Rattle.campaign_law.specs.World.{World, addressed, is_to, view_lines, some_to_list, entry_lines, is_present, lines_of, step, scene_after, outcome_of, steps_of, asked_of, seat_at, sent}
 
 abbrev pub AreOneLine : List (List ℕ) → Type 0
 AreOneLine lines = AllByRecursion IsOneLine lines
@@ -53,10 +54,6 @@ refusal_one : (n : ℕ) (r : Refusal) → IsOneLine (refusal_line n r)
 unfolding refusal_line
 refusal_one n r = IsOneLine-compact_text (refusal_tree n r)
 
-message_one : (from : ℕ) (text : List ℕ) → IsOneLine (message_line from text)
-unfolding message_line
-message_one from text = IsOneLine-compact_text (message_tree from text)
-
 full_one : (v : View) → IsOneLine (full_line v)
 unfolding full_line
 full_one v = IsOneLine-compact_text (full_tree v)
@@ -77,15 +74,23 @@ view_one : (full : Bool) (v v' : View) → AreOneLine (view_lines full v v')
 view_one true v v' = (full_one v', tt)
 view_one false v v' = change_one v v'
 
-addressed_one : (seat : ℕ) (messages : List (List ℕ)) → AreOneLine messages → AreOneLine (addressed seat messages)
+abbrev SayOneLine : List Message → Type 0
+SayOneLine messages = AllByRecursion (λ message. IsOneLine message.line) messages
+
+addressed_one : (seat : ℕ) (messages : List Message) → SayOneLine messages → AreOneLine (addressed seat messages)
 unfolding addressed
-addressed_one seat messages h = h
+addressed_one seat [] h = tt
+addressed_one seat (m ∷ ms) h = by (is_to seat m) (addressed_one seat ms h.1)
+  where
+    by : (b : Bool) → AreOneLine (map (λ message. message.line) (filter (is_to seat) ms)) → AreOneLine (map (λ message. message.line) (cond b (m ∷ filter (is_to seat) ms) (filter (is_to seat) ms)))
+    by true rest = (h.0, rest)
+    by false rest = rest
 
 -- ---- outcomes
 
 record SendsOneLine (o : Outcome) : Type 0 where
   reply : AreOneLine o.reply
-  messages : AreOneLine o.messages
+  messages : SayOneLine o.messages
 
 direct_one : (n : ℕ) (r : Refusal) → SendsOneLine (refused_direct n r)
 direct_one n r = record { reply = (refusal_one n r, tt); messages = tt }
@@ -97,28 +102,24 @@ join_one : (asked : Asked) (b : Book) (reader writer : ℕ) (r : Option JoinRefu
 join_one asked b reader writer (Some r) = direct_one (count_if_joined b) (refusal_of_join r)
 join_one asked b reader writer None = record { reply = (hello_one _ b.seat asked.seats, tt); messages = tt }
 
--- a line for each command
 reply_one : (steps n : ℕ) (c : Command) → IsOneLine (reply_line steps n c)
-reply_one steps n (Hello named key) = ok_one n _
-reply_one steps n Bye = ok_one n _
-reply_one steps n Look = ok_one n _
-reply_one steps n (Say text) = ok_one n _
-reply_one steps n (Move token path) = moved_one n steps
+reply_one steps n c = by (is_move c)
+  where
+    by : (b : Bool) → IsOneLine (cond b (moved_line n steps) (ok_line n (reply_name c)))
+    by true = moved_one n steps
+    by false = ok_one n (reply_name c)
 
-messages_one : (seat : ℕ) (c : Command) → AreOneLine (messages_by seat c)
-messages_one seat (Hello named key) = tt
-messages_one seat Bye = tt
-messages_one seat Look = tt
-messages_one seat (Say text) = (message_one seat text, tt)
-messages_one seat (Move token path) = tt
+messages_one : (seat : ℕ) (words : Option (To × List ℕ)) → SayOneLine (message_by seat words)
+messages_one seat None = tt
+messages_one seat (Some words) = (message_is_one_line seat words.0 words.1, tt)
 
 decided_one : (steps : ℕ) (b : Book) (c : Command) (r : Option Refusal) → SendsOneLine (decided steps b c r)
 decided_one steps b c (Some r) = refused_one b r
-decided_one steps b c None = record { reply = (reply_one steps _ c, tt); messages = messages_one b.seat c }
+decided_one steps b c None = record { reply = (reply_one steps _ c, tt); messages = messages_one b.seat (said c) }
 
 read_one : (asked : Asked) (steps : ℕ) (b : Book) (r : Result Command LineFault) → SendsOneLine (read_outcome asked steps b r)
 read_one asked steps b (Err fault) = refused_one b _
-read_one asked steps b (Ok c) = decided_one steps b c (rule_of asked b.seat c)
+read_one asked steps b (Ok c) = decided_one steps b c (rule_of asked b.seat b.tags c)
 
 line_one : (asked : Asked) (steps : ℕ) (b : Book) (bytes : List ℕ) (j : Bool) → SendsOneLine (cond j (read_outcome asked steps b (command_of bytes (eqb b.seat 0))) (refused_direct 0 NoHello))
 line_one asked steps b bytes true = read_one asked steps b (command_of bytes (eqb b.seat 0))

@@ -2,20 +2,19 @@
 use Rattle.std.proofs.Common.{◌≡◌, ℕ, ◌<◌, ◌≤◌, Bool, true, false, cond, ◌||◌, eqb, List, length, Some, None, refl, sym, ◌∙◌, ap, arith, ◌⊎◌, inl, inr}
 use Rattle.std.specs.Prelude.{option_map, Option, unwrap_or, Result, Ok, Err}
 use Rattle.seats.specs.declared.seat_state.JoinRefusal.{JoinRefusal}
-use Rattle.seats.specs.Book.{Book, counted, blank_book, join_refusal}
+use Rattle.seats.specs.Book.{Book, left, counted, blank_book, join_refusal}
 use Rattle.seats.specs.SeatState.{is_joined}
 use Rattle.campaign_law.specs.declared.entry.Entry.{Entry}
 use Rattle.campaign_law.specs.declared.entry.Entry.TheVariants.{Join, Line, Taken}
 use Rattle.command_json.specs.declared.command.Command.{Command}
-use Rattle.command_json.specs.declared.command.Command.TheVariants.{Hello, Bye, Look, Say, Move}
 use Rattle.command_json.specs.declared.command.LineFault.{LineFault}
-use Rattle.campaign_law.specs.declared.refusal.Refusal.{Refusal}
-use Rattle.campaign_law.specs.declared.refusal.Refusal.TheVariants.{NoHello}
+use Rattle.command_rules.specs.declared.refusal.Refusal.{Refusal}
+use Rattle.command_rules.specs.declared.refusal.Refusal.TheVariants.{NoHello}
 use Rattle.player_view.specs.Asked.{Asked}
 use Rattle.command_json.specs.Commands.{command_of}
 use Rattle.campaign_law.specs.Seat.{Seat, blank_seat, was_joined}
-use Rattle.campaign_law.specs.Outcome.{Outcome, nothing, outcome_at, join_outcome, read_outcome, book_done, accepted, decided, refused_direct, refused_line, refusal_of_join, blank_entry, seat_of}
-use Rattle.campaign_law.specs.Rules.{rule_of}
+use Rattle.campaign_law.specs.Outcome.{Outcome, nothing, outcome_at, join_outcome, read_outcome, is_bye, tag_made, using_tag, book_done, accepted, decided, refused_direct, refused_line, refusal_of_join, blank_entry, seat_of}
+use Rattle.command_rules.specs.Rules.{rule_of}
 use Rattle.campaign_law.specs.World.{changed, is_present, queued_reply}
 use Rattle.seats.proofs.Books.{is_joined-blank, counted-blank, joined-blank, left-blank, join_refusal-blank}
 
@@ -31,13 +30,16 @@ join_outcome-blank asked b reader writer (Some refusal) = ap (λ j. refused_dire
 refused_line-blank : (b : Book) (r : Refusal) → refused_line (blank_book b) r ≡ blank_outcome (refused_line b r)
 refused_line-blank b r = ap (λ c. record (refused_line b r) { book = Some c }) (counted-blank b)
 
--- a line for each command
+using_tag-blank : (tag : Option (List ℕ)) (b : Book) → using_tag tag (blank_book b) ≡ blank_book (using_tag tag b)
+using_tag-blank None b = refl
+using_tag-blank (Some tag) b = refl
+
+left_if-blank : (leaves : Bool) (b : Book) → cond leaves (left (blank_book b)) (blank_book b) ≡ blank_book (cond leaves (left b) b)
+left_if-blank true b = left-blank b
+left_if-blank false b = refl
+
 book_done-blank : (c : Command) (b : Book) → book_done c (blank_book b) ≡ blank_book (book_done c b)
-book_done-blank (Hello named key) b = refl
-book_done-blank Bye b = left-blank b
-book_done-blank Look b = refl
-book_done-blank (Say text) b = refl
-book_done-blank (Move token path) b = refl
+book_done-blank c b = ap (λ used. cond (is_bye c) (left used) used) (using_tag-blank (tag_made c) b) ∙ left_if-blank (is_bye c) (using_tag (tag_made c) b)
 
 accepted-blank : (steps : ℕ) (b : Book) (c : Command) → accepted steps (blank_book b) c ≡ blank_outcome (accepted steps b c)
 accepted-blank steps b c = ap (λ x. record (accepted steps b c) { book = Some x }) (ap (book_done c) (counted-blank b) ∙ book_done-blank c (counted b))
@@ -48,7 +50,7 @@ decided-blank steps b c (Some r) = refused_line-blank b r
 
 read_outcome-blank : (asked : Asked) (steps : ℕ) (b : Book) (r : Result Command LineFault) → read_outcome asked steps (blank_book b) r ≡ blank_outcome (read_outcome asked steps b r)
 read_outcome-blank asked steps b (Err fault) = refused_line-blank b _
-read_outcome-blank asked steps b (Ok command) = decided-blank steps b command (rule_of asked b.seat command)
+read_outcome-blank asked steps b (Ok command) = decided-blank steps b command (rule_of asked b.seat b.tags command)
 
 line_if-blank : (j : Bool) (o o' : Outcome) → o' ≡ blank_outcome o → cond j o' (refused_direct 0 NoHello) ≡ blank_outcome (cond j o (refused_direct 0 NoHello))
 line_if-blank true o o' h = h
@@ -123,7 +125,7 @@ decided_fits steps s c (Some r) j = joined_fits s (refused_line s.book r) j refl
 
 read_fits : (asked : Asked) (steps : ℕ) (s : Seat) (r : Result Command LineFault) → is_joined s.book.state ≡ true → IsFit s (read_outcome asked steps s.book r)
 read_fits asked steps s (Err fault) j = joined_fits s (read_outcome asked steps s.book (Err fault)) j refl (omega arith)
-read_fits asked steps s (Ok command) j = decided_fits steps s command (rule_of asked s.book.seat command) j
+read_fits asked steps s (Ok command) j = decided_fits steps s command (rule_of asked s.book.seat s.book.tags command) j
 
 line_fits : (asked : Asked) (steps : ℕ) (s : Seat) (bytes : List ℕ) (j : Bool) → is_joined s.book.state ≡ j → IsFit s (cond j (read_outcome asked steps s.book (command_of bytes (eqb s.book.seat 0))) (refused_direct 0 NoHello))
 line_fits asked steps s bytes true e = read_fits asked steps s (command_of bytes (eqb s.book.seat 0)) e

@@ -9,15 +9,15 @@ use Rattle.campaign_law.specs.declared.entry.Entry.{Entry}
 use Rattle.campaign_law.specs.declared.entry.Entry.TheVariants.{Join, Line, Taken}
 use Rattle.command_json.specs.declared.command.Command.{Command}
 use Rattle.command_json.specs.declared.command.LineFault.{LineFault}
-use Rattle.campaign_law.specs.declared.refusal.Refusal.{Refusal}
-use Rattle.campaign_law.specs.declared.refusal.Refusal.TheVariants.{NoHello, BadKey}
+use Rattle.command_rules.specs.declared.refusal.Refusal.{Refusal}
+use Rattle.command_rules.specs.declared.refusal.Refusal.TheVariants.{NoHello, BadKey}
 use Rattle.view_change.specs.declared.view.View.{View}
 use Rattle.player_view.specs.View.{view_of}
 use Rattle.player_view.specs.Asked.{Asked}
 use Rattle.command_json.specs.Commands.{command_of}
 use Rattle.world.specs.Scene.{Scene}
-use Rattle.campaign_law.specs.Rules.{rule_of}
-use Rattle.campaign_law.specs.Settle.{IsSettled}
+use Rattle.command_rules.specs.Rules.{rule_of}
+use Rattle.command_rules.specs.Settle.{IsSettled}
 use Rattle.campaign_law.specs.Seat.{Seat, settled, taken_to}
 use Rattle.campaign_law.specs.Outcome.{Outcome, refused_direct, refused_line, refusal_of_join, count_if_joined, join_outcome, decided, read_outcome, outcome_at, seat_of}
 use Rattle.campaign_law.specs.World.{World, seat_at, addressed, view_lines, some_to_list, queued_lines, queued_reply, is_present, changed, seat_by, seat_after, replay, scene_after, outcome_of, steps_of, asked_of}
@@ -44,7 +44,7 @@ decided_refuses steps s c None h = cc
 
 read_refuses : (asked : Asked) (steps : ℕ) (s : Seat) (r : Result Command LineFault) → is_some (read_outcome asked steps s.book r).refusal ≡ true → Refuses (Some s) (read_outcome asked steps s.book r)
 read_refuses asked steps s (Err fault) h = the_line s _ refl refl
-read_refuses asked steps s (Ok c) h = decided_refuses steps s c (rule_of asked s.book.seat c) h
+read_refuses asked steps s (Ok c) h = decided_refuses steps s c (rule_of asked s.book.seat s.book.tags c) h
 
 line_refuses : (asked : Asked) (steps : ℕ) (s : Seat) (bytes : List ℕ) (j : Bool) → let o = cond j (read_outcome asked steps s.book (command_of bytes (eqb s.book.seat 0))) (refused_direct 0 NoHello) in is_some o.refusal ≡ true → Refuses (Some s) o
 line_refuses asked steps s bytes true h = read_refuses asked steps s (command_of bytes (eqb s.book.seat 0)) h

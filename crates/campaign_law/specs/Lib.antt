@@ -1,9 +1,6 @@
 pub mod Texts
 pub mod Views
 pub mod Seat
-pub mod Rules
-pub mod Effects
-pub mod Settle
 pub mod Outcome
 pub mod World
 pub mod Session

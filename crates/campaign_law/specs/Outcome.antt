@@ -1,22 +1,30 @@
 -- What an entry does to its own seat, from what it asks. A world and a player machine decide by the same definition.
 use Rattle.std.specs.Prelude.{ℕ, ◌+◌, ◌==◌, Bool, true, false, List, [], ◌∷◌, if◌then◌else◌, Option, Some, None, Result, Ok, Err, codes}
-use Rattle.seats.specs.Book.{Book, joined, left, counted, join_refusal}
+use Rattle.seats.specs.Book.{Book, joined, left, counted, join_refusal, with_tag}
 use Rattle.seats.specs.SeatState.{is_joined}
 use Rattle.seats.specs.declared.seat_state.JoinRefusal.{JoinRefusal}
 use Rattle.seats.specs.declared.seat_state.JoinRefusal.TheVariants as joins
 use Rattle.campaign_law.specs.declared.entry.Entry.{Entry}
 use Rattle.campaign_law.specs.declared.entry.Entry.TheVariants.{Join, Line, Taken}
 use Rattle.command_json.specs.declared.command.Command.{Command}
-use Rattle.command_json.specs.declared.command.Command.TheVariants.{Hello, Bye, Look, Say, Move}
+use Rattle.command_json.specs.declared.command.Command.TheVariants.{Hello, Bye, Look, Say, Roll, Move, Setprop, Light, Make, Remove, Map, Mode, Show, Terrain, Wall, Unwall, Lighttype, Sighttype, Token, Own, Layer, Visible, Sight, Place, Secret, Expose, Hide}
 use Rattle.command_json.specs.declared.command.LineFault.{LineFault}
 use Rattle.command_json.specs.declared.command.LineFault.TheVariants as faults
-use Rattle.campaign_law.specs.declared.refusal.Refusal.{Refusal}
-use Rattle.campaign_law.specs.declared.refusal.Refusal.TheVariants.{BadJson, BadCommand, GmOnly, BadField, BadKey, SeatTaken, Spent, NoHello}
+use Rattle.command_rules.specs.declared.refusal.Refusal.{Refusal}
+use Rattle.command_rules.specs.declared.refusal.Refusal.TheVariants.{BadJson, BadCommand, GmOnly, BadField, BadKey, SeatTaken, Spent, NoHello}
 use Rattle.player_view.specs.Asked.{Asked}
 use Rattle.command_json.specs.Commands.{command_of}
-use Rattle.campaign_law.specs.Rules.{rule_of}
-use Rattle.campaign_law.specs.Texts.{hello_line, ok_line, moved_line, refusal_line, message_line}
+use Rattle.command_rules.specs.Rules.{rule_of}
+use Rattle.chat.specs.declared.to.To.{To}
+use Rattle.chat.specs.Messages.{message_line}
+use Rattle.campaign_law.specs.Texts.{hello_line, ok_line, moved_line, refusal_line}
 use Rattle.campaign_law.specs.Seat.{Seat}
+
+-- a line to the seats that an address reaches
+pub record Message : Type 0 where
+  pub from : ℕ
+  pub to : To
+  pub line : List ℕ
 
 pub record Outcome : Type 0 where
   pub refusal : Option Refusal
@@ -28,8 +36,7 @@ pub record Outcome : Type 0 where
   pub reply : List (List ℕ)
   -- the reply stands in no queue
   pub direct : Bool
-  -- the lines to every seat that is present
-  pub messages : List (List ℕ)
+  pub messages : List Message
   pub joins : Bool
   -- the full line is due
   pub full : Bool
@@ -71,41 +78,80 @@ join_outcome asked b reader writer None = record nothing {
 
 -- ---- commands of a Joined seat
 
--- what an accepted command does to the book, the line being counted
+abbrev pub is_bye : Command → Bool
+is_bye Bye = true
+is_bye c = false
+
+abbrev pub is_look : Command → Bool
+is_look Look = true
+is_look c = false
+
+abbrev pub is_move : Command → Bool
+is_move (Move token path) = true
+is_move c = false
+
+-- the tag of the token that a command makes
+abbrev pub tag_made : Command → Option (List ℕ)
+tag_made (Make tag map cell name) = Some tag
+tag_made (Token tag map cell name size layer) = Some tag
+tag_made c = None
+
+-- what a command says, and to whom
+abbrev pub said : Command → Option (To × List ℕ)
+said (Say text to) = Some (to, text)
+said c = None
+
+-- the book once the tag is used
+abbrev pub using_tag : Option (List ℕ) → Book → Book
+using_tag None b = b
+using_tag (Some tag) b = with_tag b tag
+
+-- what an accepted command does to the book, the line being counted: a made token's tag is used, and a bye ends the session
 abbrev pub book_done : Command → Book → Book
-book_done (Hello named key) b = b
-book_done Bye b = left b
-book_done Look b = b
-book_done (Say text) b = b
-book_done (Move token path) b = b
+book_done c b = let used = using_tag (tag_made c) b in if is_bye c then left used else used
+
+-- the name of an accepted command in its reply
+abbrev pub reply_name : Command → List ℕ
+reply_name (Hello named key) = codes "hello"
+reply_name Bye = codes "bye"
+reply_name Look = codes "look"
+reply_name (Say text to) = codes "say"
+reply_name (Roll dice to) = codes "roll"
+reply_name (Setprop token class name value) = codes "setprop"
+reply_name (Light token light) = codes "light"
+reply_name (Make tag map cell name) = codes "make"
+reply_name (Remove token) = codes "remove"
+reply_name (Map name w h) = codes "map"
+reply_name (Mode map mode) = codes "mode"
+reply_name (Show map on) = codes "show"
+reply_name (Terrain map rect kind) = codes "terrain"
+reply_name (Wall map kind a b) = codes "wall"
+reply_name (Unwall map kind a b) = codes "unwall"
+reply_name (Lighttype name radius) = codes "lighttype"
+reply_name (Sighttype name range night mult) = codes "sighttype"
+reply_name (Token tag map cell name size layer) = codes "token"
+reply_name (Own token seat on) = codes "own"
+reply_name (Layer token layer) = codes "layer"
+reply_name (Visible token on) = codes "visible"
+reply_name (Sight token sight) = codes "sight"
+reply_name (Place token map cell) = codes "place"
+reply_name (Secret token name value) = codes "secret"
+reply_name (Expose seat map rect) = codes "expose"
+reply_name (Hide seat map rect) = codes "hide"
+reply_name (Move token path) = codes "move"
 
 abbrev pub reply_line : ℕ → ℕ → Command → List ℕ
-reply_line steps n (Hello named key) = ok_line n (codes "hello")
-reply_line steps n Bye = ok_line n (codes "bye")
-reply_line steps n Look = ok_line n (codes "look")
-reply_line steps n (Say text) = ok_line n (codes "say")
-reply_line steps n (Move token path) = moved_line n steps
+reply_line steps n c = if is_move c then moved_line n steps else ok_line n (reply_name c)
 
-abbrev pub messages_by : ℕ → Command → List (List ℕ)
-messages_by seat (Hello named key) = []
-messages_by seat Bye = []
-messages_by seat Look = []
-messages_by seat (Say text) = message_line seat text ∷ []
-messages_by seat (Move token path) = []
-
--- the command asks for the full line
-abbrev pub is_look : Command → Bool
-is_look (Hello named key) = false
-is_look Bye = false
-is_look Look = true
-is_look (Say text) = false
-is_look (Move token path) = false
+abbrev pub message_by : ℕ → Option (To × List ℕ) → List Message
+message_by seat None = []
+message_by seat (Some words) = record { from = seat; to = words.0; line = message_line seat words.0 words.1 } ∷ []
 
 abbrev pub accepted : ℕ → Book → Command → Outcome
 accepted steps b c = record nothing {
   book = Some (book_done c (counted b));
   reply = reply_line steps (b.lines + 1) c ∷ [];
-  messages = messages_by b.seat c;
+  messages = message_by b.seat (said c);
   full = is_look c;
   done = Some c;
 }
@@ -116,7 +162,7 @@ decided steps b c None = accepted steps b c
 decided steps b c (Some refusal) = refused_line b refusal
 
 abbrev pub command_outcome : Asked → ℕ → Book → Command → Outcome
-command_outcome asked steps b c = decided steps b c (rule_of asked b.seat c)
+command_outcome asked steps b c = decided steps b c (rule_of asked b.seat b.tags c)
 
 -- ---- lines
 

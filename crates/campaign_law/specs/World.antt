@@ -1,16 +1,17 @@
 -- Worlds, steps and what is sent.
-use Rattle.std.specs.Prelude.{ℕ, suc, ◌==◌, ◌&&◌, ◌||◌, Bool, List, [], ◌∷◌, ◌++◌, length, slice_get, if◌then◌else◌, Option, Some, None, unwrap_or}
+use Rattle.std.specs.Prelude.{ℕ, suc, ◌==◌, ◌&&◌, ◌||◌, Bool, List, [], ◌∷◌, ◌++◌, length, map, filter, slice_get, if◌then◌else◌, Option, Some, None, unwrap_or}
 use Rattle.campaign_law.specs.declared.entry.Entry.{Entry}
 use Rattle.view_change.specs.declared.view.View.{View}
 use Rattle.view_change.specs.Lines.{full_line}
 use Rattle.world.specs.Scene.{Scene}
 use Rattle.player_view.specs.View.{view_of}
 use Rattle.player_view.specs.Asked.{Asked, asked_of as asked_of_scene}
-use Rattle.campaign_law.specs.Effects.{steps_by, scene_by}
-use Rattle.campaign_law.specs.Settle.{settled as settled_scene}
+use Rattle.command_rules.specs.Effects.{steps_by, scene_by}
+use Rattle.command_rules.specs.Settle.{settled as settled_scene}
 use Rattle.campaign_law.specs.Views.{change_line}
 use Rattle.campaign_law.specs.Seat.{Seat, settled, taken_to, was_joined}
-use Rattle.campaign_law.specs.Outcome.{Outcome, outcome_at, seat_of}
+use Rattle.chat.specs.Addresses.{is_addressed}
+use Rattle.campaign_law.specs.Outcome.{Outcome, Message, outcome_at, seat_of}
 
 pub record World : Type 0 where
   -- by number
@@ -40,9 +41,13 @@ scene_after w e = settled_scene (scene_by (steps_of w e) (seat_of e) w.scene (ou
 abbrev pub is_present : Bool → Option Seat → Outcome → Bool
 is_present acts before o = was_joined before || (acts && o.joins)
 
--- those of the messages that are addressed to a seat: all
-unfoldable pub addressed : ℕ → List (List ℕ) → List (List ℕ)
-addressed seat messages = messages
+-- the message reaches the seat, which is one of the campaign's
+abbrev pub is_to : ℕ → Message → Bool
+is_to seat message = is_addressed message.to message.from (suc seat) seat
+
+-- the lines of the messages that reach a seat
+unfoldable pub addressed : ℕ → List Message → List (List ℕ)
+addressed seat messages = map (λ message. message.line) (filter (is_to seat) messages)
 
 abbrev pub messages_to : ℕ → Outcome → List (List ℕ)
 messages_to seat o = addressed seat o.messages

@@ -1,4 +1,4 @@
-use crate::refusal::Refusal;
+use command_rules::Refusal;
 use names::LineText;
 
 /// What an entry's caller is told.

@@ -6,11 +6,9 @@ ghost use Rattle.campaign_law.specs.Law.{SentIsMachine, AgreeingSendAlike, NoLin
 
 mod answer;
 mod entry;
-mod refusal;
 
 pub use answer::Answer;
 pub use entry::Entry;
-pub use refusal::Refusal;
 
 /// The laws of what players are sent, over every opening world, every history and every seat: it is
 /// what the player machine prints, which holds no world; histories that agree for a player send it

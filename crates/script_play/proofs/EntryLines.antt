@@ -13,8 +13,8 @@ use Rattle.campaign_law.specs.declared.entry.Entry.TheVariants.{Join, Line, Take
 use Rattle.command_json.specs.declared.command.Command.{Command}
 use Rattle.command_json.specs.declared.command.Command.TheVariants.{Hello, Bye, Say}
 use Rattle.command_json.specs.declared.command.LineFault.{LineFault}
-use Rattle.campaign_law.specs.declared.refusal.Refusal.{Refusal}
-use Rattle.campaign_law.specs.declared.refusal.Refusal.TheVariants.{NoHello}
+use Rattle.command_rules.specs.declared.refusal.Refusal.{Refusal}
+use Rattle.command_rules.specs.declared.refusal.Refusal.TheVariants.{NoHello}
 use Rattle.command_json.specs.Commands.{command_of}
 use Rattle.player_view.specs.Asked.{Asked}
 use Rattle.campaign_law.specs.Views.{View, view_of}

@@ -1,14 +1,15 @@
-//! Places that a path names, and the cells at them.
-ghost use Rattle.std.specs.Prelude.{◌≡◌, ◌≤◌, ◌≤ℤ◌, pos, true};
+//! Places that commands name by whole numbers, and the cells at them.
+ghost use Rattle.std.specs.Prelude.{◌≡◌, true};
 ghost use Rattle.std.specs.List.{list_all};
-ghost use Rattle.campaign_law.specs.Rules.{fits_along as fits_along_lem, fits_at as fits_at_lem, cell_at as cell_at_lem, are_near as are_near_lem, is_king_step as is_king_step_lem, are_king_steps as are_king_steps_lem};
+ghost use Rattle.command_rules.specs.Places.{fits_along as fits_along_lem, fits_at as fits_at_lem, cell_at as cell_at_lem, are_near as are_near_lem, is_king_step as is_king_step_lem, are_king_steps as are_king_steps_lem};
 
 use cells::{Cell, Size};
 
-fn fits_along(most: u8, side: u8, at: i32) -> bool
-    ensures { result ≡ fits_along_lem most side at }
+/// Whether the number isn't negative, and with so much more is at most this.
+pub(crate) fn fits_along(most: u8, more: u8, at: i32) -> bool
+    ensures { result ≡ fits_along_lem most more at }
 {
-    at >= 0 && at <= i32::from(most) - i32::from(side)
+    at >= 0 && at <= i32::from(most) - i32::from(more)
 }
 
 /// Whether the square of that side at the place is on a map of the size.
@@ -31,7 +32,7 @@ pub(crate) fn all_fit(size: Size, side: u8, path: &[(i32, i32)]) -> bool
 }
 
 /// The cell at a place where a square fits.
-#[tactic(auto, using(crate::proofs::Places::small))]
+#[tactic(auto, using(crate::proofs::Places::small_x, crate::proofs::Places::small_y))]
 pub(crate) fn cell_at(size: Size, side: u8, place: (i32, i32)) -> Cell
     requires { fits_at_lem size side place ≡ true }
     ensures { result ≡ cell_at_lem place }

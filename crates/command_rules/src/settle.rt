@@ -1,8 +1,8 @@
 //! What players see is exposed to them.
 ghost use Rattle.std.specs.Prelude.{◌≡◌, ◌∷◌, ◌++◌, [], map, IfOk, OnOk};
 ghost use Rattle.player_view.specs.Fields.{HasFields};
-ghost use Rattle.campaign_law.specs.Settle.{settled};
-ghost use Rattle.campaign_core.specs.Seen.{seen_for as seen_for_lem};
+ghost use Rattle.command_rules.specs.Settle.{settled};
+ghost use Rattle.command_rules.specs.Seen.{seen_for as seen_for_lem};
 
 use cells::CellSet;
 use fog_book::Exposure;
@@ -43,7 +43,7 @@ fn all_seen(alloc: Global, scene: &Scene, fields: &Fields) -> Result<Vec<CellSet
 }
 
 /// Exposes to each player what it sees.
-pub(crate) fn settle(alloc: Global, scene: &mut Scene, fields: &Fields) -> Result<(), Memory>
+pub fn settle(alloc: Global, scene: &mut Scene, fields: &Fields) -> Result<(), Memory>
     requires { HasFields scene.old fields.now }
     ensures { OnOk result (scene.new ≡ settled scene.old) }
 {

@@ -3,9 +3,9 @@ ghost use Rattle.std.specs.Prelude.{◌≡◌, ◌∷◌, ◌++◌, [], ℕ, Non
 ghost use Rattle.std.specs.List.{list_all};
 ghost use Rattle.player_view.specs.Asked.{asked_of};
 ghost use Rattle.world.specs.Rules.{fits};
-ghost use Rattle.campaign_law.specs.Rules.{fits_at as fits_at_lem, cell_at as cell_at_lem, rule_of as rule_of_lem};
-ghost use Rattle.campaign_law.specs.Effects.{eye_at as eye_at_lem, eyes_along as eyes_along_lem, free_steps as free_steps_lem, steps_with as steps_with_lem, steps_by as steps_by_lem, own_token, cell_after as cell_after_lem, after_steps as after_steps_lem, scene_by as scene_by_lem};
-ghost use Rattle.campaign_core.specs.Allowed.{IsAllowed, MayMove};
+ghost use Rattle.command_rules.specs.Rules.{fits_at as fits_at_lem, cell_at as cell_at_lem, rule_of as rule_of_lem};
+ghost use Rattle.command_rules.specs.Effects.{eye_at as eye_at_lem, eyes_along as eyes_along_lem, free_steps as free_steps_lem, steps_with as steps_with_lem, steps_by as steps_by_lem, own_token, cell_after as cell_after_lem, after_steps as after_steps_lem, scene_by as scene_by_lem};
+ghost use Rattle.command_rules.specs.Allowed.{IsAllowed, MayMove};
 
 use crate::places::cell_at;
 use cells::{Cell, Size};
@@ -88,7 +88,7 @@ fn cell_after(size: Size, side: u8, from: Cell, path: &[(i32, i32)], steps: u32)
     last
 }
 
-#[tactic(auto, unfolding(campaign_law::specs::Effects::steps_by))]
+#[tactic(auto, unfolding(crate::specs::Effects::steps_by))]
 fn move_steps(
     alloc: Global,
     scene: &Scene,
@@ -137,8 +137,8 @@ fn moved(
 // ---- commands
 
 /// The steps of an accepted command: those of a move, else 0.
-#[tactic(auto, unfolding(campaign_law::specs::Effects::steps_by))]
-pub(crate) fn steps_by(
+#[tactic(auto, unfolding(crate::specs::Effects::steps_by))]
+pub fn steps_by(
     alloc: Global,
     scene: &Scene,
     seat: SeatNo,
@@ -159,8 +159,8 @@ pub(crate) fn steps_by(
 }
 
 /// The scene after an accepted command; none, where the command leaves it as it is.
-#[tactic(auto, unfolding(campaign_law::specs::Effects::scene_by))]
-pub(crate) fn scene_by(
+#[tactic(auto, unfolding(crate::specs::Effects::scene_by))]
+pub fn scene_by(
     scene: &Scene,
     seat: SeatNo,
     command: &Command,

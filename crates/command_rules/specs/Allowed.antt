@@ -9,8 +9,8 @@ use Rattle.command_json.specs.declared.command.Command.{Command}
 use Rattle.world.specs.Scene.{Scene}
 use Rattle.world.specs.Rules.{size_of, fits}
 use Rattle.player_view.specs.Asked.{asked_of}
-use Rattle.campaign_law.specs.Rules.{fits_at, rule_of}
-use Rattle.campaign_law.specs.Effects.{own_token}
+use Rattle.command_rules.specs.Rules.{fits_at, rule_of}
+use Rattle.command_rules.specs.Effects.{own_token}
 
 -- no rule is broken
 abbrev pub IsAllowed : Scene → ℕ → Command → Type 0

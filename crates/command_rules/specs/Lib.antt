@@ -1,0 +1,7 @@
+pub mod Places
+pub mod GmRules
+pub mod Rules
+pub mod Effects
+pub mod Settle
+pub mod Allowed
+pub mod Seen
