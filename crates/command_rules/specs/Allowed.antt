@@ -9,12 +9,13 @@ use Rattle.command_json.specs.declared.command.Command.{Command}
 use Rattle.world.specs.Scene.{Scene}
 use Rattle.world.specs.Rules.{size_of, fits}
 use Rattle.player_view.specs.Asked.{asked_of}
-use Rattle.command_rules.specs.Rules.{fits_at, rule_of}
+use Rattle.command_rules.specs.Places.{fits_at}
+use Rattle.command_rules.specs.Rules.{rule_of}
 use Rattle.command_rules.specs.Effects.{own_token}
 
 -- no rule is broken
 abbrev pub IsAllowed : Scene → ℕ → Command → Type 0
-IsAllowed s seat c = (seats : ℕ) → rule_of (asked_of seats s seat) seat c ≡ None
+IsAllowed s seat c = (seats : ℕ) (tags : List (List ℕ)) → rule_of (asked_of seats s seat) seat tags c ≡ None
 
 -- the seat may act on the token of the id, which stands on a map, and its square fits there at each cell of the path
 pub record MayMove (s : Scene) (seat : ℕ) (id : TokenId) (path : List (ℤ × ℤ)) : Type 0 where

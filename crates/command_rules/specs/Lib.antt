@@ -1,5 +1,4 @@
 pub mod Places
-pub mod GmRules
 pub mod Rules
 pub mod Effects
 pub mod Settle

@@ -1,9 +1,8 @@
 //! What an accepted command does to the scene.
 ghost use Rattle.std.specs.Prelude.{◌≡◌, ◌∷◌, ◌++◌, [], ℕ, None, Some, IfOk, OnOk, true, unwrap_or};
 ghost use Rattle.std.specs.List.{list_all};
-ghost use Rattle.player_view.specs.Asked.{asked_of};
 ghost use Rattle.world.specs.Rules.{fits};
-ghost use Rattle.command_rules.specs.Rules.{fits_at as fits_at_lem, cell_at as cell_at_lem, rule_of as rule_of_lem};
+ghost use Rattle.command_rules.specs.Places.{fits_at as fits_at_lem, cell_at as cell_at_lem};
 ghost use Rattle.command_rules.specs.Effects.{eye_at as eye_at_lem, eyes_along as eyes_along_lem, free_steps as free_steps_lem, steps_with as steps_with_lem, steps_by as steps_by_lem, own_token, cell_after as cell_after_lem, after_steps as after_steps_lem, scene_by as scene_by_lem};
 ghost use Rattle.command_rules.specs.Allowed.{IsAllowed, MayMove};
 
@@ -154,7 +153,7 @@ pub fn steps_by(
                 Err(_) => Err(Memory),
             }
         }
-        Command::Hello { .. } | Command::Bye | Command::Look | Command::Say { .. } => Ok(0),
+        _ => Ok(0),
     }
 }
 
@@ -171,6 +170,6 @@ pub fn scene_by(
 {
     match command {
         Command::Move { token, path } => Ok(Some(moved(scene, seat, *token, path, steps)?)),
-        Command::Hello { .. } | Command::Bye | Command::Look | Command::Say { .. } => Ok(None),
+        _ => Ok(None),
     }
 }

@@ -99,6 +99,14 @@ impl FogBook {
         join_with(&mut self.sets, seat, map, seen);
     }
 
+    /// How many players there are, at most 32.
+    pub fn players(&self) -> u8
+        ensures value { result ≡ self.now.players }
+        ensures bound { result ≤ 32 }
+    {
+        self.players
+    }
+
     /// The sets, one for each player and map.
     pub fn sets(&self) -> &[Exposure]
         ensures { result.now ≡ self.now.sets }
