@@ -3,19 +3,36 @@ ghost use Rattle.std.specs.Prelude.{◌≡◌, ◌<◌, ◌≤◌, ◌∷◌, []
 ghost use Rattle.seats.specs.Book.{join_refusal};
 ghost use Rattle.player_view.specs.Asked.{Asked};
 ghost use Rattle.command_json.specs.Commands.{command_of};
-ghost use Rattle.campaign_law.specs.Outcome.{nothing as nothing_lem, refused_direct as refused_direct_lem, refused_line as refused_line_lem, refusal_of_join as refusal_of_join_lem, join_outcome as join_outcome_lem, book_done as book_done_lem, reply_line as reply_line_lem, messages_by as messages_by_lem, is_look as is_look_lem, accepted as accepted_lem, command_outcome as command_outcome_lem, refusal_of_line as refusal_of_line_lem, read_outcome as read_outcome_lem, absent_outcome as absent_outcome_lem, present_outcome as present_outcome_lem, seat_of as seat_of_lem, count_if_joined as count_if_joined_lem};
+ghost use Rattle.campaign_law.specs.Outcome.{nothing as nothing_lem, refused_direct as refused_direct_lem, refused_line as refused_line_lem, refusal_of_join as refusal_of_join_lem, join_outcome as join_outcome_lem, is_bye as is_bye_lem, is_look as is_look_lem, is_move as is_move_lem, tag_made as tag_made_lem, said, book_done as book_done_lem, reply_name as reply_name_lem, reply_line as reply_line_lem, message_by as message_by_lem, accepted as accepted_lem, command_outcome as command_outcome_lem, refusal_of_line as refusal_of_line_lem, read_outcome as read_outcome_lem, absent_outcome as absent_outcome_lem, present_outcome as present_outcome_lem, seat_of as seat_of_lem, count_if_joined as count_if_joined_lem};
 ghost use Rattle.campaign_law.specs.World.{asked_of, steps_of as steps_of_lem, outcome_of};
 ghost use Rattle.campaign_law.specs.State.{world_in};
 
 use crate::state::State;
-use crate::texts::{hello_line, message_line, moved_line, ok_line, refusal_line};
+use crate::texts::{hello_line, moved_line, ok_line, refusal_line};
+use chat::{To, message_line};
 use campaign_law::Entry;
 use command_rules::{Refusal, rule_of, steps_by};
 use command_json::{Command, LineFault, read_line};
-use names::{LineText, Memory, SeatNo};
+use names::{LineText, Memory, SeatNo, Tag};
 use seats::{JoinRefusal, SeatBook};
 use std::alloc::Global;
 use std::marker::Model;
+
+/// A line to the seats that an address reaches.
+#[derive(Drop)]
+pub(crate) struct Message {
+    pub(crate) from: SeatNo,
+    pub(crate) to: To,
+    pub(crate) line: LineText,
+}
+
+impl Model for Message {
+    ghost use Rattle.campaign_law.specs.Outcome.{Message};
+
+    ghost Value = { Message };
+
+    ghost view = { λ m. record { from = m.from; to = m.to; line = m.line } };
+}
 
 /// What an entry does to its own seat, and what it sends.
 #[derive(Drop)]
@@ -28,8 +45,7 @@ pub(crate) struct Outcome {
     pub(crate) reply: Option<LineText>,
     /// The reply stands in no queue.
     pub(crate) direct: bool,
-    /// The lines to every seat that is present.
-    pub(crate) messages: Vec<LineText>,
+    pub(crate) messages: Vec<Message>,
     pub(crate) joins: bool,
     /// The full line is due.
     pub(crate) full: bool,
@@ -135,55 +151,105 @@ fn join_outcome(
 
 // ---- commands of a Joined seat
 
-/// What an accepted command does to the book, the line being counted.
-fn change_book(command: &Command, book: &mut SeatBook)
-    ensures { book.new ≡ book_done_lem command.now book.old }
+fn is_bye(command: &Command) -> bool
+    ensures { result ≡ is_bye_lem command.now }
 {
-    match command {
-        Command::Hello { .. } => {}
-        Command::Bye => book.leave(),
-        Command::Look => {}
-        Command::Say { .. } => {}
-        Command::Move { .. } => {}
-    }
-}
-
-fn reply_line(alloc: Global, steps: u32, n: u32, command: &Command) -> Result<LineText, Memory>
-    ensures { IfOk result (λ t. t ≡ reply_line_lem steps n command.now) }
-{
-    match command {
-        Command::Hello { .. } => ok_line(alloc, n, "hello"),
-        Command::Bye => ok_line(alloc, n, "bye"),
-        Command::Look => ok_line(alloc, n, "look"),
-        Command::Say { .. } => ok_line(alloc, n, "say"),
-        Command::Move { .. } => moved_line(alloc, n, steps),
-    }
-}
-
-fn messages_by(alloc: Global, seat: SeatNo, command: &Command) -> Result<Vec<LineText>, Memory>
-    ensures { IfOk result (λ v. v.items ≡ messages_by_lem seat command.now) }
-{
-    let mut messages = Vec::new(alloc);
-    if let Command::Say { text } = command {
-        let line = message_line(alloc, seat, text.text())?;
-        if messages.push(line).is_err() {
-            return Err(Memory);
-        }
-    }
-    Ok(messages)
+    matches!(command, Command::Bye)
 }
 
 /// The command asks for the full line.
 fn is_look(command: &Command) -> bool
     ensures { result ≡ is_look_lem command.now }
 {
+    matches!(command, Command::Look)
+}
+
+fn is_move(command: &Command) -> bool
+    ensures { result ≡ is_move_lem command.now }
+{
+    matches!(command, Command::Move { .. })
+}
+
+/// The tag of the token that a command makes.
+fn tag_made(command: &Command) -> Option<Tag>
+    ensures { result ≡ tag_made_lem command.now }
+{
     match command {
-        Command::Hello { .. } => false,
-        Command::Bye => false,
-        Command::Look => true,
-        Command::Say { .. } => false,
-        Command::Move { .. } => false,
+        Command::Make { tag, .. } => Some(*tag),
+        Command::Token { tag, .. } => Some(*tag),
+        _ => None,
     }
+}
+
+/// What an accepted command does to the book, the line being counted.
+fn change_book(command: &Command, book: &mut SeatBook)
+    ensures { book.new ≡ book_done_lem command.now book.old }
+{
+    if is_bye(command) {
+        book.leave();
+    }
+}
+
+/// The name of an accepted command in its reply.
+fn reply_name(command: &Command) -> &'static str
+    ensures { result.now ≡ reply_name_lem command.now }
+{
+    match command {
+        Command::Hello { .. } => "hello",
+        Command::Bye => "bye",
+        Command::Look => "look",
+        Command::Say { .. } => "say",
+        Command::Roll { .. } => "roll",
+        Command::Move { .. } => "move",
+        Command::Setprop { .. } => "setprop",
+        Command::Light { .. } => "light",
+        Command::Make { .. } => "make",
+        Command::Remove { .. } => "remove",
+        Command::Map { .. } => "map",
+        Command::Mode { .. } => "mode",
+        Command::Show { .. } => "show",
+        Command::Terrain { .. } => "terrain",
+        Command::Wall { .. } => "wall",
+        Command::Unwall { .. } => "unwall",
+        Command::Lighttype { .. } => "lighttype",
+        Command::Sighttype { .. } => "sighttype",
+        Command::Token { .. } => "token",
+        Command::Own { .. } => "own",
+        Command::Layer { .. } => "layer",
+        Command::Visible { .. } => "visible",
+        Command::Sight { .. } => "sight",
+        Command::Place { .. } => "place",
+        Command::Secret { .. } => "secret",
+        Command::Expose { .. } => "expose",
+        Command::Hide { .. } => "hide",
+    }
+}
+
+fn reply_line(alloc: Global, steps: u32, n: u32, command: &Command) -> Result<LineText, Memory>
+    ensures { IfOk result (λ t. t ≡ reply_line_lem steps n command.now) }
+{
+    if is_move(command) {
+        moved_line(alloc, n, steps)
+    } else {
+        ok_line(alloc, n, reply_name(command))
+    }
+}
+
+fn message_by(alloc: Global, seat: SeatNo, command: &Command) -> Result<Vec<Message>, Memory>
+    ensures { IfOk result (λ v. v.items ≡ message_by_lem seat (said command.now)) }
+{
+    let mut messages = Vec::new(alloc);
+    if let Command::Say { text, to } = command {
+        let message = Message {
+            from: seat,
+            to: *to,
+            line: message_line(alloc, seat, *to, text.text())?,
+        };
+        if messages.push(message).is_err() {
+            return Err(Memory);
+        }
+    }
+    Ok(messages)
 }
 
 fn accepted(alloc: Global, steps: u32, book: &SeatBook, command: Command) -> Result<Outcome, Memory>
@@ -196,7 +262,7 @@ fn accepted(alloc: Global, steps: u32, book: &SeatBook, command: Command) -> Res
     let mut outcome = nothing(alloc);
     outcome.book = Some(after);
     outcome.reply = Some(reply_line(alloc, steps, book.lines() + 1, &command)?);
-    outcome.messages = messages_by(alloc, book.seat(), &command)?;
+    outcome.messages = message_by(alloc, book.seat(), &command)?;
     outcome.full = is_look(&command);
     outcome.done = Some(command);
     Ok(outcome)

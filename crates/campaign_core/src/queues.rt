@@ -3,12 +3,13 @@ ghost use Rattle.std.specs.Prelude.{◌≡◌, ◌≤◌, ◌==◌, ◌+◌, len
 ghost use Rattle.view_change.specs.Lines.{full_line as full_text};
 ghost use Rattle.player_view.specs.View.{view_of as view_of_lem};
 ghost use Rattle.campaign_law.specs.Views.{change_line as change_text};
-ghost use Rattle.campaign_law.specs.World.{queued_lines, queued_reply, view_lines, messages_to, mapped_from, some_to_list, is_present as is_present_lem};
+ghost use Rattle.campaign_law.specs.World.{queued_lines, queued_reply, view_lines, addressed, is_to as is_to_lem, mapped_from, some_to_list, is_present as is_present_lem};
 ghost use Rattle.campaign_law.specs.State.{post_by};
 ghost use Rattle.campaign_core.specs.Glances.{AreGlances};
 
-use crate::outcome::Outcome;
+use crate::outcome::{Message, Outcome};
 use crate::state::{Post, add_line, add_lines, changed_book, changed_taken, mail_with, settled};
+use chat::receivers;
 use names::{LineText, Memory, SeatNo};
 use player_view::view_of;
 use std::alloc::Global;
@@ -100,17 +101,29 @@ fn add_view(
 
 // ---- a seat's post
 
+/// Whether the message reaches the seat.
+fn is_to(seat: SeatNo, message: &Message) -> bool
+    ensures { result ≡ is_to_lem seat message.now }
+{
+    receivers(message.to, message.from, 33).has(seat)
+}
+
+/// The lines of the messages that reach the seat.
 #[tactic(auto, unfolding(campaign_law::specs::World::addressed))]
 fn add_messages(
     lines: &mut Vec<LineText>,
     alloc: Global,
-    outcome: &Outcome,
+    messages: &[Message],
     seat: SeatNo,
 ) -> Result<(), Memory>
-    ensures { OnOk result (lines.new.items ≡ lines.old.items ++ messages_to seat outcome.now) }
+    ensures { OnOk result (lines.new.items ≡ lines.old.items ++ addressed seat messages.now) }
 {
-    let _seat = seat;
-    add_lines(lines, alloc, &outcome.messages)
+    for message in messages {
+        if is_to(seat, message) {
+            add_line(lines, LineText::copy(alloc, message.line.bytes())?)?;
+        }
+    }
+    Ok(())
 }
 
 /// The lines of the entry that are queued for a seat.
@@ -130,7 +143,7 @@ fn queued(
     if !is_present(outcome, acts, post) {
         return Ok(lines);
     }
-    add_messages(&mut lines, alloc, outcome, seat)?;
+    add_messages(&mut lines, alloc, &outcome.messages, seat)?;
     add_view(&mut lines, alloc, seat, acts && outcome.full, glances)?;
     Ok(lines)
 }

@@ -41,9 +41,13 @@ scene_after w e = settled_scene (scene_by (steps_of w e) (seat_of e) w.scene (ou
 abbrev pub is_present : Bool → Option Seat → Outcome → Bool
 is_present acts before o = was_joined before || (acts && o.joins)
 
--- the message reaches the seat, which is one of the campaign's
+-- how many seats a campaign has at most
+abbrev pub most_seats : ℕ
+most_seats = 33
+
+-- the message reaches the seat
 abbrev pub is_to : ℕ → Message → Bool
-is_to seat message = is_addressed message.to message.from (suc seat) seat
+is_to seat message = is_addressed message.to message.from most_seats seat
 
 -- the lines of the messages that reach a seat
 unfoldable pub addressed : ℕ → List Message → List (List ℕ)
