@@ -1,6 +1,6 @@
 -- The laws of changes.
 use Rattle.std.proofs.Common.{◌≡◌, ℕ, ◌<◌, Bool, true, false, cond, ◌&&◌, ◌||◌, List, [], ◌∷◌, Some, None, get_or, refl, sym, ◌∙◌, ap, subst, arith}
-use Rattle.std.specs.Prelude.{Option, is_some, is_none, not, unwrap_or, nat_lt, All}
+use Rattle.std.specs.Prelude.{◌↔◌, Option, is_some, is_none, not, unwrap_or, nat_lt, All}
 use Rattle.std.specs.Bool.{Decides}
 use Rattle.std.specs.Ordering.{eq_by_cmp, is_eq}
 use Rattle.std.specs.Cmp.{tied_itself}
@@ -20,7 +20,6 @@ use Rattle.view_change.specs.Same.{same_option, same_bool, same_mode, same_lette
 use Rattle.view_change.specs.Keyed.{at, in_order, put_all, applied, gone_from, is_among, puts_from}
 use Rattle.view_change.specs.Views.{at_name, letter_at, is_on_map, IsMapView, IsView, FitsAmong, FollowsView}
 use Rattle.view_change.specs.Change.{minus, shown_change, map_change, or_old, has_letter, map_with, difference, change_of, apply_change}
-use Rattle.view_change.specs.Laws.{NoneIfSame, GivesAfter}
 use Rattle.view_change.proofs.SameLemmas.{Tells, same_option-tells, same_bool-tells, same_mode-tells, same_letter-tells, same_light-tells, same_bytes-tells, same_map-tells, same_token-tells, same_view-tells}
 use Rattle.view_change.proofs.OrderLemmas.{tag_total, tag_anti, tag_ties, id_total, id_anti, id_ties, cell_total, cell_anti}
 use Rattle.view_change.proofs.KeyedLemmas.{eq_is, kept, differs, applied-puts, is_among-gone_from, at-puts, at-key, at-all}
@@ -196,7 +195,8 @@ fits_among a b fa fb f k d h m e =
     let new = fb.each_map k d h in
     record { seen = new.seen_size ∙ sym size ∙ sym old.seen_size; exposed = new.exposed_size ∙ sym size ∙ sym old.exposed_size }
 
-pub gives_after : GivesAfter
+-- a view with its change is the view after it
+pub gives_after : (a b : View) → IsView a → IsView b → FollowsView a b → apply_change a (difference a b) ≡ b
 unfolding apply_change difference
 gives_after a b fa fb f = λ i. record {
   gm = f.gm i;
@@ -212,9 +212,8 @@ gives_after a b fa fb f = λ i. record {
       (λ q s. is_among-gone_from id_cmp token_id id_total id_anti id_eq id_ties q a.tokens b.tokens s) i;
 }
 
--- ---- no change
-
-pub none_if_same : NoneIfSame
+-- there is no change exactly between equal views
+pub none_if_same : (a b : View) → change_of a b ≡ None ↔ (a ≡ b)
 unfolding change_of
 none_if_same a b = (there (same_view a b) (same_view-tells a b), back)
   where

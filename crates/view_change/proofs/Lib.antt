@@ -9,3 +9,6 @@ pub mod SameLoops
 pub mod MapLoops
 pub mod ChangeShape
 pub mod FitLemmas
+pub mod PutLemmas
+pub mod FillLemmas
+pub mod ApplyLemmas

@@ -14,19 +14,21 @@ use Rattle.view_change.specs.Change.{map_change}
 use Rattle.view_change.specs.Views.{at_name}
 use Rattle.view_change.proofs.OrderLemmas.{tag_ties}
 
-next_at : (q : List ℕ) (xs : List MapView) (i : ℕ) (x : MapView) → i < length xs → x ≡ get_or xs i x → at_name map_name q (drop i xs) ≡ cond (bytes_eq q x.name) (Some x) (at_name map_name q (drop (i + 1) xs))
-next_at q xs i x h e =
-    ap (at_name map_name q) (drop-cons xs i x h ∙ (let n : suc i ≡ i + 1 = omega arith in ap (λ k. get_or xs i x ∷ drop k xs) n) ∙ ap (λ w. w ∷ drop (i + 1) xs) (sym e))
-    ∙ ap (λ b. cond b (Some x) (at_name map_name q (drop (i + 1) xs))) (sym (tag_ties q x.name))
+module _ {X : Type 0} (name : X → List ℕ) where
+  -- a search for the item with a name, a step at a time
+  next_at : (q : List ℕ) (xs : List X) (i : ℕ) (x : X) → i < length xs → x ≡ get_or xs i x → at_name name q (drop i xs) ≡ cond (bytes_eq q (name x)) (Some x) (at_name name q (drop (i + 1) xs))
+  next_at q xs i x h e =
+      ap (at_name name q) (drop-cons xs i x h ∙ (let n : suc i ≡ i + 1 = omega arith in ap (λ k. get_or xs i x ∷ drop k xs) n) ∙ ap (λ w. w ∷ drop (i + 1) xs) (sym e))
+      ∙ ap (λ b. cond b (Some x) (at_name name q (drop (i + 1) xs))) (sym (tag_ties q (name x)))
 
-pub found_here : (q : List ℕ) (xs : List MapView) (i : ℕ) (x : MapView) → i < length xs → x ≡ get_or xs i x → bytes_eq q x.name ≡ true → at_name map_name q (drop i xs) ≡ at_name map_name q xs → at_name map_name q xs ≡ Some x
-found_here q xs i x h e is inv = sym inv ∙ next_at q xs i x h e ∙ ap (λ b. cond b (Some x) (at_name map_name q (drop (i + 1) xs))) is
+  pub found_here : (q : List ℕ) (xs : List X) (i : ℕ) (x : X) → i < length xs → x ≡ get_or xs i x → bytes_eq q (name x) ≡ true → at_name name q (drop i xs) ≡ at_name name q xs → at_name name q xs ≡ Some x
+  found_here q xs i x h e is inv = sym inv ∙ next_at q xs i x h e ∙ ap (λ b. cond b (Some x) (at_name name q (drop (i + 1) xs))) is
 
-pub passed_over : (q : List ℕ) (xs : List MapView) (i : ℕ) (x : MapView) → i < length xs → x ≡ get_or xs i x → bytes_eq q x.name ≡ false → at_name map_name q (drop i xs) ≡ at_name map_name q xs → at_name map_name q (drop (i + 1) xs) ≡ at_name map_name q xs
-passed_over q xs i x h e is inv = sym (next_at q xs i x h e ∙ ap (λ b. cond b (Some x) (at_name map_name q (drop (i + 1) xs))) is) ∙ inv
+  pub passed_over : (q : List ℕ) (xs : List X) (i : ℕ) (x : X) → i < length xs → x ≡ get_or xs i x → bytes_eq q (name x) ≡ false → at_name name q (drop i xs) ≡ at_name name q xs → at_name name q (drop (i + 1) xs) ≡ at_name name q xs
+  passed_over q xs i x h e is inv = sym (next_at q xs i x h e ∙ ap (λ b. cond b (Some x) (at_name name q (drop (i + 1) xs))) is) ∙ inv
 
-pub none_left : (q : List ℕ) (xs : List MapView) (i : ℕ) → length xs ≤ i → at_name map_name q (drop i xs) ≡ at_name map_name q xs → at_name map_name q xs ≡ None
-none_left q xs i h inv = sym inv ∙ ap (at_name map_name q) (drop_all i xs h)
+  pub none_left : (q : List ℕ) (xs : List X) (i : ℕ) → length xs ≤ i → at_name name q (drop i xs) ≡ at_name name q xs → at_name name q xs ≡ None
+  none_left q xs i h inv = sym inv ∙ ap (at_name name q) (drop_all i xs h)
 
 -- the changes of the maps so far, and of one more
 pub deltas_more : (before after : List MapView) (i : ℕ) (d : MapView) → i < length after

@@ -1,14 +1,16 @@
 -- Sets of the cells that have a letter.
-use Rattle.std.proofs.Common.{◌≡◌, ℕ, ◌+◌, ◌<◌, Bool, true, false, ◌||◌, List, [], ◌∷◌, ◌++◌, length, take, get_or, refl, sym, ◌∙◌, ap, subst, rules}
-use Rattle.std.specs.Prelude.{◌↔◌, IsTrue}
+use Rattle.std.proofs.Common.{◌≡◌, ℕ, ◌+◌, ◌<◌, Bool, true, false, cond, ◌||◌, List, [], ◌∷◌, ◌++◌, length, take, get_or, refl, sym, ◌∙◌, ap, subst, rules}
+use Rattle.std.specs.Prelude.{◌&&◌, not, ◌↔◌, IsTrue}
 use Rattle.std.proofs.lemmas.Bool.Decides.{Decides-and, Decides-eqb}
 use Rattle.cells.specs.declared.cell.Cell.{Cell}
+use Rattle.std.specs.List.{filter}
 use Rattle.std.proofs.lemmas.List.{take_more}
+use Rattle.std.proofs.lemmas.List.Elements.{filter_more}
 use Rattle.cells.specs.Cell.{is_at}
 use Rattle.cells.specs.Cells.{Extent, Cells, has, cells_where, IsToldByCells}
 use Rattle.cells.proofs.SetLaws.{has-cells_where, cells_where_same}
 use Rattle.view_change.specs.Keys.{Letter}
-use Rattle.view_change.specs.Change.{has_letter, with_lettered}
+use Rattle.view_change.specs.Change.{has_letter, with_lettered, patched_at}
 
 has_letter-pushed : (letters : List Letter) (letter : Letter) (x y : ℕ) → has_letter (letters ++ letter ∷ []) x y ≡ (has_letter letters x y || is_at letter.0 x y)
 has_letter-pushed [] letter x y = or_none (is_at letter.0 x y)
@@ -77,3 +79,18 @@ unfolding with_lettered
 lettered_alone size letters cells e =
     ap (λ (c : Cells). cells_where c.extent (λ x y. has c x y || has_letter letters x y)) e
     ∙ cells_where_same size (λ x y. has (cells_where size (λ x y. false)) x y || has_letter letters x y) (has_letter letters) (λ x y hx hy. ap (λ b. b || has_letter letters x y) (has-cells_where size (λ x y. false) x y hx hy))
+
+-- a set whose new cells are those that have a letter
+pub patched_by_letters : (size : Extent) (cells gone new : Cells) (letters : List Letter) → new ≡ cells_where size (has_letter letters)
+    → cells_where size (patched_at cells gone new) ≡ cells_where size (λ x y. (has cells x y && not (has gone x y)) || has_letter letters x y)
+patched_by_letters size cells gone new letters e =
+    cells_where_same size (patched_at cells gone new) (λ x y. (has cells x y && not (has gone x y)) || has_letter letters x y)
+    (λ x y hx hy. ap (λ b. (has cells x y && not (has gone x y)) || b) (ap (λ (s : Cells). has s x y) e ∙ has-cells_where size (has_letter letters) x y hx hy))
+
+-- the letters so far whose cells aren't in the set, and one more
+pub kept_more : (s : Cells) (letters done next : List Letter) (i : ℕ) (d : Letter) → i < length letters
+    → next ≡ done ++ cond (not (has s (get_or letters i d).0.x (get_or letters i d).0.y)) (get_or letters i d ∷ []) []
+    → done ≡ filter (λ letter. not (has s letter.0.x letter.0.y)) (take i letters) → next ≡ filter (λ letter. not (has s letter.0.x letter.0.y)) (take (i + 1) letters)
+kept_more s letters done next i d h e is =
+    e ∙ ap (λ ls. ls ++ cond (not (has s (get_or letters i d).0.x (get_or letters i d).0.y)) (get_or letters i d ∷ []) []) is
+    ∙ sym (filter_more (λ (letter : Letter). not (has s letter.0.x letter.0.y)) letters i d h)

@@ -69,8 +69,12 @@ has_letter letters x y = list_any (λ letter. is_at letter.0 x y) letters
 unfoldable pub with_lettered : Cells → List Letter → Cells
 with_lettered cells letters = cells_where cells.extent (λ x y. has cells x y || has_letter letters x y)
 
+-- whether (x, y) is in the first set without the second, or in the third
+abbrev pub patched_at : Cells → Cells → Cells → ℕ → ℕ → Bool
+patched_at cells gone new x y = (has cells x y && not (has gone x y)) || has new x y
+
 abbrev pub seen_after : MapView → MapChange → Cells
-seen_after a c = cells_where a.size (λ x y. (has a.seen x y && not (has c.dark x y)) || has c.lit x y)
+seen_after a c = cells_where a.size (patched_at a.seen c.dark c.lit)
 
 -- a cell with a letter in the change is exposed
 abbrev pub exposed_after : MapView → MapChange → Cells

@@ -3,5 +3,4 @@ pub mod Keys
 pub mod Same
 pub mod Views
 pub mod Change
-pub mod Laws
 pub mod Lines

@@ -4,11 +4,12 @@
 //! view, and `apply_change` turns the view before into the view after.
 #![tactic(auto)]
 
+mod apply;
 mod change;
 mod change_values;
 mod copies;
 mod difference;
-mod laws;
+mod keyed;
 mod lines;
 mod lists;
 mod same;
@@ -18,9 +19,9 @@ mod values;
 mod view;
 mod view_values;
 
+pub use apply::apply_change;
 pub use change::{Change, MapChange};
 pub use difference::{change_of, fit};
-pub use laws::{a_change_gives_the_view_after, no_change_between_equal_views};
 pub use lines::{change_line, full_line};
 pub use lists::{
     Letters, LightTexts, MapChanges, MapViews, PropTexts, SeatNos, SightTexts, Tags, TokenIds,
