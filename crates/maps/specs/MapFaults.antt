@@ -12,6 +12,6 @@ map_fault maps name =
     else None
 
 -- the fault is the broken check, or want of memory where none is broken
-abbrev pub IsFaultOf : Option MapFault → MapFault → Type 0
-IsFaultOf None fault = fault ≡ Memory
-IsFaultOf (Some broken) fault = fault ≡ broken
+abbrev pub IsMapFaultOf : Option MapFault → MapFault → Type 0
+IsMapFaultOf None fault = fault ≡ Memory
+IsMapFaultOf (Some broken) fault = fault ≡ broken

@@ -1,10 +1,10 @@
 -- Maps, and tables of maps in byte order of their names.
-use Rattle.std.specs.Prelude.{◌≡◌, ◌≤◌, ℕ, ◌*◌, Bool, IsTrue, true, false, List, [], ◌∷◌, length, map, All, Option, is_some, if◌then◌else◌}
+use Rattle.std.specs.Prelude.{◌≡◌, ◌≢◌, ◌<◌, ◌≤◌, ℕ, ◌*◌, Bool, IsTrue, not, true, false, List, [], ◌∷◌, length, map, replicate, All, Option, Some, is_some, option_map, if◌then◌else◌}
 use Rattle.std.specs.List.{find}
 use Rattle.std.specs.Str.{bytes_eq}
 use Rattle.std.specs.Ordering.{is_lt}
 use Rattle.std.specs.FinMap.Entries.{is_sorted}
-use Rattle.names.specs.Tag.{is_tag, tag_cmp}
+use Rattle.names.specs.Tag.{tag_cmp}
 use Rattle.names.specs.declared.kinds.Mode.{Mode}
 use Rattle.names.specs.declared.kinds.Mode.TheVariants.{Day}
 use Rattle.names.specs.declared.kinds.WallKind.{WallKind}
@@ -13,8 +13,8 @@ use Rattle.cells.specs.Cells.{Extent, IsSize}
 use Rattle.cells.specs.declared.cell.Rect.{Rect}
 use Rattle.topology.specs.declared.wall.Wall.{Wall}
 use Rattle.topology.specs.Order.{wall_between}
-use Rattle.topology.specs.WallLists.{WallLists, AreWalls, walls_of, with_walls, with_wall, without_wall}
-use Rattle.maps.specs.Letters.{blank, is_letter, letter_of, letters_where, with_rect}
+use Rattle.topology.specs.WallLists.{WallLists, walls_of, with_walls, with_wall, without_wall}
+use Rattle.maps.specs.Letters.{blank, is_in, is_letter, letter_of, with_rect}
 
 -- ---- one map
 
@@ -32,16 +32,13 @@ letter_at m x y = letter_of m.walls.extent m.letters x y
 
 -- what is true of every map
 pub record IsMap (m : Grid) : Type 0 where
-  pub tag : is_tag m.name ≡ true
   pub size : IsSize m.walls.extent
   pub count : length m.letters ≡ m.walls.extent.h * m.walls.extent.w
   pub letters : All (λ letter. IsTrue (is_letter letter)) m.letters
-  pub vbl : AreWalls m.walls.extent m.walls.vbl
-  pub mbl : AreWalls m.walls.extent m.walls.mbl
 
 -- a new map: day, not shown, no letter but . and no walls
 abbrev pub new_map : List ℕ → Extent → Grid
-new_map name size = record { name = name; mode = Day; shown = false; letters = letters_where size (λ x y. blank); walls = record { extent = size; vbl = []; mbl = [] } }
+new_map name size = record { name = name; mode = Day; shown = false; letters = replicate (size.h * size.w) blank; walls = record { extent = size; vbl = []; mbl = [] } }
 
 -- ---- what a call makes of one map
 
@@ -53,6 +50,11 @@ shown_if on m = record m { shown = on }
 
 abbrev pub with_letters : Rect → ℕ → Grid → Grid
 with_letters rect letter m = record m { letters = with_rect m.walls.extent rect letter m.letters }
+
+-- the cells of the rectangle have the letter, and all other cells theirs
+pub record SetsLetters (rect : Rect) (letter : ℕ) (old new : Grid) : Type 0 where
+  pub inside : (x y : ℕ) → x < old.walls.extent.w → y < old.walls.extent.h → is_in rect x y ≡ true → letter_at new x y ≡ letter
+  pub outside : (x y : ℕ) → x < old.walls.extent.w → y < old.walls.extent.h → is_in rect x y ≡ false → letter_at new x y ≡ letter_at old x y
 
 -- the map with other walls of one kind
 abbrev pub walled : WallKind → (List Wall → List Wall) → Grid → Grid
@@ -91,7 +93,22 @@ has_map name maps = is_some (map_of name maps)
 abbrev pub changed : List ℕ → (Grid → Grid) → List Grid → List Grid
 changed name f maps = map (λ m. if has_name name m then f m else m) maps
 
+-- the map stands at this name or behind it
+abbrev pub is_behind : List ℕ → Grid → Bool
+is_behind name m = not (is_lt (tag_cmp m.name name))
+
 -- the maps with one more, before the first of a greater name
 abbrev pub with_map : Grid → List Grid → List Grid
 with_map m [] = m ∷ []
 with_map m (other ∷ maps) = if is_lt (tag_cmp other.name m.name) then other ∷ with_map m maps else m ∷ other ∷ maps
+
+-- the map of one name becomes f of it; the maps of all other names stay, and no name goes or comes
+pub record ChangesOnly (old new : List Grid) (name : List ℕ) (f : Grid → Grid) : Type 0 where
+  pub changed : map_of name new ≡ option_map f (map_of name old)
+  pub others : (other : List ℕ) → other ≢ name → map_of other new ≡ map_of other old
+  pub names : map (λ m. m.name) new ≡ map (λ m. m.name) old
+
+-- one map is there more, and the maps of all other names stay
+pub record AddsMap (old new : List Grid) (m : Grid) : Type 0 where
+  pub added : map_of m.name new ≡ Some m
+  pub others : (other : List ℕ) → other ≢ m.name → map_of other new ≡ map_of other old
