@@ -10,6 +10,8 @@ use Rattle.std.proofs.lemmas.Bool.{and_parts, and_from}
 use Rattle.names.specs.declared.kinds.Layer.{Layer}
 use Rattle.names.specs.declared.kinds.PropClass.{PropClass}
 use Rattle.names.specs.declared.kinds.PropClass.TheVariants.{Public, Own, Secret}
+use Rattle.names.specs.declared.kinds.WallKind.{WallKind}
+use Rattle.names.specs.declared.kinds.WallKind.TheVariants.{Vbl, Mbl}
 use Rattle.names.specs.declared.token_id.TokenId.{TokenId}
 use Rattle.names.specs.Tag.{tag_cmp}
 use Rattle.cells.specs.Cells.{Extent, Cells, has}
@@ -18,15 +20,16 @@ use Rattle.cells.proofs.SetLaws.{IsToldByCells-cells_where}
 use Rattle.cells.specs.declared.cell.Cell.{Cell}
 use Rattle.fog_book.specs.Exposures.{Fog, exposed_of, joined, with_change, with_map as with_fog_of_map, AddsMap}
 use Rattle.fog_book.specs.Rects.{is_in, with_rect}
-use Rattle.maps.specs.Maps.{Grid, has_map, map_of, new_map, with_map}
+use Rattle.maps.specs.Maps.{Grid, changed as changed_map, has_map, map_of, new_map, walled, with_map}
 use Rattle.sight_types.specs.declared.Sight.{Sight}
 use Rattle.tokens.specs.declared.token.Token.{Token}
 use Rattle.tokens.specs.Tokens.{changed, in_order, on_layer, owned_by, placed, put, shown_if, token_of, with_light, with_prop, with_sight, without}
+use Rattle.topology.specs.declared.wall.Wall.{Wall}
 use Rattle.type_table.specs.Types.{type_of, with_type}
 use Rattle.world.specs.Scene.{Scene, bare}
 use Rattle.world.specs.Rules.{size_of, fits_on, is_known, is_player, are_players, belongs, IsSetOf, IsScene}
 use Rattle.world.proofs.TokenRules.{all_pass, all_put, all_without, all_changed, all_changed_at, players_with}
-use Rattle.world.proofs.FogRules.{KeepsSize, size_of-with_map, IsFogOf-with_change, IsFogOf-with_map}
+use Rattle.world.proofs.FogRules.{KeepsSize, size_of-changed, size_of-with_map, IsFogOf-with_change, IsFogOf-with_map}
 
 -- ---- what a scene tells
 
@@ -133,6 +136,25 @@ IsScene-maps s maps same is = record {
     no_others = λ name seat none. is.fog.no_others name seat (sym (same name) ∙ none);
   };
 }
+
+-- one map changed
+pub IsScene-grid : (s : Scene) (f : Grid → Grid) → ((m : Grid) → (f m).name ≡ m.name) → ((m : Grid) → (f m).walls.extent ≡ m.walls.extent) → (name : List ℕ) → IsScene s → IsScene (record s { maps = changed_map name f s.maps })
+IsScene-grid s f names sizes name is = IsScene-maps s (changed_map name f s.maps) (λ other. size_of-changed f names sizes name other s.maps) is
+
+-- other walls are on a map of the same size
+pub walls_keep_size : (kind : WallKind) (f : List Wall → List Wall) (m : Grid) → (walled kind f m).walls.extent ≡ m.walls.extent
+walls_keep_size Vbl f m = refl
+walls_keep_size Mbl f m = refl
+
+-- other maps, as the code writes them
+pub IsScene-grids : (s : Scene) (maps new : List Grid) → new ≡ maps → IsScene (record s { maps = maps }) → IsScene (record s { maps = new })
+IsScene-grids s maps new e is = subst (λ ms. IsScene (record s { maps = ms })) (sym e) is
+
+pub IsScene-walls_if_ok : {E : Type 0} (result : Result (Unit {0}) E) (s : Scene) (kind : WallKind) (f : List Wall → List Wall) (name : List ℕ) (new : List Grid)
+    → OnOk result (new ≡ changed_map name (walled kind f) s.maps) → OnErr result (new ≡ s.maps) → IsScene s → IsScene (record s { maps = new })
+IsScene-walls_if_ok (Ok _) s kind f name new done same is =
+    IsScene-grids s (changed_map name (walled kind f) s.maps) new done (IsScene-grid s (walled kind f) (λ m. refl) (walls_keep_size kind f) name is)
+IsScene-walls_if_ok (Err _) s kind f name new done same is = IsScene-grids s s.maps new same is
 
 -- one map more
 pub IsScene-with_map : (s : Scene) (name : List ℕ) (size : Extent) → has_map name s.maps ≡ false → AddsMap s.fog (with_fog_of_map s.fog name size) name size
