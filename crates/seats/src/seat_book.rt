@@ -212,7 +212,7 @@ impl SeatBook {
     }
 
     /// Whether the seat has used all the tags that it may.
-    pub fn tags_spent(&self) -> bool
+    fn tags_spent(&self) -> bool
         ensures { result ≡ tags_spent_lem self.now.seat self.now.tags }
     {
         let limit = if self.seat.number() == 0 {

@@ -110,8 +110,7 @@ impl Props {
         *self.values.allocator()
     }
 
-    /// Whether the name is new, and there are 64 names: it can't be set then.
-    pub fn is_full_for(&self, name: Tag) -> bool
+    fn is_full_for(&self, name: Tag) -> bool
         ensures { result ≡ is_full_for name self.now }
     {
         self.find(name).is_none() && self.values.len() >= NAME_LIMIT

@@ -159,13 +159,6 @@ impl Walls {
         Ok(())
     }
 
-    /// Whether there is a wall of the kind between the points, in either order.
-    pub fn has_wall(&self, kind: WallKind, a: Point, b: Point) -> bool
-        ensures { result ≡ has_wall (wall_between a b) (walls_of self.now kind) }
-    {
-        contains(self.list(kind), &Wall::between(a, b))
-    }
-
     /// The first step of a path that meets a wall of kind mbl, where step k goes from the path's point k to its point
     /// k + 1; `None` exactly where no step does.
     pub fn first_block(&self, path: &[Point]) -> Option<usize>
@@ -176,9 +169,7 @@ impl Walls {
         first_blocked(self.list(WallKind::Mbl), path)
     }
 
-    /// The first check that a new wall between the points would break, in the order of `WallFault`; none of the checks
-    /// is about memory.
-    pub fn broken_check(&self, kind: WallKind, a: Point, b: Point) -> Option<WallFault>
+    fn broken_check(&self, kind: WallKind, a: Point, b: Point) -> Option<WallFault>
         ensures { result ≡ wall_fault self.now kind a b }
     {
         let walls = self.list(kind);
