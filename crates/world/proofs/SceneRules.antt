@@ -1,12 +1,15 @@
 -- What fits together in a scene does so still after a change of one part.
-use Rattle.std.proofs.Common.{◌≡◌, ℕ, Bool, true, false, cond, List, ◌||◌, Option, Some, None, Result, Ok, Err, refl, sym, ap, subst, ◌∙◌}
-use Rattle.std.specs.Prelude.{IfSome, IsSome, OnOk, OnErr, is_some, option_map}
+use Rattle.std.proofs.Common.{◌≡◌, ℕ, Bool, true, false, cond, List, ◌||◌, Option, Some, None, Result, Ok, Err, refl, sym, ap, subst, ◌∙◌, length}
+use Rattle.std.specs.Prelude.{IfSome, IsSome, OnOk, OnErr, is_some, option_map, if◌then◌else◌, nat_le}
 use Rattle.std.specs.Ordering.{eq_by_cmp}
 use Rattle.std.specs.Str.{bytes_eq}
 use Rattle.std.proofs.lemmas.Slice.Eq.{bytes_eq-Decides}
 use Rattle.std.specs.Cmp.Lexicographic.{nat_list_cmp_total}
 use Rattle.std.specs.FinMap.Entries.{find-put}
 use Rattle.std.proofs.lemmas.Bool.{and_parts, and_from}
+use Rattle.maps.specs.declared.map_table.MapFault.{MapFault}
+use Rattle.maps.specs.declared.map_table.MapFault.TheVariants.{MapExists, MapLimit}
+use Rattle.maps.specs.MapFaults.{map_fault}
 use Rattle.names.specs.declared.kinds.Layer.{Layer}
 use Rattle.names.specs.declared.kinds.PropClass.{PropClass}
 use Rattle.names.specs.declared.kinds.PropClass.TheVariants.{Public, Own, Secret}
@@ -187,6 +190,22 @@ IsScene-with_map s name size absent adds is = record {
             let both : false ≡ true = sym (ap (λ o. fits_on o t.cell t.size) absent_too) ∙ on in
             cc
         other false e on = on
+
+-- where a map may be added there is none of that name
+no_map : (maps : List Grid) (name : List ℕ) → map_fault maps name ≡ None → has_map name maps ≡ false
+no_map maps name none = by (has_map name maps) (if nat_le 8 (length maps) then Some MapLimit else None) none
+  where
+    by : (b : Bool) (rest : Option MapFault) → (if b then Some MapExists else rest) ≡ None → b ≡ false
+    by true rest e = cc
+    by false rest e = refl
+
+-- the same, as the code writes it
+pub IsScene-map_added : (s : Scene) (maps : List Grid) (fog : Fog) (name : List ℕ) (size : Extent) → maps ≡ with_map (new_map name size) s.maps → fog ≡ with_fog_of_map s.fog name size
+    → AddsMap s.fog fog name size → map_fault s.maps name ≡ None → IsScene s → IsScene (record s { maps = maps; fog = fog })
+IsScene-map_added s maps fog name size one other adds none is =
+    subst (λ ms. IsScene (record s { maps = ms; fog = fog })) (sym one)
+    (subst (λ f. IsScene (record s { maps = with_map (new_map name size) s.maps; fog = f })) (sym other)
+    (IsScene-with_map s name size (no_map s.maps name none) (subst (λ f. AddsMap s.fog f name size) other adds) is))
 
 -- ---- types
 
