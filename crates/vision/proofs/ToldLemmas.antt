@@ -1,0 +1,162 @@
+-- What fields tell of what is seen.
+use Rattle.std.proofs.Common.{◌≡◌, ℕ, ◌+◌, ◌*◌, ◌<◌, ◌≤◌, Bool, true, false, ◌&&◌, ◌||◌, List, [], ◌∷◌, length, get_or, take, refl, sym, ap, subst, arith, ◌∙◌, Some}
+use Rattle.std.specs.Prelude.{nat_le, Option, unwrap_or, All}
+use Rattle.std.specs.List.{list_any}
+use Rattle.std.proofs.lemmas.Bool.Decides.{nat_tests}
+use Rattle.std.proofs.lemmas.List.Elements.{All-head, All-tail}
+use Rattle.std.proofs.lemmas.List.Folds.{list_any_more}
+use Rattle.std.proofs.Math.Nat.{mul-le-mul}
+use Rattle.names.specs.declared.kinds.Mode.{Mode}
+use Rattle.names.specs.declared.kinds.Mode.TheVariants.{Off, Day, Night}
+use Rattle.names.specs.declared.token_id.TokenId.{TokenId}
+use Rattle.lattice.specs.Coordinates.{Coordinates, centre_of, squared_distance, within_test}
+use Rattle.cells.specs.Cells.{Cells, has, IsToldByCells}
+use Rattle.cells.proofs.SetLaws.{has-cells_where, IsToldByCells-cells_where}
+use Rattle.topology.specs.WallLists.{WallLists}
+use Rattle.topology.specs.Sight.{clear_test, reach_test, field_test, field_of}
+use Rattle.sight_types.specs.declared.Sight.{Sight}
+use Rattle.vision.specs.declared.disc.Disc.{Disc}
+use Rattle.vision.specs.declared.lamp.Lamp.{Lamp}
+use Rattle.vision.specs.Common.{common_test, common_by, lit_common, disc_of, told_test}
+use Rattle.vision.specs.Fields.{field_at}
+use Rattle.vision.specs.Seen.{lit_test, sees_test, with_cells}
+use Rattle.vision.proofs.AddingLemmas.{near_across, near_down}
+
+-- ---- the loops
+
+third : (a b c d : Bool) → (a && b && c && d) ≡ true → c ≡ true
+third true true true d h = refl
+third true true false d h = h
+third true false c d h = cc
+third false b c d h = cc
+
+-- a cell of both fields in both discs is near the middle of the second disc
+pub common_across : (own field : Cells) (range light : Disc) (x y : ℕ) → common_test own range field light x y ≡ true
+    → (light.middle.x ≤ 2 * x + 1 + light.halves) × (2 * x + 1 ≤ light.middle.x + light.halves)
+common_across own field range light x y h = near_across light.middle x y light.halves (third (has own x y) (has field x y) _ _ h)
+
+pub common_down : (own field : Cells) (range light : Disc) (x y : ℕ) → common_test own range field light x y ≡ true
+    → (light.middle.y ≤ 2 * y + 1 + light.halves) × (2 * y + 1 ≤ light.middle.y + light.halves)
+common_down own field range light x y h = near_down light.middle x y light.halves (third (has own x y) (has field x y) _ _ h)
+
+-- one more lamp
+pub lit_more : (own : Cells) (range : Disc) (mult : ℕ) (fields : List (TokenId × Cells)) (lamps : List Lamp) (i : ℕ) (lamp : Lamp) (field : Cells)
+    → i < length lamps → lamp ≡ get_or lamps i lamp → field_at lamp.id fields ≡ Some field → (x y : ℕ)
+    → (lit_common own range mult fields (take i lamps) x y || common_test own range field (record { middle = lamp.eye; halves = mult * lamp.radius }) x y)
+    ≡ lit_common own range mult fields (take (i + 1) lamps) x y
+lit_more own range mult fields lamps i lamp field h is kept x y =
+    let lights : Lamp → Bool = λ lamp. common_by own range (field_at lamp.id fields) (record { middle = lamp.eye; halves = mult * lamp.radius }) x y in
+    let this : lights (get_or lamps i lamp) ≡ common_test own range field (record { middle = lamp.eye; halves = mult * lamp.radius }) x y =
+    ap lights (sym is) ∙ ap (λ o. common_by own range o (record { middle = lamp.eye; halves = mult * lamp.radius }) x y) kept in
+    sym (list_any_more lights lamps i lamp h ∙ ap (λ b. list_any lights (take i lamps) || b) this)
+
+pub IsToldByCells-with_cells : (t s : Cells) (f : ℕ → ℕ → Bool) → t ≡ with_cells s f → IsToldByCells t
+IsToldByCells-with_cells t s f e = subst IsToldByCells (sym e) (IsToldByCells-cells_where s.extent (λ x y. has s x y || f x y))
+
+-- ---- fields in place of walls
+
+wider : (d m n : ℕ) → m ≤ n → nat_le d m ≡ true → nat_le d n ≡ true
+wider d m n h e = grind (arith, nat_tests)
+
+-- within at most 80 half cells of an eye, its field tells which cells are clear
+served : (walls : WallLists) (eye : Coordinates) (halves x y : ℕ) → halves ≤ 80 → x < walls.extent.w → y < walls.extent.h
+    → (has (field_of walls eye) x y && within_test eye (centre_of x y) halves) ≡ (clear_test walls eye x y && within_test eye (centre_of x y) halves)
+served walls eye halves x y h hx hy =
+    ap (λ b. b && within_test eye (centre_of x y) halves) (has-cells_where walls.extent (field_test walls eye) x y hx hy)
+    ∙ here (reach_test eye x y 40) (clear_test walls eye x y) (within_test eye (centre_of x y) halves)
+    (wider (squared_distance eye (centre_of x y)) (halves * halves) (80 * 80) (mul-le-mul h h))
+  where
+    here : (far clear near : Bool) → (near ≡ true → far ≡ true) → ((far && clear) && near) ≡ (clear && near)
+    here true clear near h = refl
+    here false true true h = h refl
+    here false true false h = refl
+    here false false near h = refl
+
+-- the same of two fields
+common_served : (walls : WallLists) (eye other : Coordinates) (range halves x y : ℕ) → range ≤ 80 → halves ≤ 80
+    → x < walls.extent.w → y < walls.extent.h
+    → common_test (field_of walls eye) (record { middle = eye; halves = range }) (field_of walls other) (record { middle = other; halves = halves }) x y
+    ≡ ((clear_test walls eye x y && within_test eye (centre_of x y) range) && (clear_test walls other x y && within_test other (centre_of x y) halves))
+common_served walls eye other range halves x y h k hx hy =
+    swapped (has (field_of walls eye) x y) (has (field_of walls other) x y) (within_test other (centre_of x y) halves) (within_test eye (centre_of x y) range)
+    ∙ ap (λ b. b && (has (field_of walls other) x y && within_test other (centre_of x y) halves)) (served walls eye range x y h hx hy)
+    ∙ ap (λ b. (clear_test walls eye x y && within_test eye (centre_of x y) range) && b) (served walls other halves x y k hx hy)
+  where
+    swapped : (a b c d : Bool) → (a && b && c && d) ≡ ((a && d) && (b && c))
+    swapped true true true d = unit d
+      where
+        unit : (d : Bool) → d ≡ (d && true)
+        unit true = refl
+        unit false = refl
+    swapped true true false d = none d
+      where
+        none : (d : Bool) → false ≡ (d && false)
+        none true = refl
+        none false = refl
+    swapped true false c d = none d
+      where
+        none : (d : Bool) → false ≡ (d && false)
+        none true = refl
+        none false = refl
+    swapped false b c d = refl
+
+-- the lamps light by their fields what they light by the walls
+lit_served : (walls : WallLists) (eye : Coordinates) (range mult : ℕ) (fields : List (TokenId × Cells)) (lamps : List Lamp) (x y : ℕ)
+    → range ≤ 80 → mult ≤ 4 → All (λ lamp. lamp.radius ≤ 20) lamps
+    → All (λ lamp. field_at lamp.id fields ≡ Some (field_of walls lamp.eye)) lamps → x < walls.extent.w → y < walls.extent.h
+    → lit_common (field_of walls eye) (record { middle = eye; halves = range }) mult fields lamps x y
+    ≡ ((clear_test walls eye x y && within_test eye (centre_of x y) range) && lit_test walls lamps mult x y)
+lit_served walls eye range mult fields [] x y h m radii kept hx hy = none (clear_test walls eye x y && within_test eye (centre_of x y) range)
+  where
+    none : (b : Bool) → false ≡ (b && false)
+    none true = refl
+    none false = refl
+lit_served walls eye range mult fields (lamp ∷ lamps) x y h m radii kept hx hy =
+    let light : Disc = record { middle = lamp.eye; halves = mult * lamp.radius } in
+    let own : Disc = record { middle = eye; halves = range } in
+    let radius : lamp.radius ≤ 20 = All-head (λ (lamp : Lamp). lamp.radius ≤ 20) lamp lamps radii in
+    let reach : mult * lamp.radius ≤ 80 = mul-le-mul m radius in
+    ap (λ o. common_by (field_of walls eye) own o light x y || lit_common (field_of walls eye) own mult fields lamps x y)
+    (All-head (λ (lamp : Lamp). field_at lamp.id fields ≡ Some (field_of walls lamp.eye)) lamp lamps kept)
+    ∙ ap (λ b. b || lit_common (field_of walls eye) own mult fields lamps x y) (common_served walls eye lamp.eye range (mult * lamp.radius) x y h reach hx hy)
+    ∙ ap (λ b. ((clear_test walls eye x y && within_test eye (centre_of x y) range) && (clear_test walls lamp.eye x y && within_test lamp.eye (centre_of x y) (mult * lamp.radius))) || b)
+    (lit_served walls eye range mult fields lamps x y h m (All-tail (λ (lamp : Lamp). lamp.radius ≤ 20) lamp lamps radii)
+    (All-tail (λ (lamp : Lamp). field_at lamp.id fields ≡ Some (field_of walls lamp.eye)) lamp lamps kept) hx hy)
+    ∙ together (clear_test walls eye x y && within_test eye (centre_of x y) range) (clear_test walls lamp.eye x y && within_test lamp.eye (centre_of x y) (mult * lamp.radius)) (lit_test walls lamps mult x y)
+  where
+    together : (a b c : Bool) → ((a && b) || (a && c)) ≡ (a && (b || c))
+    together true b c = refl
+    together false b c = refl
+
+-- what the fields tell is what is seen
+pub told_served : (mode : Mode) (walls : WallLists) (sight : Sight) (eye : Coordinates) (own : Cells) (lamps : List Lamp) (fields : List (TokenId × Cells)) (x y : ℕ)
+    → sight.range ≤ 40 → sight.night ≤ 40 → sight.mult ≤ 4 → All (λ lamp. lamp.radius ≤ 20) lamps → own ≡ field_of walls eye
+    → All (λ lamp. field_at lamp.id fields ≡ Some (field_of walls lamp.eye)) lamps → x < walls.extent.w → y < walls.extent.h
+    → told_test mode sight eye own lamps fields x y ≡ sees_test mode walls lamps sight eye x y
+told_served Off walls sight eye own lamps fields x y h n m radii is kept hx hy = refl
+told_served Day walls sight eye own lamps fields x y h n m radii is kept hx hy =
+    let reach : 2 * sight.range ≤ 80 = omega arith in
+    ap (λ (set : Cells). common_test set (disc_of eye sight.range) set (disc_of eye sight.range) x y) is
+    ∙ common_served walls eye eye (2 * sight.range) (2 * sight.range) x y reach reach hx hy
+    ∙ twice (clear_test walls eye x y && reach_test eye x y sight.range)
+  where
+    twice : (b : Bool) → (b && b) ≡ b
+    twice true = refl
+    twice false = refl
+told_served Night walls sight eye own lamps fields x y h n m radii is kept hx hy =
+    let reach : 2 * sight.range ≤ 80 = omega arith in
+    let near : 2 * sight.night ≤ 80 = omega arith in
+    ap (λ (set : Cells). common_test set (disc_of eye sight.range) set (disc_of eye sight.night) x y || lit_common set (disc_of eye sight.range) sight.mult fields lamps x y) is
+    ∙ ap (λ b. b || lit_common (field_of walls eye) (disc_of eye sight.range) sight.mult fields lamps x y)
+    (common_served walls eye eye (2 * sight.range) (2 * sight.night) x y reach near hx hy)
+    ∙ ap (λ b. ((clear_test walls eye x y && reach_test eye x y sight.range) && (clear_test walls eye x y && reach_test eye x y sight.night)) || b)
+    (lit_served walls eye (2 * sight.range) sight.mult fields lamps x y reach m radii kept hx hy)
+    ∙ together (clear_test walls eye x y) (reach_test eye x y sight.range) (reach_test eye x y sight.night) (lit_test walls lamps sight.mult x y)
+  where
+    together : (clear range night lit : Bool) → (((clear && range) && (clear && night)) || ((clear && range) && lit)) ≡ (clear && (range && (night || lit)))
+    together true true night lit = refl
+    together true false night lit = refl
+    together false range night lit = refl
+
+pub same_field : (kept : Option Cells) (own field : Cells) → kept ≡ Some own → kept ≡ Some field → own ≡ field
+same_field kept own field e f = ap (λ o. unwrap_or o own) (sym e ∙ f)

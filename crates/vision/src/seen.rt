@@ -1,0 +1,146 @@
+ghost use Rattle.std.specs.Prelude.{◌≡◌, ◌+◌, ◌*◌, ◌<◌, ◌≤◌, All, nat_eq, ◌&&◌};
+ghost use Rattle.cells.specs.Cells.{IsToldByCells};
+ghost use Rattle.topology.specs.WallLists.{WallLists};
+ghost use Rattle.vision.specs.Common.{common_test, lit_common, told_test};
+ghost use Rattle.vision.specs.Fields.{AreFieldsOf, AreKept};
+ghost use Rattle.vision.specs.Seen.{AddsSeen, AreTold, sees_test, with_cells};
+
+use crate::disc::Disc;
+use crate::fields::{Fields, kept_field};
+use crate::lamp::Lamp;
+use cells::{Cell, CellSet};
+use lattice::Point;
+use names::{Mode, TokenId};
+use sight_types::Sight;
+
+/// Adds the cells that a token sees of a shown map in that mode, by its sight and its eye, with these lamps on the
+/// map, each on a layer other than Hidden.
+///
+/// The sight's ranges are at most 40 and its multiplier at most 4, and each lamp's radius is at most 20. There are
+/// walls on a map of the set's size by which `fields` has the field of the eye for the token, and for each lamp that
+/// of the lamp's eye. No memory is taken.
+pub fn seen_cells(
+    mode: Mode,
+    sight: Sight,
+    id: TokenId,
+    eye: Point,
+    lamps: &[Lamp],
+    fields: &Fields,
+    out: &mut CellSet,
+)
+    requires range { sight.range ≤ 40 }
+    requires night { sight.night ≤ 40 }
+    requires mult { sight.mult ≤ 4 }
+    requires radii { All (λ lamp. lamp.radius ≤ 20) lamps.now }
+    requires fields { (walls : WallLists) × AreFieldsOf walls out.old.extent id eye lamps.now fields.now }
+
+    // Of all walls by which these are the fields, the same is true.
+    ensures value { (walls : WallLists) → AreFieldsOf walls out.old.extent id eye lamps.now fields.now → out.new ≡ with_cells out.old (sees_test mode walls lamps.now sight eye) }
+    ensures cells { (walls : WallLists) → AreFieldsOf walls out.old.extent id eye lamps.now fields.now → AddsSeen mode walls lamps.now sight eye out.old out.new }
+
+    // The tests hold where the relations do.
+    ensures told { AreTold mode lamps.now sight eye }
+{
+    let own = kept_field(fields, id);
+    add_seen(mode, sight, eye, own, lamps, fields, out);
+}
+
+fn add_seen(
+    mode: Mode,
+    sight: Sight,
+    eye: Point,
+    own: &CellSet,
+    lamps: &[Lamp],
+    fields: &Fields,
+    out: &mut CellSet,
+)
+    requires range { sight.range ≤ 40 }
+    requires night { sight.night ≤ 40 }
+    requires mult { sight.mult ≤ 4 }
+    requires radii { All (λ lamp. lamp.radius ≤ 20) lamps.now }
+    requires own { own.now.extent ≡ out.old.extent }
+    requires kept { AreKept out.old.extent lamps.now fields.now }
+    ensures { out.new ≡ with_cells out.old (told_test mode sight eye own.now lamps.now fields.now) }
+{
+    let range = Disc {
+        middle: eye,
+        halves: 2 * sight.range,
+    };
+    let night = Disc {
+        middle: eye,
+        halves: 2 * sight.night,
+    };
+    match mode {
+        Mode::Off => out.fill(),
+        Mode::Day => add_common(own, &range, own, &range, out),
+        Mode::Night => {
+            add_common(own, &range, own, &night, out);
+            add_lit(own, &range, sight.mult, lamps, fields, out);
+        }
+    }
+}
+
+// Adds the cells of `own` that are in the disc `range` and that some lamp lights.
+fn add_lit(
+    own: &CellSet,
+    range: &Disc,
+    mult: u8,
+    lamps: &[Lamp],
+    fields: &Fields,
+    out: &mut CellSet,
+)
+    requires mult { mult ≤ 4 }
+    requires radii { All (λ lamp. lamp.radius ≤ 20) lamps.now }
+    requires own { own.now.extent ≡ out.old.extent }
+    requires kept { AreKept out.old.extent lamps.now fields.now }
+    requires told { IsToldByCells out.old }
+    ensures { out.new ≡ with_cells out.old (lit_common own.now range.now mult fields.now lamps.now) }
+{
+    for lamp in lamps {
+        let field = kept_field(fields, lamp.id);
+        let light = Disc {
+            middle: lamp.eye,
+            halves: mult * lamp.radius,
+        };
+        add_common(own, range, field, &light, out);
+    }
+}
+
+// Adds the cells of both fields that are in both discs.
+fn add_common(own: &CellSet, range: &Disc, field: &CellSet, light: &Disc, out: &mut CellSet)
+    requires own { own.now.extent ≡ out.old.extent }
+    requires field { field.now.extent ≡ out.old.extent }
+    ensures { out.new ≡ with_cells out.old (common_test own.now range.now field.now light.now) }
+{
+    let (first, past) = light.rows(out.size().h());
+    for y in first..past {
+        add_row(own, range, field, light, y, out);
+    }
+}
+
+// Adds those of row `y`.
+fn add_row(own: &CellSet, range: &Disc, field: &CellSet, light: &Disc, y: u8, out: &mut CellSet)
+    requires own { own.now.extent ≡ out.old.extent }
+    requires field { field.now.extent ≡ out.old.extent }
+    requires row { y < out.old.extent.h }
+    ensures { out.new ≡ with_cells out.old (λ u v. nat_eq v y && common_test own.now range.now field.now light.now u v) }
+{
+    let (first, past) = light.columns(out.size().w());
+    for x in first..past {
+        let cell = Cell { x, y };
+        if is_common(own, range, field, light, cell) {
+            out.add(cell);
+        }
+    }
+}
+
+// The bits of the sets come first, since they tell most cells without a product.
+fn is_common(own: &CellSet, range: &Disc, field: &CellSet, light: &Disc, cell: Cell) -> bool
+    requires on_map { (cell.x < own.now.extent.w) × (cell.y < own.now.extent.h) }
+    requires size { field.now.extent ≡ own.now.extent }
+    requires column { cell.x < 96 }
+    requires row { cell.y < 96 }
+    ensures { result ≡ common_test own.now range.now field.now light.now cell.x cell.y }
+{
+    own.has(cell) && field.has(cell) && light.has(cell.x, cell.y) && range.has(cell.x, cell.y)
+}
