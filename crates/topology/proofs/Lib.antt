@@ -1,3 +1,4 @@
 pub mod OrderLemmas
 pub mod WallLemmas
 pub mod SightLemmas
+pub mod PathLemmas

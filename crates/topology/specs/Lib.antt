@@ -2,3 +2,4 @@ pub mod Order
 pub mod WallLists
 pub mod WallFaults
 pub mod Sight
+pub mod Paths

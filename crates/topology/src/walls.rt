@@ -1,11 +1,14 @@
-ghost use Rattle.std.specs.Prelude.{◌≡◌, ◌<◌, ◌≤◌, ◌↔◌, length, slice_get, Some, None, IfOk, IfErr, OnOk, OnErr, IsErr, is_ok, if◌then◌else◌, [], IsTrue, false};
+ghost use Rattle.std.specs.Prelude.{◌≡◌, ◌-◌, ◌<◌, ◌≤◌, ◌↔◌, length, slice_get, Some, None, IfOk, IfErr, IfSome, IsNone, OnOk, OnErr, IsErr, is_ok, if◌then◌else◌, [], IsTrue, false};
+ghost use Rattle.std.specs.List.{find, list_any, range_with_len};
+ghost use Rattle.lattice.specs.Turning.{meet_test};
 ghost use Rattle.topology.specs.Order.{wall_between};
 ghost use Rattle.topology.specs.WallLists.{AreWalls, IsOnMap, has_wall, on_map_test, place_of, walls_of, with_wall, with_walls, without_wall};
+ghost use Rattle.topology.specs.Paths.{IsFirstBlock, IsFree, block_test, first_block};
 ghost use Rattle.topology.specs.WallFaults.{IsFaultOf, wall_fault};
 
 use crate::Wall;
 use cells::Size;
-use lattice::Point;
+use lattice::{Point, meets};
 use names::{Memory, WallKind};
 use std::alloc::Global;
 use std::marker::Model;
@@ -156,6 +159,16 @@ impl Walls {
         Ok(())
     }
 
+    /// The first step of a path that meets a wall of kind mbl, where step k goes from the path's point k to its point
+    /// k + 1; `None` exactly where no step does.
+    pub fn first_block(&self, path: &[Point]) -> Option<usize>
+        ensures value { result ≡ first_block self.now path.now }
+        ensures first { IfSome result (IsFirstBlock self.now path.now) }
+        ensures free { IsNone result ↔ IsFree self.now path.now }
+    {
+        first_blocked(self.list(WallKind::Mbl), path)
+    }
+
     fn broken_check(&self, kind: WallKind, a: Point, b: Point) -> Option<WallFault>
         ensures { result ≡ wall_fault self.now kind a b }
     {
@@ -224,4 +237,23 @@ fn place_of(walls: &[Wall], wall: &Wall) -> usize
         }
     }
     walls.len()
+}
+
+fn first_blocked(walls: &[Wall], path: &[Point]) -> Option<usize>
+    ensures { result ≡ find (block_test walls.now path.now) (range_with_len 0 (length path.now - 1)) }
+{
+    for next in 1..path.len() {
+        if is_blocked(walls, path[next - 1], path[next]) {
+            return Some(next - 1);
+        }
+    }
+    None
+}
+
+fn is_blocked(walls: &[Wall], from: Point, to: Point) -> bool
+    ensures { result ≡ list_any (λ wall. meet_test wall.first wall.second from to) walls.now }
+{
+    walls
+        .iter()
+        .any(|wall| meets(wall.first, wall.second, from, to))
 }

@@ -1,0 +1,4 @@
+pub mod LetterLemmas
+pub mod NameLemmas
+pub mod MapLemmas
+pub mod Laws
