@@ -1,2 +1,3 @@
 pub mod Scene
 pub mod Rules
+pub mod World

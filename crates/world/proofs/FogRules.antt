@@ -1,0 +1,156 @@
+-- Sizes of maps, and what is exposed, after a map more and after a change of one set.
+use Rattle.std.proofs.Common.{◌≡◌, ◌≢◌, ℕ, Bool, true, false, cond, List, [], ◌∷◌, Option, Some, None, refl, sym, ap, subst, inl, inr, ◌∙◌}
+use Rattle.std.specs.Prelude.{◌⊎◌, option_map, nat_le}
+use Rattle.std.specs.Ordering.{is_lt}
+use Rattle.std.specs.Str.{bytes_eq}
+use Rattle.std.proofs.lemmas.Bool.{and_parts, cases_Bool, cases_eq, leb-true}
+use Rattle.std.proofs.lemmas.Slice.Eq.{bytes_eq-Decides}
+use Rattle.names.specs.Tag.{tag_cmp}
+use Rattle.cells.specs.Cells.{Extent, Cells, IsToldByCells, cells_where}
+use Rattle.cells.proofs.SetLaws.{IsToldByCells-cells_where}
+use Rattle.fog_book.specs.Exposures.{Fog, exposed_of, with_change, with_map as with_fog_of_map, AddsMap, ChangesOnly}
+use Rattle.fog_book.proofs.Changes.{changes_only}
+use Rattle.maps.specs.Maps.{Grid, changed, has_name, map_of, new_map, with_map}
+use Rattle.world.specs.Rules.{size_of, IsSetOf, IsFogOf}
+
+-- ---- names
+
+pub cases_name : (name other : List ℕ) → (name ≡ other) ⊎ (name ≢ other)
+cases_name name other = elim (cases_Bool (bytes_eq name other)) [
+  | inl same ↦ inl ((bytes_eq-Decides name other).0 same)
+  | inr differ ↦ inr (λ e. let both : true ≡ false = sym ((bytes_eq-Decides name other).1 e) ∙ differ in cc)
+]
+
+-- ---- sizes of maps
+
+abbrev sized : Option Grid → Option Extent
+sized found = option_map (λ (m : Grid). m.walls.extent) found
+
+-- a change of a map that keeps its name and its size
+pub size_of-changed : (f : Grid → Grid) → ((m : Grid) → (f m).name ≡ m.name) → ((m : Grid) → (f m).walls.extent ≡ m.walls.extent)
+    → (other name : List ℕ) (maps : List Grid) → size_of name (changed other f maps) ≡ size_of name maps
+size_of-changed f names sizes other name [] = refl
+size_of-changed f names sizes other name (m ∷ maps) = by (has_name other m) (size_of-changed f names sizes other name maps)
+  where
+    rest : Option Grid
+    rest = map_of name (changed other f maps)
+
+    at : (b : Bool) (k : Grid) → k.walls.extent ≡ m.walls.extent → size_of name (changed other f maps) ≡ size_of name maps
+        → sized (cond b (Some k) (map_of name (changed other f maps))) ≡ sized (cond b (Some m) (map_of name maps))
+    at true k same next = ap Some same
+    at false k same next = next
+
+    by : (b : Bool) → size_of name (changed other f maps) ≡ size_of name maps
+        → size_of name (cond b (f m) m ∷ changed other f maps) ≡ sized (cond (bytes_eq m.name name) (Some m) (map_of name maps))
+    by true next =
+        ap (λ n. sized (cond (bytes_eq n name) (Some (f m)) (map_of name (changed other f maps)))) (names m)
+        ∙ at (bytes_eq m.name name) (f m) (sizes m) next
+    by false next = at (bytes_eq m.name name) m refl next
+
+-- one map more, of a name that isn't there
+pub size_of-with_map : (m : Grid) (name : List ℕ) (maps : List Grid) → size_of m.name maps ≡ None
+    → size_of name (with_map m maps) ≡ cond (bytes_eq m.name name) (Some m.walls.extent) (size_of name maps)
+size_of-with_map m name [] absent = by (bytes_eq m.name name)
+  where
+    by : (b : Bool) → sized (cond b (Some m) None) ≡ cond b (Some m.walls.extent) None
+    by true = refl
+    by false = refl
+size_of-with_map m name (other ∷ maps) absent =
+    by (is_lt (tag_cmp other.name m.name)) (size_of-with_map m name maps (absent_rest (bytes_eq other.name m.name) absent))
+  where
+    absent_first : (b : Bool) → sized (cond b (Some other) (map_of m.name maps)) ≡ None → b ≡ false
+    absent_first true none = cc
+    absent_first false none = refl
+
+    absent_rest : (b : Bool) → sized (cond b (Some other) (map_of m.name maps)) ≡ None → size_of m.name maps ≡ None
+    absent_rest true none = cc
+    absent_rest false none = none
+
+    apart : other.name ≢ m.name
+    apart e = let both : true ≡ false = sym ((bytes_eq-Decides other.name m.name).1 e) ∙ absent_first (bytes_eq other.name m.name) absent in cc
+
+    behind : (b c : Bool) → bytes_eq other.name name ≡ b → bytes_eq m.name name ≡ c
+        → size_of name (with_map m maps) ≡ cond c (Some m.walls.extent) (size_of name maps)
+        → sized (cond b (Some other) (map_of name (with_map m maps))) ≡ cond c (Some m.walls.extent) (sized (cond b (Some other) (map_of name maps)))
+    behind true true b c next = absurd (apart ((bytes_eq-Decides other.name name).0 b ∙ sym ((bytes_eq-Decides m.name name).0 c)))
+    behind true false b c next = refl
+    behind false c b e next = next
+
+    before : (c : Bool) (found : Option Grid) → sized (cond c (Some m) found) ≡ cond c (Some m.walls.extent) (sized found)
+    before true found = refl
+    before false found = refl
+
+    by : (less : Bool) → size_of name (with_map m maps) ≡ cond (bytes_eq m.name name) (Some m.walls.extent) (size_of name maps)
+        → size_of name (cond less (other ∷ with_map m maps) (m ∷ other ∷ maps))
+        ≡ cond (bytes_eq m.name name) (Some m.walls.extent) (size_of name (other ∷ maps))
+    by true next = behind (bytes_eq other.name name) (bytes_eq m.name name) refl refl next
+    by false next = before (bytes_eq m.name name) (map_of name (other ∷ maps))
+
+-- ---- one set changed
+
+-- a change of sets that keeps their sizes
+abbrev pub KeepsSize : (Cells → Cells) → Type 0
+KeepsSize change = (cells : Cells) → ((change cells).extent ≡ cells.extent) × IsToldByCells (change cells)
+
+set_kept : (size : Extent) (change : Cells → Cells) → KeepsSize change → (set : Option Cells) → IsSetOf size set → IsSetOf size (option_map change set)
+set_kept size change keeps None is = is
+set_kept size change keeps (Some cells) is = ((keeps cells).0 ∙ is.0, (keeps cells).1)
+
+-- each set is as before, or the change was made to it
+changed_or_kept : (old new : Fog) (seat : ℕ) (name : List ℕ) (change : Cells → Cells) → ChangesOnly old new seat name change → (other : ℕ) (place : List ℕ)
+    → (exposed_of new other place ≡ exposed_of old other place) ⊎ (exposed_of new other place ≡ option_map change (exposed_of old other place))
+changed_or_kept old new seat name change only other place = elim (cases_eq other seat) [
+  | inr differ ↦ inl (only.others other place (inl differ))
+  | inl seats ↦ elim (cases_name place name) [
+    | inr differ ↦ inl (only.others other place (inr differ))
+    | inl names ↦ inr (subst (λ k. exposed_of new k place ≡ option_map change (exposed_of old k place)) (sym seats)
+        (subst (λ n. exposed_of new seat n ≡ option_map change (exposed_of old seat n)) (sym names) only.changed))
+  ]
+]
+
+pub IsFogOf-with_change : (maps : List Grid) (fog : Fog) (seat : ℕ) (name : List ℕ) (change : Cells → Cells) → KeepsSize change → IsFogOf maps fog → IsFogOf maps (with_change fog seat name change)
+IsFogOf-with_change maps fog seat name change keeps is = record {
+  sets = λ place size other there player.
+      elim (changed_or_kept fog (with_change fog seat name change) seat name change (changes_only seat name change fog) other place) [
+        | inl same ↦ subst (IsSetOf size) (sym same) (is.sets place size other there player)
+        | inr made ↦ subst (IsSetOf size) (sym made) (set_kept size change keeps (exposed_of fog other place) (is.sets place size other there player))
+      ];
+  no_others = λ place other none.
+      elim (changed_or_kept fog (with_change fog seat name change) seat name change (changes_only seat name change fog) other place) [
+        | inl same ↦ same ∙ is.no_others place other none
+        | inr made ↦ made ∙ ap (option_map change) (is.no_others place other none)
+      ];
+}
+
+-- ---- one map more
+
+pub IsFogOf-with_map : (maps : List Grid) (fog : Fog) (name : List ℕ) (size : Extent) → size_of name maps ≡ None → AddsMap fog (with_fog_of_map fog name size) name size
+    → IsFogOf maps fog → IsFogOf (with_map (new_map name size) maps) (with_fog_of_map fog name size)
+IsFogOf-with_map maps fog name size absent adds is = record {
+  sets = λ place extent seat there player. elim (cases_name name place) [
+    | inl same ↦
+        let here : Some size ≡ Some extent = sym (size_of-with_map (new_map name size) place maps absent ∙ ap (λ b. cond b (Some size) (size_of place maps)) ((bytes_eq-Decides name place).1 same)) ∙ there in
+        let at : size ≡ extent = cc in
+        let low = and_parts (nat_le 1 seat) (nat_le seat fog.players) player in
+        let blank : exposed_of (with_fog_of_map fog name size) seat name ≡ Some (cells_where size (λ x y. false)) =
+        adds.blank seat (leb-true 1 seat low.0) (leb-true seat fog.players low.1) (is.no_others name seat absent) in
+        subst (λ n. IsSetOf extent (exposed_of (with_fog_of_map fog name size) seat n)) same
+        (subst (IsSetOf extent) (sym blank) (at, IsToldByCells-cells_where size (λ x y. false)))
+    | inr differ ↦
+        let there_too : size_of place maps ≡ Some extent = sym (unaffected place differ) ∙ there in
+        subst (IsSetOf extent) (sym (adds.others seat place (λ e. differ (sym e)))) (is.sets place extent seat there_too player)
+  ];
+  no_others = λ place seat none. elim (cases_name name place) [
+    | inl same ↦
+        let here : Some size ≡ None = sym (size_of-with_map (new_map name size) place maps absent ∙ ap (λ b. cond b (Some size) (size_of place maps)) ((bytes_eq-Decides name place).1 same)) ∙ none in
+        cc
+    | inr differ ↦ adds.others seat place (λ e. differ (sym e)) ∙ is.no_others place seat (sym (unaffected place differ) ∙ none)
+  ];
+}
+  where
+    unaffected : (place : List ℕ) → name ≢ place → size_of place (with_map (new_map name size) maps) ≡ size_of place maps
+    unaffected place differ = size_of-with_map (new_map name size) place maps absent ∙ other (bytes_eq name place) refl
+      where
+        other : (b : Bool) → bytes_eq name place ≡ b → cond b (Some size) (size_of place maps) ≡ size_of place maps
+        other true e = absurd (differ ((bytes_eq-Decides name place).0 e))
+        other false e = refl

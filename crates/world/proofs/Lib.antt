@@ -1,0 +1,4 @@
+pub mod TokenRules
+pub mod FogRules
+pub mod SceneRules
+pub mod Numbers

@@ -1,0 +1,274 @@
+//! All of a campaign but its seats' books.
+ghost use Rattle.std.specs.Prelude.{◌≡◌, ◌≤◌, ◌↔◌, IsTrue, true, false, length, Err, Some, None, IfOk, IfErr, IfSome, OnOk, OnErr};
+ghost use Rattle.cells.specs.Cells.{IsToldByCells};
+ghost use Rattle.fog_book.specs.Exposures.{ChangesOnly, joined, with_change};
+ghost use Rattle.fog_book.specs.Rects.{with_rect};
+ghost use Rattle.lights.specs.Lights.{IsFaultOf as IsLightFaultOf, light_fault};
+ghost use Rattle.maps.specs.Maps.{has_map};
+ghost use Rattle.sight_types.specs.Sights.{IsFaultOf as IsSightFaultOf, sight_fault};
+ghost use Rattle.tokens.specs.Properties.{is_full_for, value_limit};
+ghost use Rattle.tokens.specs.Tokens.{has_token, on_layer, owned_by, placed, props_of, put, shown_if, token_of, with_light, with_prop, with_sight, without};
+ghost use Rattle.tokens.specs.declared.props.PropFault.TheVariants.{PropertyLimit};
+ghost use Rattle.type_table.specs.Types.{with_type};
+ghost use Rattle.world.specs.Rules.{IsScene, belongs, fits_on, is_known, is_player, size_of};
+ghost use Rattle.world.specs.Scene.{bare, with_token};
+
+use cells::{Cell, CellSet, Rect};
+use fog_book::FogBook;
+use lights::{LightFault, LightTable};
+use maps::MapTable;
+use names::{Layer, Memory, PropClass, SeatNo, Tag, Text, TokenId};
+use sight_types::{SightFault, SightTable};
+use std::alloc::Global;
+use std::marker::Model;
+use tokens::{PropFault, Token, TokenTable};
+
+/// The maps of a campaign, the tokens on them, the types of lights and sights, and what is exposed to each player.
+///
+/// The parts fit together: each token stands on a map that is there, its types are there and its owners are players of
+/// the campaign, and each player has a set of exposed cells for each map, of the map's size.
+#[derive(Drop)]
+pub struct Scene {
+    maps: MapTable,
+    tokens: TokenTable,
+    lights: LightTable,
+    sights: SightTable,
+    fog: FogBook,
+}
+
+impl Model for Scene {
+    ghost use Rattle.world.specs.Rules.{IsScene};
+    ghost use Rattle.world.specs.Scene.{Scene};
+
+    ghost Value = { Scene };
+
+    ghost view = { λ s. record { maps = s.maps; tokens = s.tokens; lights = s.lights; sights = s.sights; fog = s.fog } };
+
+    ghost invariant = { λ s. IsScene (record { maps = s.maps; tokens = s.tokens; lights = s.lights; sights = s.sights; fog = s.fog }) };
+}
+
+impl Scene {
+    /// The maps, in byte order of their names.
+    pub fn maps(&self) -> &MapTable
+        ensures value { result.now ≡ self.now.maps }
+        ensures fitting { IsScene self.now }
+    {
+        &self.maps
+    }
+
+    /// The tokens, in order of their ids.
+    pub fn tokens(&self) -> &TokenTable
+        ensures value { result.now ≡ self.now.tokens }
+        ensures fitting { IsScene self.now }
+    {
+        &self.tokens
+    }
+
+    /// The light types.
+    pub fn lights(&self) -> &LightTable
+        ensures value { result.now ≡ self.now.lights }
+        ensures fitting { IsScene self.now }
+    {
+        &self.lights
+    }
+
+    /// The sight types.
+    pub fn sights(&self) -> &SightTable
+        ensures value { result.now ≡ self.now.sights }
+        ensures fitting { IsScene self.now }
+    {
+        &self.sights
+    }
+
+    /// What is exposed to each player.
+    pub fn fog(&self) -> &FogBook
+        ensures value { result.now ≡ self.now.fog }
+        ensures fitting { IsScene self.now }
+    {
+        &self.fog
+    }
+
+    /// A scene with no map, token and type, for so many players, at most 32.
+    pub fn open(alloc: Global, players: u8) -> Result<Scene, Memory>
+        requires { players ≤ 32 }
+        ensures { IfOk result (λ scene. scene ≡ bare players) }
+    {
+        Ok(Scene {
+            maps: MapTable::new(alloc),
+            tokens: TokenTable::new(alloc),
+            lights: LightTable::new(alloc),
+            sights: SightTable::new(alloc),
+            fog: FogBook::open(alloc, players)?,
+        })
+    }
+
+    /// An equal scene, or `Memory` for want of memory.
+    pub fn copy(&self) -> Result<Scene, Memory>
+        ensures { IfOk result (λ scene. scene ≡ self.now) }
+    {
+        Ok(Scene {
+            maps: self.maps.copy()?,
+            tokens: self.tokens.copy()?,
+            lights: self.lights.copy()?,
+            sights: self.sights.copy()?,
+            fog: self.fog.copy()?,
+        })
+    }
+
+    /// Adds the light type with this name, or changes its radius. All else stays.
+    ///
+    /// The checks are made in the order of `LightFault`; after a fault the scene is as before.
+    pub fn set_light_type(&mut self, name: Tag, radius: u32) -> Result<(), LightFault>
+        ensures set { OnOk result (self.new ≡ record self.old { lights = with_type name radius self.old.lights }) }
+        ensures ok { OnOk result (light_fault self.old.lights name radius ≡ None) }
+        ensures fault { IfErr result (IsLightFaultOf (light_fault self.old.lights name radius)) }
+        ensures unchanged { OnErr result (self.new ≡ self.old) }
+    {
+        self.lights.set(name, radius)
+    }
+
+    /// Adds the sight type with this name, or changes its sight. All else stays.
+    ///
+    /// The checks are made in the order of `SightFault`; after a fault the scene is as before.
+    pub fn set_sight_type(
+        &mut self,
+        name: Tag,
+        range: u32,
+        night: u32,
+        mult: u32,
+    ) -> Result<(), SightFault>
+        ensures set { OnOk result (self.new ≡ record self.old { sights = with_type name (record { range = range; night = night; mult = mult }) self.old.sights }) }
+        ensures ok { OnOk result (sight_fault self.old.sights name range night mult ≡ None) }
+        ensures fault { IfErr result (IsSightFaultOf (sight_fault self.old.sights name range night mult)) }
+        ensures unchanged { OnErr result (self.new ≡ self.old) }
+    {
+        self.sights.set(name, range, night, mult)
+    }
+
+    /// Puts a token in its place. Its id isn't there, and it belongs to the scene: its square is on a map that is there,
+    /// its types are there, and players own it.
+    ///
+    /// The token comes back for want of memory, and the scene is then as before.
+    pub fn make(&mut self, token: Token) -> Result<(), Token>
+        requires absent { has_token token.id self.old.tokens ≡ false }
+        requires fitting { IsTrue (belongs self.old token) }
+        ensures ok { OnOk result (self.new ≡ record self.old { tokens = put token self.old.tokens }) }
+        ensures back { IfErr result (λ t. t ≡ token) }
+        ensures unchanged { OnErr result (self.new ≡ self.old) }
+    {
+        self.tokens.make(token)
+    }
+
+    /// Takes out the token of that id, with its properties; `None` exactly where it isn't there. All else stays.
+    pub fn remove(&mut self, id: TokenId) -> Option<Token>
+        ensures value { result ≡ token_of id self.old.tokens }
+        ensures rest { self.new ≡ record self.old { tokens = without id self.old.tokens } }
+    {
+        self.tokens.remove(id)
+    }
+
+    /// Puts the token of that id, which is there, on a cell of a map that is there; its square is then on the map. All
+    /// else stays.
+    pub fn place(&mut self, id: TokenId, map: Tag, cell: Cell)
+        requires there { has_token id self.old.tokens ≡ true }
+        requires fitting { IfSome (token_of id self.old.tokens) (λ t. IsTrue (fits_on (size_of map self.old.maps) cell t.size)) }
+        ensures { self.new ≡ with_token id (placed map cell) self.old }
+    {
+        // The table tells with its length that no other token has the id.
+        let _count = self.tokens.len();
+        self.tokens.place(id, map, cell);
+    }
+
+    /// Puts the token of that id, which is there, on a layer. All else stays.
+    pub fn set_layer(&mut self, id: TokenId, layer: Layer)
+        requires { has_token id self.old.tokens ≡ true }
+        ensures { self.new ≡ with_token id (on_layer layer) self.old }
+    {
+        self.tokens.set_layer(id, layer);
+    }
+
+    /// Sets the visible flag of the token of that id, which is there. All else stays.
+    pub fn set_visible(&mut self, id: TokenId, on: bool)
+        requires { has_token id self.old.tokens ≡ true }
+        ensures { self.new ≡ with_token id (shown_if on) self.old }
+    {
+        self.tokens.set_visible(id, on);
+    }
+
+    /// Makes the player an owner of the token of that id, which is there, or makes it none. All else stays.
+    pub fn set_owner(&mut self, id: TokenId, seat: SeatNo, on: bool)
+        requires there { has_token id self.old.tokens ≡ true }
+        requires player { IsTrue (is_player self.old.fog.players seat) }
+        ensures { self.new ≡ with_token id (owned_by seat on) self.old }
+    {
+        self.tokens.set_owner(id, seat, on);
+    }
+
+    /// Sets the sight type of the token of that id, which is there, to one that is there, or to none. All else stays.
+    pub fn set_sight(&mut self, id: TokenId, sight: Option<Tag>)
+        requires there { has_token id self.old.tokens ≡ true }
+        requires known { IsTrue (is_known self.old.sights sight) }
+        ensures { self.new ≡ with_token id (with_sight sight) self.old }
+    {
+        self.tokens.set_sight(id, sight);
+    }
+
+    /// Sets the light type of the token of that id, which is there, to one that is there, or to none. All else stays.
+    pub fn set_light(&mut self, id: TokenId, light: Option<Tag>)
+        requires there { has_token id self.old.tokens ≡ true }
+        requires known { IsTrue (is_known self.old.lights light) }
+        ensures { self.new ≡ with_token id (with_light light) self.old }
+    {
+        self.tokens.set_light(id, light);
+    }
+
+    /// Sets a property of the token of that id, which is there, to a value of at most 200 bytes. All else stays.
+    ///
+    /// `PropertyLimit` exactly where the name is new in its class and the class has 64 names. After a fault the scene
+    /// is as before.
+    pub fn set_prop(
+        &mut self,
+        id: TokenId,
+        class: PropClass,
+        name: Tag,
+        value: Text,
+    ) -> Result<(), PropFault>
+        requires there { has_token id self.old.tokens ≡ true }
+        requires short { length value ≤ value_limit }
+        ensures ok { OnOk result (self.new ≡ with_token id (with_prop class name value) self.old) }
+        ensures limit { IfSome (token_of id self.old.tokens) (λ t. (result ≡ Err PropertyLimit) ↔ (is_full_for name (props_of class t) ≡ true)) }
+        ensures unchanged { OnErr result (self.new ≡ self.old) }
+    {
+        self.tokens.set_prop(id, class, name, value)
+    }
+
+    /// Exposes the cells of a map, which is there, in the rectangle to a player. All else stays.
+    pub fn expose(&mut self, seat: SeatNo, map: Tag, rect: Rect)
+        requires there { has_map map self.old.maps ≡ true }
+        requires player { IsTrue (is_player self.old.fog.players seat) }
+        ensures value { self.new ≡ record self.old { fog = with_change self.old.fog seat map (λ cells. with_rect cells rect true) } }
+        ensures sets { ChangesOnly self.old.fog self.new.fog seat map (λ cells. with_rect cells rect true) }
+    {
+        self.fog.expose(seat, map, rect);
+    }
+
+    /// Hides the cells of a map, which is there, in the rectangle from a player. All else stays.
+    pub fn hide(&mut self, seat: SeatNo, map: Tag, rect: Rect)
+        requires there { has_map map self.old.maps ≡ true }
+        requires player { IsTrue (is_player self.old.fog.players seat) }
+        ensures value { self.new ≡ record self.old { fog = with_change self.old.fog seat map (λ cells. with_rect cells rect false) } }
+        ensures sets { ChangesOnly self.old.fog self.new.fog seat map (λ cells. with_rect cells rect false) }
+    {
+        self.fog.hide(seat, map, rect);
+    }
+
+    /// Exposes the cells of a map, which is there, that a player sees; `seen` is of the map's size. All else stays.
+    pub fn after_sight(&mut self, seat: SeatNo, map: Tag, seen: &CellSet)
+        requires there { size_of map self.old.maps ≡ Some seen.now.extent }
+        requires player { IsTrue (is_player self.old.fog.players seat) }
+        ensures value { self.new ≡ record self.old { fog = with_change self.old.fog seat map (λ cells. joined cells seen.now) } }
+        ensures sets { ChangesOnly self.old.fog self.new.fog seat map (λ cells. joined cells seen.now) }
+    {
+        self.fog.after_sight(seat, map, seen);
+    }
+}
