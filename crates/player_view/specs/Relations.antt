@@ -2,7 +2,7 @@
 use Rattle.std.specs.Prelude.{◌≡◌, ◌≢◌, ◌<◌, ◌⊎◌, ℕ, Bool, true, List, Option, Some, Any}
 use Rattle.names.specs.declared.kinds.Layer.{Layer}
 use Rattle.names.specs.declared.kinds.Layer.TheVariants.{Token as TokenLayer, Hidden, Object, Background}
-use Rattle.cells.specs.Cells.{Cells, has}
+use Rattle.cells.specs.Cells.{Extent, Cells, has}
 use Rattle.maps.specs.Maps.{Grid, map_of}
 use Rattle.sight_types.specs.declared.Sight.{Sight}
 use Rattle.tokens.specs.declared.token.Token.{Token}
@@ -37,22 +37,26 @@ pub record Owns (s : Scene) (p : ℕ) (t : Token) : Type 0 where
 abbrev pub IsVisible : Scene → ℕ → Grid → ℕ → ℕ → Type 0
 IsVisible s p m x y = Any (λ t. (m.name ≡ t.map) × Owns s p t × Sees s m t x y) s.tokens
 
--- the token covers a cell of the map at which P holds
-pub record Touches (m : Grid) (P : ℕ → ℕ → Type 0) (t : Token) : Type 0 where
+-- the token covers a cell of a map of that size at which P holds
+pub record Touches (size : Extent) (P : ℕ → ℕ → Type 0) (t : Token) : Type 0 where
   pub x : ℕ
   pub y : ℕ
   pub covers : Covers t x y
-  pub column : x < m.walls.extent.w
-  pub row : y < m.walls.extent.h
+  pub column : x < size.w
+  pub row : y < size.h
   pub holds : P x y
+
+-- the token covers a cell of the set
+abbrev pub TouchesSet : Cells → Token → Type 0
+TouchesSet cells t = Touches cells.extent (λ x y. has cells x y ≡ true) t
 
 -- a token of the layer is uncovered for the player on its map: on the Token layer by a cell in sight, on the layers
 -- Object and Background by an exposed cell
 abbrev pub IsUncovered : Layer → Scene → ℕ → Grid → Token → Type 0
-IsUncovered TokenLayer s p m t = Touches m (IsVisible s p m) t
+IsUncovered TokenLayer s p m t = Touches m.walls.extent (IsVisible s p m) t
 IsUncovered Hidden s p m t = ⊥
-IsUncovered Object s p m t = Touches m (λ x y. has (exposed s p m) x y ≡ true) t
-IsUncovered Background s p m t = Touches m (λ x y. has (exposed s p m) x y ≡ true) t
+IsUncovered Object s p m t = TouchesSet (exposed s p m) t
+IsUncovered Background s p m t = TouchesSet (exposed s p m) t
 
 -- the token has the visible flag and is uncovered on its map, which is shown
 pub record IsInOpen (s : Scene) (p : ℕ) (t : Token) : Type 0 where

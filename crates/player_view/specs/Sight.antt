@@ -1,5 +1,5 @@
 -- What tokens and players see: the tests that compute it.
-use Rattle.std.specs.Prelude.{ℕ, ◌&&◌, not, Bool, true, false, List, Option, Some, None, option_and_then}
+use Rattle.std.specs.Prelude.{ℕ, ◌&&◌, not, Bool, true, false, if◌then◌else◌, List, Option, Some, None, option_and_then}
 use Rattle.std.specs.Str.{bytes_eq}
 use Rattle.std.specs.List.{list_any, filter_map}
 use Rattle.names.specs.declared.kinds.Layer.{Layer}
@@ -64,9 +64,13 @@ sees s m t x y = m.shown && sees_with s m t (named_type s.sights t.sight) x y
 abbrev pub owns : Scene → ℕ → Token → Bool
 owns s p t = has_owner t.owners p && (not (is_hidden t.layer) && map_shown s t.map)
 
+-- the token is one of the player's on the map, and sees the cell (x, y) of it
+abbrev pub shows_cell : Scene → ℕ → Grid → ℕ → ℕ → Token → Bool
+shows_cell s p m x y t = is_on m.name t && (owns s p t && sees s m t x y)
+
 -- some token of the player sees the cell (x, y) of the map
 abbrev pub visible_test : Scene → ℕ → Grid → ℕ → ℕ → Bool
-visible_test s p m x y = list_any (λ t. is_on m.name t && (owns s p t && sees s m t x y)) s.tokens
+visible_test s p m x y = list_any (shows_cell s p m x y) s.tokens
 
 -- what the player's tokens see of the map
 unfoldable pub visible : Scene → ℕ → Grid → Cells

@@ -1,0 +1,32 @@
+-- What is found on the way, token by token.
+use Rattle.std.specs.Prelude.{ℕ, ◌&&◌, Bool, false, if◌then◌else◌, take, Option, Some, None}
+use Rattle.std.specs.List.{list_any}
+use Rattle.names.specs.declared.kinds.Layer.{Layer}
+use Rattle.names.specs.declared.kinds.Layer.TheVariants.{Token as TokenLayer, Hidden, Object, Background}
+use Rattle.cells.specs.Cells.{Cells, cells_where}
+use Rattle.maps.specs.Maps.{Grid}
+use Rattle.sight_types.specs.declared.Sight.{Sight}
+use Rattle.tokens.specs.declared.token.Token.{Token}
+use Rattle.view_change.specs.declared.view.MapView.{MapView}
+use Rattle.player_view.specs.Sight.{is_on, named_type, owns, shows_cell}
+use Rattle.player_view.specs.Shown.{touches}
+use Rattle.world.specs.Scene.{Scene}
+
+-- the sight with which the token adds to what the player sees of the map
+abbrev pub sight_on : Scene → ℕ → Grid → Token → Option Sight
+sight_on s p m t = if is_on m.name t && (owns s p t && m.shown) then named_type s.sights t.sight else None
+
+-- what the first so many tokens show the player of the map
+unfoldable pub visible_to_first : Scene → ℕ → Grid → ℕ → Cells
+visible_to_first s p m count = cells_where m.walls.extent (λ x y. list_any (shows_cell s p m x y) (take count s.tokens))
+
+-- the token covers a cell of the map's set that counts for its layer
+abbrev pub is_open_by : Layer → Token → MapView → Bool
+is_open_by TokenLayer t view = touches t view.seen
+is_open_by Hidden t view = false
+is_open_by Object t view = touches t view.exposed
+is_open_by Background t view = touches t view.exposed
+
+abbrev pub is_open_in : Token → Option MapView → Bool
+is_open_in t None = false
+is_open_in t (Some view) = is_open_by t.layer t view
