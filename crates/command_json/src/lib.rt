@@ -10,3 +10,6 @@ mod verbs;
 
 pub use command::{CellPath, Command, LineFault};
 pub use read::read_line;
+
+#[cfg(test)]
+mod tests;
