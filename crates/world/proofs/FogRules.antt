@@ -1,6 +1,7 @@
 -- Sizes of maps, and what is exposed, after a map more and after a change of one set.
-use Rattle.std.proofs.Common.{◌≡◌, ◌≢◌, ℕ, Bool, true, false, cond, List, [], ◌∷◌, Option, Some, None, refl, sym, ap, subst, inl, inr, ◌∙◌}
+use Rattle.std.proofs.Common.{◌≡◌, ◌≢◌, ℕ, zero, suc, ◌++◌, Bool, true, false, cond, List, [], ◌∷◌, Option, Some, None, refl, sym, ap, subst, inl, inr, ◌∙◌}
 use Rattle.std.specs.Prelude.{◌⊎◌, option_map, nat_le}
+use Rattle.std.specs.List.{AllByRecursion}
 use Rattle.std.specs.Ordering.{is_lt}
 use Rattle.std.specs.Str.{bytes_eq}
 use Rattle.std.proofs.lemmas.Bool.{and_parts, cases_Bool, cases_eq, leb-true}
@@ -8,10 +9,12 @@ use Rattle.std.proofs.lemmas.Slice.Eq.{bytes_eq-Decides}
 use Rattle.names.specs.Tag.{tag_cmp}
 use Rattle.cells.specs.Cells.{Extent, Cells, IsToldByCells, cells_where}
 use Rattle.cells.proofs.SetLaws.{IsToldByCells-cells_where}
-use Rattle.fog_book.specs.Exposures.{Fog, exposed_of, with_change, with_map as with_fog_of_map, AddsMap, ChangesOnly}
+use Rattle.fog_book.specs.declared.exposure.Exposure.{Exposure}
+use Rattle.fog_book.proofs.Joining.{kept_each}
+use Rattle.fog_book.specs.Exposures.{Fog, is_of, changed_at, blank_sets, with_each_seen, exposed_of, with_change, with_map as with_fog_of_map, AddsMap, ChangesOnly}
 use Rattle.fog_book.proofs.Changes.{changes_only}
 use Rattle.maps.specs.Maps.{Grid, changed, has_name, map_of, new_map, with_map}
-use Rattle.world.specs.Rules.{size_of, IsSetOf, IsFogOf}
+use Rattle.world.specs.Rules.{size_of, IsSetOf, IsSized, IsFogOf}
 
 -- ---- names
 
@@ -108,6 +111,42 @@ changed_or_kept old new seat name change only other place = elim (cases_eq other
   ]
 ]
 
+-- every set keeps its size
+sized_changed : (maps : List Grid) (test : Exposure → Bool) (change : Cells → Cells) → KeepsSize change → (sets : List Exposure) → AllByRecursion (IsSized maps) sets → AllByRecursion (IsSized maps) (changed_at test change sets)
+sized_changed maps test change keeps [] h = tt
+sized_changed maps test change keeps (set ∷ sets) h = by (test set) (sized_changed maps test change keeps sets h.1)
+  where
+    by : (b : Bool) → AllByRecursion (IsSized maps) (changed_at test change sets)
+        → AllByRecursion (IsSized maps) (cond b (record { seat = set.seat; map = set.map; cells = change set.cells } ∷ sets) (set ∷ changed_at test change sets))
+    by true rest = (h.0 ∙ ap Some (sym (keeps set.cells).0), h.1)
+    by false rest = (h.0, rest)
+
+sized_each : (maps : List Grid) (sets : List Exposure) (seen : List Cells) → AllByRecursion (IsSized maps) sets → AllByRecursion (IsSized maps) (with_each_seen sets seen)
+sized_each maps [] seen h = tt
+sized_each maps (set ∷ sets) [] h = h
+sized_each maps (set ∷ sets) (cells ∷ seen) h = (h.0, sized_each maps sets seen h.1)
+
+sized_append : (maps : List Grid) (xs ys : List Exposure) → AllByRecursion (IsSized maps) xs → AllByRecursion (IsSized maps) ys → AllByRecursion (IsSized maps) (xs ++ ys)
+sized_append maps [] ys h k = k
+sized_append maps (x ∷ xs) ys h k = (h.0, sized_append maps xs ys h.1 k)
+
+sized_blank : (maps : List Grid) (players : ℕ) (name : List ℕ) (size : Extent) → size_of name maps ≡ Some size → AllByRecursion (IsSized maps) (blank_sets players name size)
+sized_blank maps zero name size is = tt
+sized_blank maps (suc n) name size is = sized_append maps (blank_sets n name size) _ (sized_blank maps n name size is) (is, tt)
+
+-- by other maps that have the sizes of these
+pub sized_by : (maps others : List Grid) → ((name : List ℕ) (size : Extent) → size_of name maps ≡ Some size → size_of name others ≡ Some size) → (sets : List Exposure) → AllByRecursion (IsSized maps) sets → AllByRecursion (IsSized others) sets
+sized_by maps others same [] h = tt
+sized_by maps others same (set ∷ sets) h = (same set.map set.cells.extent h.0, sized_by maps others same sets h.1)
+
+-- what is seen joined to each set
+pub IsFogOf-with_each_seen : (maps : List Grid) (fog : Fog) (seen : List Cells) → IsFogOf maps fog → IsFogOf maps (record fog { sets = with_each_seen fog.sets seen })
+IsFogOf-with_each_seen maps fog seen is = record {
+  sets = λ name size seat there player. kept_each (IsSetOf size) (λ cells more h. (h.0, IsToldByCells-cells_where _ _)) fog.sets seen seat name (is.sets name size seat there player);
+  no_others = λ name seat none. kept_each (λ set. set ≡ None) (λ cells more h. cc) fog.sets seen seat name (is.no_others name seat none);
+  each = sized_each maps fog.sets seen is.each;
+}
+
 pub IsFogOf-with_change : (maps : List Grid) (fog : Fog) (seat : ℕ) (name : List ℕ) (change : Cells → Cells) → KeepsSize change → IsFogOf maps fog → IsFogOf maps (with_change fog seat name change)
 IsFogOf-with_change maps fog seat name change keeps is = record {
   sets = λ place size other there player.
@@ -120,6 +159,7 @@ IsFogOf-with_change maps fog seat name change keeps is = record {
         | inl same ↦ same ∙ is.no_others place other none
         | inr made ↦ made ∙ ap (option_map change) (is.no_others place other none)
       ];
+  each = sized_changed maps (is_of seat name) change keeps fog.sets is.each;
 }
 
 -- ---- one map more
@@ -146,6 +186,11 @@ IsFogOf-with_map maps fog name size absent adds is = record {
         cc
     | inr differ ↦ adds.others seat place (λ e. differ (sym e)) ∙ is.no_others place seat (sym (unaffected place differ) ∙ none)
   ];
+  each =
+      sized_append (with_map (new_map name size) maps) fog.sets (blank_sets fog.players name size)
+      (sized_by maps (with_map (new_map name size) maps) still fog.sets is.each)
+      (sized_blank (with_map (new_map name size) maps) fog.players name size
+      (size_of-with_map (new_map name size) name maps absent ∙ ap (λ b. cond b (Some size) (size_of name maps)) ((bytes_eq-Decides name name).1 refl)));
 }
   where
     unaffected : (place : List ℕ) → name ≢ place → size_of place (with_map (new_map name size) maps) ≡ size_of place maps
@@ -154,3 +199,7 @@ IsFogOf-with_map maps fog name size absent adds is = record {
         other : (b : Bool) → bytes_eq name place ≡ b → cond b (Some size) (size_of place maps) ≡ size_of place maps
         other true e = absurd (differ ((bytes_eq-Decides name place).0 e))
         other false e = refl
+
+    -- a map that was there is another
+    still : (place : List ℕ) (extent : Extent) → size_of place maps ≡ Some extent → size_of place (with_map (new_map name size) maps) ≡ Some extent
+    still place extent there = unaffected place (λ e. let none : Some extent ≡ None = sym there ∙ ap (λ n. size_of n maps) (sym e) ∙ absent in cc) ∙ there

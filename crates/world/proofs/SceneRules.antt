@@ -21,7 +21,7 @@ use Rattle.cells.specs.Cells.{Extent, Cells, has}
 use Rattle.cells.specs.declared.cell.Rect.{Rect}
 use Rattle.cells.proofs.SetLaws.{IsToldByCells-cells_where}
 use Rattle.cells.specs.declared.cell.Cell.{Cell}
-use Rattle.fog_book.specs.Exposures.{Fog, exposed_of, joined, with_change, with_map as with_fog_of_map, AddsMap}
+use Rattle.fog_book.specs.Exposures.{Fog, exposed_of, joined, with_change, with_each_seen, with_map as with_fog_of_map, AddsMap}
 use Rattle.fog_book.specs.Rects.{is_in, with_rect}
 use Rattle.maps.specs.Maps.{Grid, changed as changed_map, has_map, map_of, new_map, walled, with_map}
 use Rattle.sight_types.specs.declared.Sight.{Sight}
@@ -32,7 +32,7 @@ use Rattle.type_table.specs.Types.{type_of, with_type}
 use Rattle.world.specs.Scene.{Scene, bare}
 use Rattle.world.specs.Rules.{size_of, fits_on, is_known, is_player, are_players, belongs, IsSetOf, IsScene}
 use Rattle.world.proofs.TokenRules.{all_pass, all_put, all_without, all_changed, all_changed_at, players_with}
-use Rattle.world.proofs.FogRules.{KeepsSize, size_of-changed, size_of-with_map, IsFogOf-with_change, IsFogOf-with_map}
+use Rattle.world.proofs.FogRules.{KeepsSize, size_of-changed, size_of-with_map, sized_by, IsFogOf-with_change, IsFogOf-with_each_seen, IsFogOf-with_map}
 
 -- ---- what a scene tells
 
@@ -53,7 +53,7 @@ exposed_there s name seat is there player = by (map_of name s.maps) refl there
 pub IsScene-bare : (players : ℕ) → IsScene (bare players)
 IsScene-bare players = record {
   tokens = refl;
-  fog = record { sets = λ name size seat there player. cc; no_others = λ name seat none. refl };
+  fog = record { sets = λ name size seat there player. cc; no_others = λ name seat none. refl; each = tt };
 }
 
 -- ---- tokens
@@ -137,6 +137,7 @@ IsScene-maps s maps same is = record {
   fog = record {
     sets = λ name size seat there player. is.fog.sets name size seat (sym (same name) ∙ there) player;
     no_others = λ name seat none. is.fog.no_others name seat (sym (same name) ∙ none);
+    each = sized_by s.maps maps (λ name size there. same name ∙ there) s.fog.sets is.fog.each;
   };
 }
 
@@ -261,3 +262,7 @@ IsScene-with_change s seat name change keeps is = record {
   tokens = is.tokens;
   fog = IsFogOf-with_change s.maps s.fog seat name change keeps is.fog;
 }
+
+-- what is seen joined to each set
+pub IsScene-with_each_seen : (s : Scene) (seen : List Cells) → IsScene s → IsScene (record s { fog = record s.fog { sets = with_each_seen s.fog.sets seen } })
+IsScene-with_each_seen s seen is = record { tokens = is.tokens; fog = IsFogOf-with_each_seen s.maps s.fog seen is.fog }

@@ -1,8 +1,9 @@
 -- What fits together in a scene.
 use Rattle.std.specs.Prelude.{◌≡◌, ℕ, ◌+◌, ◌&&◌, Bool, IsTrue, true, false, nat_le, List, Option, Some, None, option_map, is_some}
-use Rattle.std.specs.List.{list_all}
+use Rattle.std.specs.List.{list_all, AllByRecursion}
 use Rattle.cells.specs.Cells.{Extent, Cells, IsToldByCells}
 use Rattle.cells.specs.declared.cell.Cell.{Cell}
+use Rattle.fog_book.specs.declared.exposure.Exposure.{Exposure}
 use Rattle.fog_book.specs.Exposures.{Fog, exposed_of}
 use Rattle.maps.specs.Maps.{Grid, map_of}
 use Rattle.tokens.specs.declared.token.Token.{Token}
@@ -47,10 +48,15 @@ abbrev pub IsSetOf : Extent → Option Cells → Type 0
 IsSetOf size None = ⊥
 IsSetOf size (Some cells) = (cells.extent ≡ size) × IsToldByCells cells
 
--- each player has a set of each map's size, and no seat a set of another map
+-- the set's map is there, and the set has its size
+abbrev pub IsSized : List Grid → Exposure → Type 0
+IsSized maps set = size_of set.map maps ≡ Some set.cells.extent
+
+-- each player has a set of each map's size, no seat a set of another map, and no set another size
 pub record IsFogOf (maps : List Grid) (fog : Fog) : Type 0 where
   pub sets : (name : List ℕ) (size : Extent) (seat : ℕ) → size_of name maps ≡ Some size → IsTrue (is_player fog.players seat) → IsSetOf size (exposed_of fog seat name)
   pub no_others : (name : List ℕ) (seat : ℕ) → size_of name maps ≡ None → exposed_of fog seat name ≡ None
+  pub each : AllByRecursion (IsSized maps) fog.sets
 
 -- what holds of every scene between two calls
 pub record IsScene (s : Scene) : Type 0 where

@@ -1,7 +1,8 @@
 //! All of a campaign but its seats' books.
 ghost use Rattle.std.specs.Prelude.{◌≡◌, ◌≤◌, ◌↔◌, IsTrue, true, false, length, Err, Some, None, IfOk, IfErr, IfSome, OnOk, OnErr, IsErr};
 ghost use Rattle.cells.specs.Cells.{IsToldByCells};
-ghost use Rattle.fog_book.specs.Exposures.{AddsMap, ChangesOnly, joined, with_change};
+ghost use Rattle.std.specs.List.{AllZip};
+ghost use Rattle.fog_book.specs.Exposures.{AddsMap, ChangesOnly, HaveOneSize, joined, with_change, with_each_seen};
 ghost use Rattle.fog_book.specs.Rects.{with_rect};
 ghost use Rattle.lights.specs.Lights.{IsFaultOf as IsLightFaultOf, light_fault};
 ghost use Rattle.maps.specs.Letters.{IsOn, is_letter};
@@ -352,6 +353,15 @@ impl Scene {
         ensures sets { ChangesOnly self.old.fog self.new.fog seat map (λ cells. with_rect cells rect false) }
     {
         self.fog.hide(seat, map, rect);
+    }
+
+    /// Exposes what is seen: to each set of the fog, in their order, the cells at its place in `seen`, which are of its
+    /// size. All else stays.
+    pub fn join_each(&mut self, seen: &[CellSet])
+        requires { AllZip HaveOneSize self.old.fog.sets seen.now }
+        ensures { self.new ≡ record self.old { fog = record self.old.fog { sets = with_each_seen self.old.fog.sets seen.now } } }
+    {
+        self.fog.join_each(seen);
     }
 
     /// Exposes the cells of a map, which is there, that a player sees; `seen` is of the map's size. All else stays.
