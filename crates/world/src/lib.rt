@@ -8,6 +8,3 @@ mod world;
 
 pub use scene::Scene;
 pub use world::World;
-
-#[cfg(test)]
-mod tests;
