@@ -1,13 +1,6 @@
 //! The rules of a Joined seat's commands and what accepted commands do to the scene.
 #![tactic(auto)]
 
-mod effects;
-mod places;
 mod refusal;
-mod rules;
-mod settle;
 
-pub use effects::{scene_by, steps_by};
 pub use refusal::Refusal;
-pub use rules::rule_of;
-pub use settle::settle;
