@@ -1,6 +1,13 @@
 //! The rules of a Joined seat's commands and what accepted commands do to the scene.
 #![tactic(auto)]
 
+mod effects;
+mod places;
 mod refusal;
+mod rules;
 
+
+pub use effects::{scene_by, steps_by};
 pub use refusal::Refusal;
+pub use rules::rule_of;
+

@@ -1,8 +1,8 @@
 //! What each seat sees of a scene.
-//!
-//! The definitions say what tokens and players see, which tokens a player is shown, and what a seat's view is.
 #![tactic(auto)]
 
 mod laws;
+mod reads;
 
 pub use laws::{asked_alike, tests_tell};
+pub use reads::{has_light, known, mine};
