@@ -1,2 +1,6 @@
 pub mod Alike
 pub mod Tells
+pub mod ListLemmas
+pub mod SceneLemmas
+pub mod SightLemmas
+pub mod ViewLemmas

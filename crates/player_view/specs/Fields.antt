@@ -1,5 +1,5 @@
 -- Which fields have to be kept for a scene.
-use Rattle.std.specs.Prelude.{◌≡◌, ◌||◌, Bool, IsTrue, List, All, Option, Some, is_some}
+use Rattle.std.specs.Prelude.{◌≡◌, ◌||◌, Bool, IsTrue, List, All, Some, is_some}
 use Rattle.names.specs.declared.token_id.TokenId.{TokenId}
 use Rattle.cells.specs.Cells.{Cells}
 use Rattle.topology.specs.Sight.{field_of}

@@ -1,8 +1,7 @@
 -- What a seat sees of a scene.
-use Rattle.std.specs.Prelude.{ℕ, ◌==◌, ◌&&◌, ◌||◌, Bool, true, false, if◌then◌else◌, List, [], ◌∷◌, map, Option, Some, None, ℤ, pos}
+use Rattle.std.specs.Prelude.{ℕ, ◌==◌, ◌||◌, Bool, true, false, if◌then◌else◌, List, [], ◌∷◌, map, Some, None, ℤ, pos}
 use Rattle.std.specs.List.{filter, flat_map, range_with_len}
 use Rattle.cells.specs.Cells.{Cells, has, cells_where}
-use Rattle.cells.specs.declared.cell.Cell.{Cell}
 use Rattle.maps.specs.Maps.{Grid, letter_at}
 use Rattle.sight_types.specs.declared.Sight.{Sight}
 use Rattle.tokens.specs.declared.token.Token.{Token}

@@ -4,5 +4,14 @@
 #![tactic(auto)]
 
 mod laws;
+mod looks;
+mod map_views;
+mod reads;
+mod token_views;
+mod views;
 
 pub use laws::{asked_alike, tests_tell};
+pub use looks::visible_of;
+pub use map_views::is_exposed;
+pub use reads::{has_light, known, mine};
+pub use views::view_of;
