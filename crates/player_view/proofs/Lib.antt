@@ -4,3 +4,5 @@ pub mod ListLemmas
 pub mod SceneLemmas
 pub mod SightLemmas
 pub mod ViewLemmas
+pub mod KeepLemmas
+pub mod ToldLemmas

@@ -83,7 +83,7 @@ pub second : (a b : Bool) → (a && b) ≡ true → b ≡ true
 second true b h = h
 second false b h = cc
 
-list_all-at : {X : Type 0} (p : X → Bool) (xs : List X) (i : ℕ) (x : X) → list_all p xs ≡ true → slice_get xs i ≡ Some x → p x ≡ true
+pub list_all-at : {X : Type 0} (p : X → Bool) (xs : List X) (i : ℕ) (x : X) → list_all p xs ≡ true → slice_get xs i ≡ Some x → p x ≡ true
 list_all-at {X} p xs i x h e = All-at (λ x. p x ≡ true) xs i x (each xs h) e
   where
     each : (xs : List X) → list_all p xs ≡ true → All (λ x. p x ≡ true) xs

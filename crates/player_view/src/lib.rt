@@ -3,6 +3,7 @@
 //! The definitions say what tokens and players see, which tokens a player is shown, and what a seat's view is.
 #![tactic(auto)]
 
+mod keeping;
 mod laws;
 mod looks;
 mod map_views;
@@ -10,6 +11,7 @@ mod reads;
 mod token_views;
 mod views;
 
+pub use keeping::fields_of;
 pub use laws::{asked_alike, tests_tell};
 pub use looks::visible_of;
 pub use map_views::is_exposed;

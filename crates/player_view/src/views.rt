@@ -1,6 +1,7 @@
 //! What a seat sees of a scene.
 ghost use Rattle.std.specs.Prelude.{◌≡◌, ◌<◌, ◌≤◌, ◌+◌, ◌++◌, ◌∷◌, [], IfOk, OnOk, map, take, length};
 ghost use Rattle.player_view.specs.Fields.{HasFields};
+ghost use Rattle.player_view.specs.Told.{IsTold};
 ghost use Rattle.player_view.specs.View.{light_text, sight_text, view_of};
 
 use crate::map_views::map_views;
@@ -77,11 +78,14 @@ fn sight_texts(alloc: Global, scene: &Scene) -> Result<SightTexts, Memory>
 }
 
 /// What the seat, which is in the scene, sees. `fields` has the field of each token with a sight or a light.
-#[tactic(auto, unfolding(crate::specs::View::view_of))]
+#[tactic(auto, unfolding(crate::specs::View::view_of), using(crate::proofs::ToldLemmas::told))]
 pub fn view_of(alloc: Global, scene: &Scene, seat: SeatNo, fields: &Fields) -> Result<View, Memory>
     requires seat { seat ≤ scene.now.fog.players }
     requires fields { HasFields scene.now fields.now }
     ensures value { IfOk result (λ view. view ≡ view_of scene.now seat) }
+
+    // Of a player's view the relations say the same.
+    ensures told { IsTold scene.now seat }
 {
     let lights = light_texts(alloc, scene)?;
     let sights = sight_texts(alloc, scene)?;
