@@ -1,7 +1,6 @@
 -- What is looked up in tables of maps, after one map is changed or added.
-use Rattle.std.proofs.Common.{◌≡◌, ◌≢◌, ℕ, Bool, true, false, cond, List, [], ◌∷◌, map, Option, Some, None, is_some, Result, Ok, Err, refl, sym, ◌∙◌, ap}
-use Rattle.std.specs.Prelude.{OnOk, option_map}
-use Rattle.std.specs.List.{find}
+use Rattle.std.proofs.Common.{◌≡◌, ◌≢◌, ℕ, Bool, true, false, cond, List, [], ◌∷◌, Option, Some, None, Result, Ok, Err, refl, sym, ◌∙◌, ap}
+use Rattle.std.specs.Prelude.{IfSome, OnOk, option_map}
 use Rattle.std.specs.Ordering.{is_lt}
 use Rattle.std.specs.Str.{bytes_eq}
 use Rattle.std.proofs.lemmas.Slice.Eq.{bytes_eq-Decides}
@@ -59,6 +58,15 @@ pub ChangesOnly-if_ok : {E : Type 0} (result : Result (Unit {0}) E) (f : Grid �
     → OnOk result (after ≡ changed name f ms) → OnOk result (ChangesOnly ms after name f)
 ChangesOnly-if_ok (Ok x) f keeps name ms after e = ChangesOnly-changed f keeps name ms after e
 ChangesOnly-if_ok (Err x) f keeps name ms after e = tt
+
+-- what f makes of the map of that name is true of the changed one
+pub changed_map : (P : Grid → Grid → Type 0) (f : Grid → Grid) → ((m : Grid) → P m (f m)) → (name : List ℕ) (old new : List Grid)
+    → ChangesOnly old new name f → IfSome (map_of name old) (λ m. IfSome (map_of name new) (P m))
+changed_map P f makes name old new only = by (map_of name old) (map_of name new) only.changed
+  where
+    by : (o n : Option Grid) → n ≡ option_map f o → IfSome o (λ m. IfSome n (P m))
+    by None n e = tt
+    by (Some m) n e = rw e (makes m)
 
 -- ---- one map more
 

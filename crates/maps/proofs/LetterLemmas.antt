@@ -1,7 +1,6 @@
 -- The letters of a map after a rectangle of them is set.
-use Rattle.std.proofs.Common.{◌≡◌, ◌≢◌, ℕ, ◌+◌, ◌*◌, ◌/◌, ◌%◌, ◌<◌, ◌≤◌, Bool, true, false, cond, List, ◌++◌, length, get_or, set, map, take, drop, append-nil, refl, ap, sym, ◌∙◌, arith, inl, inr, get_or-set_other, get_or-set_same}
+use Rattle.std.proofs.Common.{◌≡◌, ◌≢◌, ℕ, ◌+◌, ◌*◌, ◌/◌, ◌%◌, ◌<◌, ◌≤◌, Bool, true, false, cond, List, ◌++◌, length, get_or, set, take, drop, append-nil, ap, sym, ◌∙◌, arith, inl, inr, get_or-set_other, get_or-set_same}
 use Rattle.std.specs.Prelude.{All, IsTrue}
-use Rattle.std.specs.List.{range_with_len}
 use Rattle.std.proofs.lemmas.Bool.{cases_eq}
 use Rattle.std.proofs.lemmas.List.{drop_all, get_or_default, same_lists, take_all}
 use Rattle.std.proofs.lemmas.List.Elements.{All-from_get_or, All-get_or}
@@ -10,7 +9,7 @@ use Rattle.std.proofs.lemmas.Nat.{div-add-mod', div-mul-add, mod-mul-add, mul-ad
 use Rattle.cells.specs.Cells.{Extent}
 use Rattle.cells.specs.declared.cell.Rect.{Rect}
 use Rattle.maps.specs.Letters.{is_in, is_letter, letter_of, letters_where, with_rect}
-use Rattle.maps.specs.Maps.{Grid, IsMap, with_letters}
+use Rattle.maps.specs.Maps.{Grid, IsMap, SetsLetters, with_letters}
 
 -- the letter of the cell (x, y), of letters that are told cell by cell
 pub letter_of-letters_where : (size : Extent) (f : ℕ → ℕ → ℕ) (x y : ℕ) → x < size.w → y < size.h → letter_of size (letters_where size f) x y ≡ f x y
@@ -111,3 +110,11 @@ written_back size extent rect letter count old seen new len same fits area is =
 
     long : length new ≡ count
     long = ap length whole ∙ length-with_rect extent rect letter old ∙ sym area ∙ sym len
+
+pub SetsLetters-with_letters : (rect : Rect) (letter : ℕ) (m : Grid) → SetsLetters rect letter m (with_letters rect letter m)
+SetsLetters-with_letters rect letter m = record {
+  inside = λ x y column row e.
+      letter_of-with_rect m.walls.extent rect letter m.letters x y column row ∙ ap (λ t. cond t letter (letter_of m.walls.extent m.letters x y)) e;
+  outside = λ x y column row e.
+      letter_of-with_rect m.walls.extent rect letter m.letters x y column row ∙ ap (λ t. cond t letter (letter_of m.walls.extent m.letters x y)) e;
+}

@@ -1,6 +1,6 @@
 -- Tables of maps after one map is put or changed.
 use Rattle.std.proofs.Common.{◌≡◌, ℕ, nat_le, subst, suc, ◌+◌, ◌<◌, ◌≤◌, Bool, true, false, cond, not, ◌&&◌, nat_lt, List, [], ◌∷◌, length, map, get_or, set, Option, Some, None, is_some, Result, Ok, Err, is_ok, Bor, refl, sym, ◌∙◌, ap, arith}
-use Rattle.std.specs.Prelude.{unwrap_or, All, IfSome, OnOk, OnErr}
+use Rattle.std.specs.Prelude.{unwrap_or, IfSome, OnOk, OnErr}
 use Rattle.std.specs.Option.{option_copied}
 use Rattle.std.specs.List.{find, insert, position, position_or_len}
 use Rattle.std.specs.Ordering.{is_lt}

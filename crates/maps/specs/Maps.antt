@@ -1,5 +1,5 @@
 -- Maps, and tables of maps in byte order of their names.
-use Rattle.std.specs.Prelude.{◌≡◌, ◌≢◌, ◌≤◌, ℕ, ◌*◌, Bool, IsTrue, not, true, false, List, [], ◌∷◌, length, map, replicate, All, Option, Some, is_some, option_map, if◌then◌else◌}
+use Rattle.std.specs.Prelude.{◌≡◌, ◌≢◌, ◌<◌, ◌≤◌, ℕ, ◌*◌, Bool, IsTrue, not, true, false, List, [], ◌∷◌, length, map, replicate, All, Option, Some, is_some, option_map, if◌then◌else◌}
 use Rattle.std.specs.List.{find}
 use Rattle.std.specs.Str.{bytes_eq}
 use Rattle.std.specs.Ordering.{is_lt}
@@ -14,7 +14,7 @@ use Rattle.cells.specs.declared.cell.Rect.{Rect}
 use Rattle.topology.specs.declared.wall.Wall.{Wall}
 use Rattle.topology.specs.Order.{wall_between}
 use Rattle.topology.specs.WallLists.{WallLists, walls_of, with_walls, with_wall, without_wall}
-use Rattle.maps.specs.Letters.{blank, is_letter, letter_of, with_rect}
+use Rattle.maps.specs.Letters.{blank, is_in, is_letter, letter_of, with_rect}
 
 -- ---- one map
 
@@ -50,6 +50,11 @@ shown_if on m = record m { shown = on }
 
 abbrev pub with_letters : Rect → ℕ → Grid → Grid
 with_letters rect letter m = record m { letters = with_rect m.walls.extent rect letter m.letters }
+
+-- the cells of the rectangle have the letter, and all other cells theirs
+pub record SetsLetters (rect : Rect) (letter : ℕ) (old new : Grid) : Type 0 where
+  pub inside : (x y : ℕ) → x < old.walls.extent.w → y < old.walls.extent.h → is_in rect x y ≡ true → letter_at new x y ≡ letter
+  pub outside : (x y : ℕ) → x < old.walls.extent.w → y < old.walls.extent.h → is_in rect x y ≡ false → letter_at new x y ≡ letter_at old x y
 
 -- the map with other walls of one kind
 abbrev pub walled : WallKind → (List Wall → List Wall) → Grid → Grid

@@ -8,7 +8,7 @@ ghost use Rattle.topology.specs.Order.{wall_between};
 ghost use Rattle.topology.specs.WallFaults.{IsFaultOf, wall_fault};
 ghost use Rattle.topology.specs.WallLists.{has_wall, walls_of};
 ghost use Rattle.maps.specs.Letters.{IsOn, is_letter};
-ghost use Rattle.maps.specs.Maps.{AddsMap, AreMaps, ChangesOnly, IsMap, changed, has_map, has_name, is_behind, map_of, new_map, shown_if, with_letters, with_map, with_mode, with_wall_of, without_wall_of};
+ghost use Rattle.maps.specs.Maps.{AddsMap, AreMaps, ChangesOnly, IsMap, SetsLetters, changed, has_map, has_name, is_behind, map_of, new_map, shown_if, with_letters, with_map, with_mode, with_wall_of, without_wall_of};
 ghost use Rattle.maps.specs.MapFaults.{IsMapFaultOf, map_fault};
 
 use crate::grid_map::GridMap;
@@ -144,6 +144,7 @@ impl MapTable {
         requires letter { IsTrue (is_letter letter) }
         ensures value { self.new ≡ changed map (with_letters rect letter) self.old }
         ensures maps { ChangesOnly self.old self.new map (with_letters rect letter) }
+        ensures letters { IfSome (map_of map self.old) (λ old. IfSome (map_of map self.new) (SetsLetters rect letter old)) }
     {
         let place = known_place_of(&self.maps, map);
         self.maps[place].set_letters(rect, letter);

@@ -3,3 +3,4 @@ pub mod PropertyLemmas
 pub mod OrderLemmas
 pub mod TokenLemmas
 pub mod CoverLemmas
+pub mod LookupLaws

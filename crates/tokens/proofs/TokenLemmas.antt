@@ -110,11 +110,11 @@ below_put id token (t ∷ ts) less h = by (is_lt (id_cmp t.id token.id)) (below_
     by true rest = both _ _ (and_first _ _ h) rest
     by false rest = both _ _ less h
 
-absent_first : (b : Bool) (t : Token) (o : Option Token) → is_some (cond b (Some t) o) ≡ false → b ≡ false
+pub absent_first : (b : Bool) (t : Token) (o : Option Token) → is_some (cond b (Some t) o) ≡ false → b ≡ false
 absent_first true t o h = cc
 absent_first false t o h = refl
 
-absent_rest : (b : Bool) (t : Token) (o : Option Token) → is_some (cond b (Some t) o) ≡ false → is_some o ≡ false
+pub absent_rest : (b : Bool) (t : Token) (o : Option Token) → is_some (cond b (Some t) o) ≡ false → is_some o ≡ false
 absent_rest true t o h = cc
 absent_rest false t o h = h
 

@@ -1,7 +1,8 @@
 use Rattle.std.proofs.Common.{ap, refl}
-use Rattle.maps.specs.Maps.{Grid, with_letters}
+use Rattle.maps.specs.Maps.{Grid, SetsLetters, with_letters}
 use Rattle.maps.proofs.MapLemmas.{AreMaps-set, IsPlace, is_changed}
-use Rattle.maps.proofs.Laws.{ChangesOnly-changed}
+use Rattle.maps.proofs.LetterLemmas.{SetsLetters-with_letters}
+use Rattle.maps.proofs.Laws.{ChangesOnly-changed, changed_map}
 use Rattle.maps.proofs.map_table.MapTable.set_ground.Goals as goal
 
 pub invariant_of-self : goal.invariant_of-self
@@ -32,3 +33,17 @@ returns-clause-maps c =
       is = c.index_mut.ensures.value;
     } in
     ChangesOnly-changed (with_letters c.args.rect c.args.letter) (λ m. refl) c.args.map c.args.self.now _ (is_changed (with_letters c.args.rect c.args.letter) found c.set_letters.new.self c.set_letters.ensures.value)
+
+pub returns-clause-letters : goal.returns-clause-letters
+returns-clause-letters c =
+    let found : IsPlace c.args.map c.self.inside.maps.items c.args.self.now c.deref.result.now c.known_place_of-place.result c.index_mut.result.now = record {
+      maps = c.self.invariant;
+      view = c.self.view_is;
+      same = c.deref.ensures.value;
+      at = c.known_place_of-place.ensures.place;
+      within = c.known_place_of-place.ensures.bound;
+      is = c.index_mut.ensures.value;
+    } in
+    changed_map (SetsLetters c.args.rect c.args.letter) (with_letters c.args.rect c.args.letter) (SetsLetters-with_letters c.args.rect c.args.letter) c.args.map
+    c.args.self.now _
+    (ChangesOnly-changed (with_letters c.args.rect c.args.letter) (λ m. refl) c.args.map c.args.self.now _ (is_changed (with_letters c.args.rect c.args.letter) found c.set_letters.new.self c.set_letters.ensures.value))
