@@ -1,15 +1,20 @@
 -- What fits together in a scene does so still after a change of one part.
-use Rattle.std.proofs.Common.{◌≡◌, ℕ, Bool, true, false, cond, List, ◌||◌, Option, Some, None, Result, Ok, Err, refl, sym, ap, subst, ◌∙◌}
-use Rattle.std.specs.Prelude.{IfSome, IsSome, OnOk, OnErr, is_some, option_map}
+use Rattle.std.proofs.Common.{◌≡◌, ℕ, Bool, true, false, cond, List, ◌||◌, Option, Some, None, Result, Ok, Err, refl, sym, ap, subst, ◌∙◌, length}
+use Rattle.std.specs.Prelude.{IfSome, IsSome, OnOk, OnErr, is_some, option_map, if◌then◌else◌, nat_le}
 use Rattle.std.specs.Ordering.{eq_by_cmp}
 use Rattle.std.specs.Str.{bytes_eq}
 use Rattle.std.proofs.lemmas.Slice.Eq.{bytes_eq-Decides}
 use Rattle.std.specs.Cmp.Lexicographic.{nat_list_cmp_total}
 use Rattle.std.specs.FinMap.Entries.{find-put}
 use Rattle.std.proofs.lemmas.Bool.{and_parts, and_from}
+use Rattle.maps.specs.declared.map_table.MapFault.{MapFault}
+use Rattle.maps.specs.declared.map_table.MapFault.TheVariants.{MapExists, MapLimit}
+use Rattle.maps.specs.MapFaults.{map_fault}
 use Rattle.names.specs.declared.kinds.Layer.{Layer}
 use Rattle.names.specs.declared.kinds.PropClass.{PropClass}
 use Rattle.names.specs.declared.kinds.PropClass.TheVariants.{Public, Own, Secret}
+use Rattle.names.specs.declared.kinds.WallKind.{WallKind}
+use Rattle.names.specs.declared.kinds.WallKind.TheVariants.{Vbl, Mbl}
 use Rattle.names.specs.declared.token_id.TokenId.{TokenId}
 use Rattle.names.specs.Tag.{tag_cmp}
 use Rattle.cells.specs.Cells.{Extent, Cells, has}
@@ -18,15 +23,16 @@ use Rattle.cells.proofs.SetLaws.{IsToldByCells-cells_where}
 use Rattle.cells.specs.declared.cell.Cell.{Cell}
 use Rattle.fog_book.specs.Exposures.{Fog, exposed_of, joined, with_change, with_map as with_fog_of_map, AddsMap}
 use Rattle.fog_book.specs.Rects.{is_in, with_rect}
-use Rattle.maps.specs.Maps.{Grid, has_map, map_of, new_map, with_map}
+use Rattle.maps.specs.Maps.{Grid, changed as changed_map, has_map, map_of, new_map, walled, with_map}
 use Rattle.sight_types.specs.declared.Sight.{Sight}
 use Rattle.tokens.specs.declared.token.Token.{Token}
 use Rattle.tokens.specs.Tokens.{changed, in_order, on_layer, owned_by, placed, put, shown_if, token_of, with_light, with_prop, with_sight, without}
+use Rattle.topology.specs.declared.wall.Wall.{Wall}
 use Rattle.type_table.specs.Types.{type_of, with_type}
 use Rattle.world.specs.Scene.{Scene, bare}
 use Rattle.world.specs.Rules.{size_of, fits_on, is_known, is_player, are_players, belongs, IsSetOf, IsScene}
 use Rattle.world.proofs.TokenRules.{all_pass, all_put, all_without, all_changed, all_changed_at, players_with}
-use Rattle.world.proofs.FogRules.{KeepsSize, size_of-with_map, IsFogOf-with_change, IsFogOf-with_map}
+use Rattle.world.proofs.FogRules.{KeepsSize, size_of-changed, size_of-with_map, IsFogOf-with_change, IsFogOf-with_map}
 
 -- ---- what a scene tells
 
@@ -134,6 +140,25 @@ IsScene-maps s maps same is = record {
   };
 }
 
+-- one map changed
+pub IsScene-grid : (s : Scene) (f : Grid → Grid) → ((m : Grid) → (f m).name ≡ m.name) → ((m : Grid) → (f m).walls.extent ≡ m.walls.extent) → (name : List ℕ) → IsScene s → IsScene (record s { maps = changed_map name f s.maps })
+IsScene-grid s f names sizes name is = IsScene-maps s (changed_map name f s.maps) (λ other. size_of-changed f names sizes name other s.maps) is
+
+-- other walls are on a map of the same size
+pub walls_keep_size : (kind : WallKind) (f : List Wall → List Wall) (m : Grid) → (walled kind f m).walls.extent ≡ m.walls.extent
+walls_keep_size Vbl f m = refl
+walls_keep_size Mbl f m = refl
+
+-- other maps, as the code writes them
+pub IsScene-grids : (s : Scene) (maps new : List Grid) → new ≡ maps → IsScene (record s { maps = maps }) → IsScene (record s { maps = new })
+IsScene-grids s maps new e is = subst (λ ms. IsScene (record s { maps = ms })) (sym e) is
+
+pub IsScene-walls_if_ok : {E : Type 0} (result : Result (Unit {0}) E) (s : Scene) (kind : WallKind) (f : List Wall → List Wall) (name : List ℕ) (new : List Grid)
+    → OnOk result (new ≡ changed_map name (walled kind f) s.maps) → OnErr result (new ≡ s.maps) → IsScene s → IsScene (record s { maps = new })
+IsScene-walls_if_ok (Ok _) s kind f name new done same is =
+    IsScene-grids s (changed_map name (walled kind f) s.maps) new done (IsScene-grid s (walled kind f) (λ m. refl) (walls_keep_size kind f) name is)
+IsScene-walls_if_ok (Err _) s kind f name new done same is = IsScene-grids s s.maps new same is
+
 -- one map more
 pub IsScene-with_map : (s : Scene) (name : List ℕ) (size : Extent) → has_map name s.maps ≡ false → AddsMap s.fog (with_fog_of_map s.fog name size) name size
     → IsScene s → IsScene (record s { maps = with_map (new_map name size) s.maps; fog = with_fog_of_map s.fog name size })
@@ -165,6 +190,22 @@ IsScene-with_map s name size absent adds is = record {
             let both : false ≡ true = sym (ap (λ o. fits_on o t.cell t.size) absent_too) ∙ on in
             cc
         other false e on = on
+
+-- where a map may be added there is none of that name
+no_map : (maps : List Grid) (name : List ℕ) → map_fault maps name ≡ None → has_map name maps ≡ false
+no_map maps name none = by (has_map name maps) (if nat_le 8 (length maps) then Some MapLimit else None) none
+  where
+    by : (b : Bool) (rest : Option MapFault) → (if b then Some MapExists else rest) ≡ None → b ≡ false
+    by true rest e = cc
+    by false rest e = refl
+
+-- the same, as the code writes it
+pub IsScene-map_added : (s : Scene) (maps : List Grid) (fog : Fog) (name : List ℕ) (size : Extent) → maps ≡ with_map (new_map name size) s.maps → fog ≡ with_fog_of_map s.fog name size
+    → AddsMap s.fog fog name size → map_fault s.maps name ≡ None → IsScene s → IsScene (record s { maps = maps; fog = fog })
+IsScene-map_added s maps fog name size one other adds none is =
+    subst (λ ms. IsScene (record s { maps = ms; fog = fog })) (sym one)
+    (subst (λ f. IsScene (record s { maps = with_map (new_map name size) s.maps; fog = f })) (sym other)
+    (IsScene-with_map s name size (no_map s.maps name none) (subst (λ f. AddsMap s.fog f name size) other adds) is))
 
 -- ---- types
 

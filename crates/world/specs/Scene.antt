@@ -3,7 +3,7 @@ use Rattle.std.specs.Prelude.{ℕ, List, []}
 use Rattle.names.specs.declared.token_id.TokenId.{TokenId}
 use Rattle.cells.specs.Cells.{Extent}
 use Rattle.fog_book.specs.Exposures.{Fog, with_map as with_fog_of_map}
-use Rattle.maps.specs.Maps.{Grid, new_map, with_map}
+use Rattle.maps.specs.Maps.{Grid, changed as changed_map, new_map, with_map}
 use Rattle.sight_types.specs.declared.Sight.{Sight}
 use Rattle.tokens.specs.declared.token.Token.{Token}
 use Rattle.tokens.specs.Tokens.{changed as changed_token}
@@ -31,3 +31,7 @@ with_new_map name size s = record s { maps = with_map (new_map name size) s.maps
 -- the token of that id becomes f of it
 abbrev pub with_token : TokenId → (Token → Token) → Scene → Scene
 with_token id f s = record s { tokens = changed_token id f s.tokens }
+
+-- the map of that name becomes f of it
+abbrev pub with_grid : List ℕ → (Grid → Grid) → Scene → Scene
+with_grid name f s = record s { maps = changed_map name f s.maps }

@@ -1,27 +1,34 @@
 //! All of a campaign but its seats' books.
-ghost use Rattle.std.specs.Prelude.{◌≡◌, ◌≤◌, ◌↔◌, IsTrue, true, false, length, Err, Some, None, IfOk, IfErr, IfSome, OnOk, OnErr};
+ghost use Rattle.std.specs.Prelude.{◌≡◌, ◌≤◌, ◌↔◌, IsTrue, true, false, length, Err, Some, None, IfOk, IfErr, IfSome, OnOk, OnErr, IsErr};
 ghost use Rattle.cells.specs.Cells.{IsToldByCells};
-ghost use Rattle.fog_book.specs.Exposures.{ChangesOnly, joined, with_change};
+ghost use Rattle.fog_book.specs.Exposures.{AddsMap, ChangesOnly, joined, with_change};
 ghost use Rattle.fog_book.specs.Rects.{with_rect};
 ghost use Rattle.lights.specs.Lights.{IsFaultOf as IsLightFaultOf, light_fault};
-ghost use Rattle.maps.specs.Maps.{has_map};
+ghost use Rattle.maps.specs.Letters.{IsOn, is_letter};
+ghost use Rattle.maps.specs.Maps.{has_map, map_of, new_map, shown_if as map_shown_if, with_letters, with_map, with_mode, with_wall_of, without_wall_of};
+ghost use Rattle.maps.specs.MapFaults.{IsMapFaultOf, map_fault};
 ghost use Rattle.sight_types.specs.Sights.{IsFaultOf as IsSightFaultOf, sight_fault};
 ghost use Rattle.tokens.specs.Properties.{is_full_for, value_limit};
 ghost use Rattle.tokens.specs.Tokens.{has_token, on_layer, owned_by, placed, props_of, put, shown_if, token_of, with_light, with_prop, with_sight, without};
 ghost use Rattle.tokens.specs.declared.props.PropFault.TheVariants.{PropertyLimit};
+ghost use Rattle.topology.specs.Order.{wall_between};
+ghost use Rattle.topology.specs.WallFaults.{IsFaultOf as IsWallFaultOf, wall_fault};
+ghost use Rattle.topology.specs.WallLists.{has_wall, walls_of};
 ghost use Rattle.type_table.specs.Types.{with_type};
 ghost use Rattle.world.specs.Rules.{IsScene, belongs, fits_on, is_known, is_player, size_of};
-ghost use Rattle.world.specs.Scene.{bare, with_token};
+ghost use Rattle.world.specs.Scene.{bare, with_grid, with_new_map, with_token};
 
-use cells::{Cell, CellSet, Rect};
+use cells::{Cell, CellSet, Rect, Size};
 use fog_book::FogBook;
+use lattice::Point;
 use lights::{LightFault, LightTable};
-use maps::MapTable;
-use names::{Layer, Memory, PropClass, SeatNo, Tag, Text, TokenId};
+use maps::{MAP_LIMIT, MapFault, MapTable};
+use names::{Layer, Memory, Mode, PropClass, SeatNo, Tag, Text, TokenId, WallKind};
 use sight_types::{SightFault, SightTable};
 use std::alloc::Global;
 use std::marker::Model;
 use tokens::{PropFault, Token, TokenTable};
+use topology::{NoSuchWall, WallFault};
 
 /// The maps of a campaign, the tokens on them, the types of lights and sights, and what is exposed to each player.
 ///
@@ -113,6 +120,91 @@ impl Scene {
             sights: self.sights.copy()?,
             fog: self.fog.copy()?,
         })
+    }
+
+    /// Adds a map in mode day, which isn't shown, with all letters `.` and no walls. Nothing of it is exposed to any
+    /// player. All else stays.
+    ///
+    /// The checks are made in the order of `MapFault`; after a fault the scene is as before.
+    pub fn add_map(&mut self, name: Tag, size: Size) -> Result<(), MapFault>
+        ensures value { OnOk result (self.new ≡ with_new_map name size self.old) }
+        ensures sets { OnOk result (AddsMap self.old.fog self.new.fog name size) }
+        ensures ok { OnOk result (map_fault self.old.maps name ≡ None) }
+        ensures fault { IfErr result (IsMapFaultOf (map_fault self.old.maps name)) }
+        ensures unchanged { OnErr result (self.new ≡ self.old) }
+    {
+        let maps = with_new_map(&self.maps, name, size)?;
+        match self.fog.add_map(name, size) {
+            Ok(()) => {
+                self.maps = maps;
+                Ok(())
+            }
+            Err(Memory) => Err(MapFault::Memory),
+        }
+    }
+
+    /// Sets the mode of the map of that name, which is there. All else stays.
+    pub fn set_mode(&mut self, map: Tag, mode: Mode)
+        requires { has_map map self.old.maps ≡ true }
+        ensures { self.new ≡ with_grid map (with_mode mode) self.old }
+    {
+        self.maps.set_mode(map, mode);
+    }
+
+    /// Shows the map of that name, which is there, to players, or hides it. All else stays.
+    pub fn set_shown(&mut self, map: Tag, on: bool)
+        requires { has_map map self.old.maps ≡ true }
+        ensures { self.new ≡ with_grid map (map_shown_if on) self.old }
+    {
+        self.maps.set_shown(map, on);
+    }
+
+    /// Gives each cell of a rectangle the letter, `a` to `z` or `.`; the map is there, and the rectangle is on it. All
+    /// else stays.
+    pub fn set_ground(&mut self, map: Tag, rect: Rect, letter: u8)
+        requires there { has_map map self.old.maps ≡ true }
+        requires on { IfSome (map_of map self.old.maps) (λ m. IsOn m.walls.extent rect) }
+        requires letter { IsTrue (is_letter letter) }
+        ensures { self.new ≡ with_grid map (with_letters rect letter) self.old }
+    {
+        self.maps.set_ground(map, rect, letter);
+    }
+
+    /// Adds a wall of that kind between two points to the map of that name, which is there. All else stays.
+    ///
+    /// The checks are made in the order of `WallFault`; after a fault the scene is as before.
+    pub fn add_wall(
+        &mut self,
+        map: Tag,
+        kind: WallKind,
+        a: Point,
+        b: Point,
+    ) -> Result<(), WallFault>
+        requires { has_map map self.old.maps ≡ true }
+        ensures added { OnOk result (self.new ≡ with_grid map (with_wall_of kind a b) self.old) }
+        ensures ok { IfSome (map_of map self.old.maps) (λ m. OnOk result (wall_fault m.walls kind a b ≡ None)) }
+        ensures fault { IfSome (map_of map self.old.maps) (λ m. IfErr result (IsWallFaultOf (wall_fault m.walls kind a b))) }
+        ensures unchanged { OnErr result (self.new ≡ self.old) }
+    {
+        self.maps.add_wall(map, kind, a, b)
+    }
+
+    /// Takes the wall of that kind between two points from the map of that name, which is there. All else stays.
+    ///
+    /// Refused exactly where the map has no such wall; the scene is then as before. No memory is taken.
+    pub fn cut_wall(
+        &mut self,
+        map: Tag,
+        kind: WallKind,
+        a: Point,
+        b: Point,
+    ) -> Result<(), NoSuchWall>
+        requires { has_map map self.old.maps ≡ true }
+        ensures missing { IfSome (map_of map self.old.maps) (λ m. IsErr result ↔ (has_wall (wall_between a b) (walls_of m.walls kind) ≡ false)) }
+        ensures cut { OnOk result (self.new ≡ with_grid map (without_wall_of kind a b) self.old) }
+        ensures unchanged { OnErr result (self.new ≡ self.old) }
+    {
+        self.maps.cut_wall(map, kind, a, b)
     }
 
     /// Adds the light type with this name, or changes its radius. All else stays.
@@ -270,5 +362,34 @@ impl Scene {
         ensures sets { ChangesOnly self.old.fog self.new.fog seat map (λ cells. joined cells seen.now) }
     {
         self.fog.after_sight(seat, map, seen);
+    }
+}
+
+/// The maps with one more, in a table of its own.
+fn with_new_map(maps: &MapTable, name: Tag, size: Size) -> Result<MapTable, MapFault>
+    ensures value { IfOk result (λ table. table ≡ with_map (new_map name size) maps.now) }
+    ensures ok { OnOk result (map_fault maps.now name ≡ None) }
+    ensures fault { IfErr result (IsMapFaultOf (map_fault maps.now name)) }
+{
+    if let Some(fault) = broken_check(maps, name) {
+        return Err(fault);
+    }
+    let Ok(mut table) = maps.copy() else {
+        return Err(MapFault::Memory);
+    };
+    table.add(name, size)?;
+    Ok(table)
+}
+
+/// The first check that a new map's name breaks.
+fn broken_check(maps: &MapTable, name: Tag) -> Option<MapFault>
+    ensures { result ≡ map_fault maps.now name }
+{
+    if maps.get(name).is_some() {
+        Some(MapFault::MapExists)
+    } else if maps.len() >= MAP_LIMIT {
+        Some(MapFault::MapLimit)
+    } else {
+        None
     }
 }
