@@ -1,18 +1,18 @@
 -- A view answers as the scene.
-use Rattle.std.proofs.Common.{◌≡◌, ℕ, Bool, true, false, cond, ◌&&◌, ◌||◌, List, [], ◌∷◌, Some, None, refl, sym, ◌∙◌, ap}
-use Rattle.std.specs.Prelude.{Option, option_map, map, is_some}
+use Rattle.std.proofs.Common.{◌≡◌, ℕ, Bool, true, false, cond, ◌&&◌, ◌||◌, List, [], ◌∷◌, Some, None, refl, ◌∙◌, ap}
+use Rattle.std.specs.Prelude.{option_map, map, is_some}
 use Rattle.std.specs.Str.{bytes_eq}
 use Rattle.std.specs.List.{find, filter, list_any}
 use Rattle.names.specs.declared.token_id.TokenId.{TokenId}
 use Rattle.names.specs.TokenId.{id_eq}
-use Rattle.maps.specs.Maps.{Grid, has_name}
+use Rattle.maps.specs.Maps.{has_name}
 use Rattle.tokens.specs.declared.token.Token.{Token}
 use Rattle.tokens.specs.Tokens.{has_id}
 use Rattle.world.specs.Scene.{Scene}
 use Rattle.player_view.specs.Sight.{owns}
 use Rattle.player_view.specs.Shown.{is_shown}
 use Rattle.player_view.specs.View.{is_gm, acts_on, has_map, has_token, light_text, map_view, token_view, owned_part, view_of}
-use Rattle.player_view.specs.Asked.{Asked, Mine, Known, asked_of, asked_of_view, mine_of, mine_in, known_of, known_in}
+use Rattle.player_view.specs.Asked.{asked_of, asked_of_view, mine_of, mine_in, known_of, known_in}
 use Rattle.player_view.specs.Laws.{AskedAlike}
 
 -- what is found in what a filter keeps, changed by f

@@ -1,6 +1,8 @@
-mod Tells
 pub mod Alike
+pub mod Tells
 pub mod ListLemmas
 pub mod SceneLemmas
 pub mod SightLemmas
 pub mod ViewLemmas
+pub mod KeepLemmas
+pub mod ToldLemmas

@@ -1,5 +1,5 @@
 -- The tests hold exactly where the relations do.
-use Rattle.std.proofs.Common.{◌≡◌, ◌≢◌, ℕ, zero, suc, ◌+◌, ◌<◌, ◌≤◌, ◌⊎◌, inl, inr, Bool, true, false, not, ◌&&◌, ◌||◌, ltb, List, Some, None, refl, sym, ◌∙◌, ap, subst, arith}
+use Rattle.std.proofs.Common.{◌≡◌, ◌≢◌, ℕ, zero, suc, ◌+◌, ◌<◌, ◌≤◌, ◌⊎◌, inl, inr, Bool, true, false, not, ◌&&◌, List, Some, None, refl, ◌∙◌, ap, subst, arith}
 use Rattle.std.specs.Prelude.{Option}
 use Rattle.std.specs.Bool.{Decides}
 use Rattle.std.specs.List.{list_any, range_with_len}
@@ -8,17 +8,17 @@ use Rattle.std.proofs.lemmas.Bool.Decides.{Decides-and, Decides-or, Decides-like
 use Rattle.std.proofs.lemmas.Slice.Eq.{bytes_eq-Decides}
 use Rattle.names.specs.declared.kinds.Layer.{Layer}
 use Rattle.names.specs.declared.kinds.Layer.TheVariants.{Token as TokenLayer, Hidden, Object, Background}
-use Rattle.cells.specs.Cells.{Extent, Cells, has, cells_where}
+use Rattle.cells.specs.Cells.{Cells, has}
 use Rattle.cells.proofs.SetLaws.{has-cells_where}
 use Rattle.maps.specs.Maps.{Grid, map_of}
 use Rattle.sight_types.specs.declared.Sight.{Sight}
 use Rattle.tokens.specs.declared.token.Token.{Token}
 use Rattle.tokens.specs.Owners.{has_owner}
-use Rattle.tokens.specs.Tokens.{Covers, eye_of}
-use Rattle.vision.specs.Seen.{IsSeen, sees_test}
+use Rattle.tokens.specs.Tokens.{eye_of}
+use Rattle.vision.specs.Seen.{IsSeen}
 use Rattle.vision.proofs.SeenLemmas.{Decides-any, sees_test_tells}
 use Rattle.world.specs.Scene.{Scene}
-use Rattle.player_view.specs.Sight.{is_hidden, is_on, is_shown_map, map_shown, named_type, lamps_on, sees_with, sees, owns, shows_cell, visible_test, visible}
+use Rattle.player_view.specs.Sight.{is_hidden, is_shown_map, map_shown, named_type, lamps_on, sees_with, sees, owns, shows_cell, visible_test, visible}
 use Rattle.player_view.specs.Shown.{exposed, is_in, touches, is_uncovered, is_uncovered_on, is_shown}
 use Rattle.player_view.specs.Relations.{IsShownMap, Sees, Owns, IsVisible, Touches, TouchesSet, IsUncovered, IsInOpen, IsShown}
 use Rattle.player_view.specs.Laws.{TestsTell}
@@ -37,9 +37,10 @@ map_tells s name = here (map_of name s.maps) refl
   where
     here : (o : Option Grid) → map_of name s.maps ≡ o → Decides (is_shown_map o) (IsShownMap s name)
     here None e = (λ h. absurd (false≢true h), λ k. (let there = k.there in cc))
-    here (Some m) e =
-        (λ h. record { map = m; there = e; shown = h },
-        λ k. (let there = k.there in let same : m ≡ k.map = cc in ap (λ (g : Grid). g.shown) same ∙ k.shown))
+    here (Some m) e = (
+      λ h. record { map = m; there = e; shown = h },
+      λ k. (let there = k.there in let same : m ≡ k.map = cc in ap (λ (g : Grid). g.shown) same ∙ k.shown),
+    )
 
 pub owns_tells : (s : Scene) (p : ℕ) (t : Token) → Decides (owns s p t) (Owns s p t)
 owns_tells s p t =
@@ -57,11 +58,12 @@ sees_tells s m t x y = here (named_type s.sights t.sight) refl
     here None e = (λ h. absurd (never m.shown h), λ k. (let there = k.has_sight in cc))
     here (Some sight) e =
         Decides-like _ (λ h. record { shown = h.0; sight = sight; has_sight = e; sees = h.1 })
-        (λ k.
-        (k.shown,
-        (let there = k.has_sight in
-        let same : k.sight ≡ sight = cc in
-        subst (λ z. IsSeen m.mode m.walls (lamps_on s m.name) z (eye_of t) x y) same k.sees)))
+        (λ k. (
+          k.shown,
+          (let there = k.has_sight in
+              let same : k.sight ≡ sight = cc in
+              subst (λ z. IsSeen m.mode m.walls (lamps_on s m.name) z (eye_of t) x y) same k.sees),
+        ))
         (Decides-and _ _ (itself_tells m.shown) (sees_test_tells m.mode m.walls (lamps_on s m.name) sight (eye_of t) x y))
 
 pub visible_tells : (s : Scene) (p : ℕ) (m : Grid) (x y : ℕ) → Decides (visible_test s p m x y) (IsVisible s p m x y)
@@ -167,9 +169,10 @@ open_tells s p t = here (map_of t.map s.maps) refl
         Decides-like _ (λ h. record { map = m; there = e; shown = h.0; visible = h.1.0; uncovered = h.1.1 })
         (λ k.
         (let there = k.there in
-        let same : k.map ≡ m = cc in
-        (subst (λ (g : Grid). g.shown ≡ true) same k.shown,
-        (k.visible, subst (λ (g : Grid). IsUncovered t.layer s p g t) same k.uncovered))))
+        let same : k.map ≡ m = cc in (
+          subst (λ (g : Grid). g.shown ≡ true) same k.shown,
+          (k.visible, subst (λ (g : Grid). IsUncovered t.layer s p g t) same k.uncovered),
+        )))
         (Decides-and _ _ (itself_tells m.shown) (Decides-and _ _ (itself_tells t.visible) (uncovered_tells t.layer s p t m)))
 
 pub shown_tells : (s : Scene) (p : ℕ) (t : Token) → Decides (is_shown s p t) (IsShown s p t)

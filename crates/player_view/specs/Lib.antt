@@ -5,4 +5,5 @@ pub mod View
 pub mod Asked
 pub mod Fields
 pub mod Walk
+pub mod Told
 pub mod Laws

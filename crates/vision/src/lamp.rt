@@ -1,13 +1,13 @@
 use lattice::Point;
 use names::TokenId;
 
-/// A token with a light: which one, where its light is, and how far it reaches for a multiplier of 2.
-#[derive(Clone, Copy, Debug)]
+/// A token with a light.
+#[derive(Clone, Copy, Debug, PartialEq, Eq)]
 pub struct Lamp {
     /// The token.
     pub id: TokenId,
     /// Where the light is: the token's eye.
     pub eye: Point,
-    /// How far it reaches, in cells, 1 to 20; for a multiplier, that many half cells times it.
+    /// How far it lights for a sight with a multiplier of 2, in cells. Times a sight's multiplier it is in half cells.
     pub radius: u8,
 }

@@ -8,6 +8,8 @@ mod disc;
 mod fields;
 mod lamp;
 mod seen;
+#[cfg(test)]
+mod tests;
 
 pub use fields::Fields;
 pub use lamp::Lamp;

@@ -1,0 +1,252 @@
+//! The maps of a seat's view.
+ghost use Rattle.std.specs.Prelude.{◌≡◌, ◌<◌, ◌≤◌, ◌+◌, ◌++◌, ◌∷◌, [], Some, None, true, IfOk, OnOk, map, take, slice_get, length, if◌then◌else◌};
+ghost use Rattle.std.specs.List.{filter};
+ghost use Rattle.cells.specs.Cells.{has};
+ghost use Rattle.maps.specs.Maps.{map_of};
+ghost use Rattle.player_view.specs.Fields.{HasFields};
+ghost use Rattle.player_view.specs.Shown.{exposed};
+ghost use Rattle.player_view.specs.Sight.{visible};
+ghost use Rattle.player_view.specs.View.{all_cells, exposed_to, has_map, letters_in, lettered, map_view, row_letters, seen_by};
+
+use crate::looks::look_over;
+use crate::reads::{has_map, is_gm};
+use cells::{Cell, CellSet};
+use maps::GridMap;
+use names::{Memory, SeatNo};
+use std::alloc::Global;
+use view_change::{Letters, MapView, MapViews};
+use vision::Fields;
+use world::Scene;
+
+fn all_cells(alloc: Global, map: &GridMap) -> Result<CellSet, Memory>
+    ensures { IfOk result (λ cells. cells ≡ all_cells map.now) }
+{
+    let mut cells = CellSet::new(alloc, map.size())?;
+    cells.fill();
+    Ok(cells)
+}
+
+fn visible(
+    alloc: Global,
+    scene: &Scene,
+    seat: SeatNo,
+    map: &GridMap,
+    fields: &Fields,
+) -> Result<CellSet, Memory>
+    requires there { map_of map.now.name scene.now.maps ≡ Some map.now }
+    requires fields { HasFields scene.now fields.now }
+    ensures { IfOk result (λ cells. cells ≡ visible scene.now seat map.now) }
+{
+    let mut cells = CellSet::new(alloc, map.size())?;
+    look_over(alloc, scene, seat, map, fields, &mut cells)?;
+    Ok(cells)
+}
+
+/// The cells of the map that the seat has in sight.
+fn seen_by(
+    alloc: Global,
+    scene: &Scene,
+    seat: SeatNo,
+    map: &GridMap,
+    fields: &Fields,
+) -> Result<CellSet, Memory>
+    requires there { map_of map.now.name scene.now.maps ≡ Some map.now }
+    requires fields { HasFields scene.now fields.now }
+    ensures { IfOk result (λ cells. cells ≡ seen_by scene.now seat map.now) }
+{
+    if is_gm(seat) {
+        all_cells(alloc, map)
+    } else {
+        visible(alloc, scene, seat, map, fields)
+    }
+}
+
+/// What is exposed to the player of the map.
+fn exposed<'a>(scene: &'a Scene, seat: SeatNo, map: &GridMap) -> &'a CellSet
+    requires there { map_of map.now.name scene.now.maps ≡ Some map.now }
+    requires player { 1 ≤ seat }
+    requires seat { seat ≤ scene.now.fog.players }
+    ensures value { result.now ≡ exposed scene.now seat map.now }
+    ensures size { result.now.extent ≡ map.now.walls.extent }
+{
+    let fog = scene.fog();
+    fog.exposed(seat, map.name())
+}
+
+/// Whether the cell of the map is exposed to the seat: every cell is to the game master. The map is the scene's, and the
+/// cell is on it.
+pub fn is_exposed(scene: &Scene, seat: SeatNo, map: &GridMap, cell: Cell) -> bool
+    requires there { map_of map.now.name scene.now.maps ≡ Some map.now }
+    requires seat { seat ≤ scene.now.fog.players }
+    requires column { cell.x < map.now.walls.extent.w }
+    requires row { cell.y < map.now.walls.extent.h }
+    ensures { result ≡ has (exposed_to scene.now seat map.now) cell.x cell.y }
+{
+    if is_gm(seat) {
+        true
+    } else {
+        exposed(scene, seat, map).has(cell)
+    }
+}
+
+fn exposed_to(alloc: Global, scene: &Scene, seat: SeatNo, map: &GridMap) -> Result<CellSet, Memory>
+    requires there { map_of map.now.name scene.now.maps ≡ Some map.now }
+    requires seat { seat ≤ scene.now.fog.players }
+    ensures value { IfOk result (λ cells. cells ≡ exposed_to scene.now seat map.now) }
+    ensures size { IfOk result (λ cells. cells.extent ≡ map.now.walls.extent) }
+{
+    if is_gm(seat) {
+        all_cells(alloc, map)
+    } else {
+        exposed(scene, seat, map).copy()
+    }
+}
+
+fn add_letter(
+    map: &GridMap,
+    cells: &CellSet,
+    x: u8,
+    y: u8,
+    list: &mut Vec<(Cell, u8)>,
+) -> Result<(), Memory>
+    requires column { x < map.now.walls.extent.w }
+    requires row { y < map.now.walls.extent.h }
+    requires size { cells.now.extent ≡ map.now.walls.extent }
+    ensures { OnOk result (list.new.items ≡ list.old.items ++ (if has cells.now x y then lettered map.now y x ∷ [] else [])) }
+{
+    let cell = Cell { x, y };
+    if cells.has(cell) {
+        push_letter(list, (cell, map.letter(cell)))?;
+        Ok(())
+    } else {
+        Ok(())
+    }
+}
+
+fn push_letter(list: &mut Vec<(Cell, u8)>, letter: (Cell, u8)) -> Result<(), Memory>
+    ensures { OnOk result (list.new.items ≡ list.old.items ++ letter ∷ []) }
+{
+    match list.push(letter) {
+        Ok(()) => Ok(()),
+        Err(_) => Err(Memory),
+    }
+}
+
+fn add_row(map: &GridMap, cells: &CellSet, y: u8, list: &mut Vec<(Cell, u8)>) -> Result<(), Memory>
+    requires row { y < map.now.walls.extent.h }
+    requires size { cells.now.extent ≡ map.now.walls.extent }
+    ensures { OnOk result (list.new.items ≡ list.old.items ++ row_letters map.now cells.now y map.now.walls.extent.w) }
+{
+    for x in 0..map.size().w() {
+        add_letter(map, cells, x, y, list)?;
+    }
+    Ok(())
+}
+
+/// The letters of the set's cells.
+#[tactic(auto, unfolding(crate::specs::View::letters_in))]
+fn letters_in(alloc: Global, map: &GridMap, cells: &CellSet) -> Result<Letters, Memory>
+    requires { cells.now.extent ≡ map.now.walls.extent }
+    ensures { IfOk result (λ letters. letters ≡ letters_in map.now cells.now) }
+{
+    let mut list = Vec::new(alloc);
+    for y in 0..map.size().h() {
+        add_row(map, cells, y, &mut list)?;
+    }
+    Ok(Letters { list })
+}
+
+fn shown_if(gm: bool, shown: bool) -> Option<bool>
+    ensures { result ≡ (if gm then Some shown else None) }
+{
+    if gm { Some(shown) } else { None }
+}
+
+/// The map as the seat is shown it.
+fn map_view(
+    alloc: Global,
+    scene: &Scene,
+    seat: SeatNo,
+    map: &GridMap,
+    fields: &Fields,
+) -> Result<MapView, Memory>
+    requires there { map_of map.now.name scene.now.maps ≡ Some map.now }
+    requires seat { seat ≤ scene.now.fog.players }
+    requires fields { HasFields scene.now fields.now }
+    ensures { IfOk result (λ view. view ≡ map_view scene.now seat map.now) }
+{
+    let seen = seen_by(alloc, scene, seat, map, fields)?;
+    let exposed = exposed_to(alloc, scene, seat, map)?;
+    let letters = letters_in(alloc, map, &exposed)?;
+    Ok(MapView {
+        name: map.name(),
+        size: map.size(),
+        mode: map.mode(),
+        shown: shown_if(is_gm(seat), map.shown()),
+        seen,
+        exposed,
+        letters,
+    })
+}
+
+/// The map at that place, which is the one of its name.
+#[tactic(auto, using(crate::proofs::ViewLemmas::map_there))]
+fn map_at(scene: &Scene, place: usize) -> &GridMap
+    requires { place < length scene.now.maps }
+    ensures value { slice_get scene.now.maps place ≡ Some result.now }
+    ensures there { map_of result.now.name scene.now.maps ≡ Some result.now }
+{
+    // The table tells with its length that no name is there twice.
+    let _count = scene.maps().len();
+    scene.maps().at(place)
+}
+
+fn add_map(
+    alloc: Global,
+    scene: &Scene,
+    seat: SeatNo,
+    place: usize,
+    fields: &Fields,
+    list: &mut Vec<MapView>,
+) -> Result<(), Memory>
+    requires place { place < length scene.now.maps }
+    requires seat { seat ≤ scene.now.fog.players }
+    requires fields { HasFields scene.now fields.now }
+    requires so_far { list.old.items ≡ map (map_view scene.now seat) (filter (has_map seat) (take place scene.now.maps)) }
+    ensures { OnOk result (list.new.items ≡ map (map_view scene.now seat) (filter (has_map seat) (take (place + 1) scene.now.maps))) }
+{
+    let map = map_at(scene, place);
+    if !has_map(seat, map) {
+        return Ok(());
+    }
+    let view = map_view(alloc, scene, seat, map, fields)?;
+    push_map(list, view)?;
+    Ok(())
+}
+
+fn push_map(list: &mut Vec<MapView>, view: MapView) -> Result<(), Memory>
+    ensures { OnOk result (list.new.items ≡ list.old.items ++ view ∷ []) }
+{
+    match list.push(view) {
+        Ok(()) => Ok(()),
+        Err(_) => Err(Memory),
+    }
+}
+
+/// The maps that the seat is shown.
+pub(crate) fn map_views(
+    alloc: Global,
+    scene: &Scene,
+    seat: SeatNo,
+    fields: &Fields,
+) -> Result<MapViews, Memory>
+    requires seat { seat ≤ scene.now.fog.players }
+    requires fields { HasFields scene.now fields.now }
+    ensures { IfOk result (λ views. views ≡ map (map_view scene.now seat) (filter (has_map seat) scene.now.maps)) }
+{
+    let mut list = Vec::new(alloc);
+    for place in 0..scene.maps().len() {
+        add_map(alloc, scene, seat, place, fields, &mut list)?;
+    }
+    Ok(MapViews { list })
+}
