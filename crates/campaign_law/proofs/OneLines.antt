@@ -113,24 +113,24 @@ messages_one : (seat : ℕ) (words : Option (To × List ℕ)) → SayOneLine (me
 messages_one seat None = tt
 messages_one seat (Some words) = (message_is_one_line seat words.0 words.1, tt)
 
-decided_one : (steps : ℕ) (b : Book) (c : Command) (r : Option Refusal) → SendsOneLine (decided steps b c r)
-decided_one steps b c (Some r) = refused_one b r
-decided_one steps b c None = record { reply = (reply_one steps _ c, tt); messages = messages_one b.seat (said c) }
+decided_one : (steps seat : ℕ) (b : Book) (c : Command) (r : Option Refusal) → SendsOneLine (decided steps seat b c r)
+decided_one steps seat b c (Some r) = refused_one b r
+decided_one steps seat b c None = record { reply = (reply_one steps _ c, tt); messages = messages_one seat (said c) }
 
-read_one : (asked : Asked) (steps : ℕ) (b : Book) (r : Result Command LineFault) → SendsOneLine (read_outcome asked steps b r)
-read_one asked steps b (Err fault) = refused_one b _
-read_one asked steps b (Ok c) = decided_one steps b c (rule_of asked b.seat b.tags c)
+read_one : (asked : Asked) (steps seat : ℕ) (b : Book) (r : Result Command LineFault) → SendsOneLine (read_outcome asked steps seat b r)
+read_one asked steps seat b (Err fault) = refused_one b _
+read_one asked steps seat b (Ok c) = decided_one steps seat b c (rule_of asked seat b.tags c)
 
-line_one : (asked : Asked) (steps : ℕ) (b : Book) (bytes : List ℕ) (j : Bool) → SendsOneLine (cond j (read_outcome asked steps b (command_of bytes (eqb b.seat 0))) (refused_direct 0 NoHello))
-line_one asked steps b bytes true = read_one asked steps b (command_of bytes (eqb b.seat 0))
-line_one asked steps b bytes false = direct_one 0 NoHello
+line_one : (asked : Asked) (steps seat : ℕ) (b : Book) (bytes : List ℕ) (j : Bool) → SendsOneLine (cond j (read_outcome asked steps seat b (command_of bytes (eqb seat 0))) (refused_direct 0 NoHello))
+line_one asked steps seat b bytes true = read_one asked steps seat b (command_of bytes (eqb seat 0))
+line_one asked steps seat b bytes false = direct_one 0 NoHello
 
 outcome_one : (asked : Asked) (steps : ℕ) (before : Option Seat) (e : Entry) → SendsOneLine (outcome_at asked steps before e)
 outcome_one asked steps None (Join seat key reader writer) = direct_one 0 BadKey
 outcome_one asked steps None (Line seat bytes) = direct_one 0 NoHello
 outcome_one asked steps None (Taken seat count) = record { reply = tt; messages = tt }
 outcome_one asked steps (Some s) (Join seat key reader writer) = join_one asked s.book reader writer (join_refusal s.book key)
-outcome_one asked steps (Some s) (Line seat bytes) = line_one asked steps s.book bytes (is_joined s.book.state)
+outcome_one asked steps (Some s) (Line seat bytes) = line_one asked steps seat s.book bytes (is_joined s.book.state)
 outcome_one asked steps (Some s) (Taken seat count) = record { reply = tt; messages = tt }
 
 -- ---- entries

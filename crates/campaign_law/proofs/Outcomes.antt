@@ -13,7 +13,7 @@ use Rattle.command_rules.specs.declared.refusal.Refusal.TheVariants.{NoHello}
 use Rattle.player_view.specs.Asked.{Asked}
 use Rattle.command_json.specs.Commands.{command_of}
 use Rattle.campaign_law.specs.Seat.{Seat, blank_seat, was_joined}
-use Rattle.campaign_law.specs.Outcome.{Outcome, nothing, outcome_at, join_outcome, read_outcome, is_bye, tag_made, using_tag, book_done, accepted, decided, refused_direct, refused_line, refusal_of_join, blank_entry, seat_of}
+use Rattle.campaign_law.specs.Outcome.{Outcome, nothing, outcome_at, join_outcome, read_outcome, is_bye, book_done, accepted, decided, refused_direct, refused_line, refusal_of_join, blank_entry, seat_of}
 use Rattle.command_rules.specs.Rules.{rule_of}
 use Rattle.campaign_law.specs.World.{changed, is_present, queued_reply}
 use Rattle.seats.proofs.Books.{is_joined-blank, counted-blank, joined-blank, left-blank, join_refusal-blank}
@@ -30,27 +30,23 @@ join_outcome-blank asked b reader writer (Some refusal) = ap (λ j. refused_dire
 refused_line-blank : (b : Book) (r : Refusal) → refused_line (blank_book b) r ≡ blank_outcome (refused_line b r)
 refused_line-blank b r = ap (λ c. record (refused_line b r) { book = Some c }) (counted-blank b)
 
-using_tag-blank : (tag : Option (List ℕ)) (b : Book) → using_tag tag (blank_book b) ≡ blank_book (using_tag tag b)
-using_tag-blank None b = refl
-using_tag-blank (Some tag) b = refl
-
 left_if-blank : (leaves : Bool) (b : Book) → cond leaves (left (blank_book b)) (blank_book b) ≡ blank_book (cond leaves (left b) b)
 left_if-blank true b = left-blank b
 left_if-blank false b = refl
 
 book_done-blank : (c : Command) (b : Book) → book_done c (blank_book b) ≡ blank_book (book_done c b)
-book_done-blank c b = ap (λ used. cond (is_bye c) (left used) used) (using_tag-blank (tag_made c) b) ∙ left_if-blank (is_bye c) (using_tag (tag_made c) b)
+book_done-blank c b = left_if-blank (is_bye c) b
 
-accepted-blank : (steps : ℕ) (b : Book) (c : Command) → accepted steps (blank_book b) c ≡ blank_outcome (accepted steps b c)
-accepted-blank steps b c = ap (λ x. record (accepted steps b c) { book = Some x }) (ap (book_done c) (counted-blank b) ∙ book_done-blank c (counted b))
+accepted-blank : (steps seat : ℕ) (b : Book) (c : Command) → accepted steps seat (blank_book b) c ≡ blank_outcome (accepted steps seat b c)
+accepted-blank steps seat b c = ap (λ x. record (accepted steps seat b c) { book = Some x }) (ap (book_done c) (counted-blank b) ∙ book_done-blank c (counted b))
 
-decided-blank : (steps : ℕ) (b : Book) (c : Command) (r : Option Refusal) → decided steps (blank_book b) c r ≡ blank_outcome (decided steps b c r)
-decided-blank steps b c None = accepted-blank steps b c
-decided-blank steps b c (Some r) = refused_line-blank b r
+decided-blank : (steps seat : ℕ) (b : Book) (c : Command) (r : Option Refusal) → decided steps seat (blank_book b) c r ≡ blank_outcome (decided steps seat b c r)
+decided-blank steps seat b c None = accepted-blank steps seat b c
+decided-blank steps seat b c (Some r) = refused_line-blank b r
 
-read_outcome-blank : (asked : Asked) (steps : ℕ) (b : Book) (r : Result Command LineFault) → read_outcome asked steps (blank_book b) r ≡ blank_outcome (read_outcome asked steps b r)
-read_outcome-blank asked steps b (Err fault) = refused_line-blank b _
-read_outcome-blank asked steps b (Ok command) = decided-blank steps b command (rule_of asked b.seat b.tags command)
+read_outcome-blank : (asked : Asked) (steps seat : ℕ) (b : Book) (r : Result Command LineFault) → read_outcome asked steps seat (blank_book b) r ≡ blank_outcome (read_outcome asked steps seat b r)
+read_outcome-blank asked steps seat b (Err fault) = refused_line-blank b _
+read_outcome-blank asked steps seat b (Ok command) = decided-blank steps seat b command (rule_of asked seat b.tags command)
 
 line_if-blank : (j : Bool) (o o' : Outcome) → o' ≡ blank_outcome o → cond j o' (refused_direct 0 NoHello) ≡ blank_outcome (cond j o (refused_direct 0 NoHello))
 line_if-blank true o o' h = h
@@ -62,8 +58,8 @@ outcome_at-blank asked steps None (Line seat bytes) = refl
 outcome_at-blank asked steps None (Taken seat count) = refl
 outcome_at-blank asked steps (Some s) (Join seat key reader writer) = ap (join_outcome asked (blank_book s.book) 0 0) (join_refusal-blank s.book key) ∙ join_outcome-blank asked s.book reader writer (join_refusal s.book key)
 outcome_at-blank asked steps (Some s) (Line seat bytes) =
-    ap (λ j. cond j (read_outcome asked steps (blank_book s.book) (command_of bytes (eqb s.book.seat 0))) (refused_direct 0 NoHello)) (is_joined-blank s.book.state)
-    ∙ line_if-blank (is_joined s.book.state) _ _ (read_outcome-blank asked steps s.book (command_of bytes (eqb s.book.seat 0)))
+    ap (λ j. cond j (read_outcome asked steps seat (blank_book s.book) (command_of bytes (eqb seat 0))) (refused_direct 0 NoHello)) (is_joined-blank s.book.state)
+    ∙ line_if-blank (is_joined s.book.state) _ _ (read_outcome-blank asked steps seat s.book (command_of bytes (eqb seat 0)))
 outcome_at-blank asked steps (Some s) (Taken seat count) = refl
 
 -- a seat that isn't Joined asks for the number of seats alone
@@ -77,8 +73,8 @@ outcome_at-unasked asked other steps (Some s) (Join seat key reader writer) n h 
     joining (Some r) = refl
     joining None = ap (λ n. join_outcome (record asked { seats = n }) s.book reader writer None) n
 outcome_at-unasked asked other steps (Some s) (Line seat bytes) n h =
-    ap (λ j. cond j (read_outcome asked steps s.book (command_of bytes (eqb s.book.seat 0))) (refused_direct 0 NoHello)) h
-    ∙ sym (ap (λ j. cond j (read_outcome other steps s.book (command_of bytes (eqb s.book.seat 0))) (refused_direct 0 NoHello)) h)
+    ap (λ j. cond j (read_outcome asked steps seat s.book (command_of bytes (eqb seat 0))) (refused_direct 0 NoHello)) h
+    ∙ sym (ap (λ j. cond j (read_outcome other steps seat s.book (command_of bytes (eqb seat 0))) (refused_direct 0 NoHello)) h)
 outcome_at-unasked asked other steps (Some s) (Taken seat count) n h = refl
 
 -- ---- what fits a seat
@@ -119,17 +115,17 @@ kept_fits s o b n f = record {
   joins = λ h. let z : true ≡ false = sym h ∙ n in cc;
 }
 
-decided_fits : (steps : ℕ) (s : Seat) (c : Command) (r : Option Refusal) → is_joined s.book.state ≡ true → IsFit s (decided steps s.book c r)
-decided_fits steps s c None j = joined_fits s (accepted steps s.book c) j refl (omega arith)
-decided_fits steps s c (Some r) j = joined_fits s (refused_line s.book r) j refl (omega arith)
+decided_fits : (steps seat : ℕ) (s : Seat) (c : Command) (r : Option Refusal) → is_joined s.book.state ≡ true → IsFit s (decided steps seat s.book c r)
+decided_fits steps seat s c None j = joined_fits s (accepted steps seat s.book c) j refl (omega arith)
+decided_fits steps seat s c (Some r) j = joined_fits s (refused_line s.book r) j refl (omega arith)
 
-read_fits : (asked : Asked) (steps : ℕ) (s : Seat) (r : Result Command LineFault) → is_joined s.book.state ≡ true → IsFit s (read_outcome asked steps s.book r)
-read_fits asked steps s (Err fault) j = joined_fits s (read_outcome asked steps s.book (Err fault)) j refl (omega arith)
-read_fits asked steps s (Ok command) j = decided_fits steps s command (rule_of asked s.book.seat s.book.tags command) j
+read_fits : (asked : Asked) (steps seat : ℕ) (s : Seat) (r : Result Command LineFault) → is_joined s.book.state ≡ true → IsFit s (read_outcome asked steps seat s.book r)
+read_fits asked steps seat s (Err fault) j = joined_fits s (read_outcome asked steps seat s.book (Err fault)) j refl (omega arith)
+read_fits asked steps seat s (Ok command) j = decided_fits steps seat s command (rule_of asked seat s.book.tags command) j
 
-line_fits : (asked : Asked) (steps : ℕ) (s : Seat) (bytes : List ℕ) (j : Bool) → is_joined s.book.state ≡ j → IsFit s (cond j (read_outcome asked steps s.book (command_of bytes (eqb s.book.seat 0))) (refused_direct 0 NoHello))
-line_fits asked steps s bytes true e = read_fits asked steps s (command_of bytes (eqb s.book.seat 0)) e
-line_fits asked steps s bytes false e = kept_fits s (refused_direct 0 NoHello) refl refl refl
+line_fits : (asked : Asked) (steps seat : ℕ) (s : Seat) (bytes : List ℕ) (j : Bool) → is_joined s.book.state ≡ j → IsFit s (cond j (read_outcome asked steps seat s.book (command_of bytes (eqb seat 0))) (refused_direct 0 NoHello))
+line_fits asked steps seat s bytes true e = read_fits asked steps seat s (command_of bytes (eqb seat 0)) e
+line_fits asked steps seat s bytes false e = kept_fits s (refused_direct 0 NoHello) refl refl refl
 
 join_fits : (asked : Asked) (s : Seat) (reader writer : ℕ) (r : Option JoinRefusal) → IsFit s (join_outcome asked s.book reader writer r)
 join_fits asked s reader writer (Some r) = kept_fits s (join_outcome asked s.book reader writer (Some r)) refl refl refl
@@ -142,7 +138,7 @@ join_fits asked s reader writer None = record {
 
 pub outcome_fits : (asked : Asked) (steps : ℕ) (s : Seat) (e : Entry) → IsFit s (outcome_at asked steps (Some s) e)
 outcome_fits asked steps s (Join seat key reader writer) = join_fits asked s reader writer (join_refusal s.book key)
-outcome_fits asked steps s (Line seat bytes) = line_fits asked steps s bytes (is_joined s.book.state) refl
+outcome_fits asked steps s (Line seat bytes) = line_fits asked steps seat s bytes (is_joined s.book.state) refl
 outcome_fits asked steps s (Taken seat count) = kept_fits s (record nothing { taken = count }) refl refl refl
 
 -- a seat that isn't there doesn't join

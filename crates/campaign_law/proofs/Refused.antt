@@ -38,24 +38,24 @@ join_refuses : (asked : Asked) (s : Seat) (reader writer : ℕ) (r : Option Join
 join_refuses asked s reader writer (Some r) h = directly (count_if_joined s.book) (refusal_of_join r) refl
 join_refuses asked s reader writer None h = cc
 
-decided_refuses : (steps : ℕ) (s : Seat) (c : Command) (r : Option Refusal) → is_some (decided steps s.book c r).refusal ≡ true → Refuses (Some s) (decided steps s.book c r)
-decided_refuses steps s c (Some r) h = the_line s r refl refl
-decided_refuses steps s c None h = cc
+decided_refuses : (steps seat : ℕ) (s : Seat) (c : Command) (r : Option Refusal) → is_some (decided steps seat s.book c r).refusal ≡ true → Refuses (Some s) (decided steps seat s.book c r)
+decided_refuses steps seat s c (Some r) h = the_line s r refl refl
+decided_refuses steps seat s c None h = cc
 
-read_refuses : (asked : Asked) (steps : ℕ) (s : Seat) (r : Result Command LineFault) → is_some (read_outcome asked steps s.book r).refusal ≡ true → Refuses (Some s) (read_outcome asked steps s.book r)
-read_refuses asked steps s (Err fault) h = the_line s _ refl refl
-read_refuses asked steps s (Ok c) h = decided_refuses steps s c (rule_of asked s.book.seat s.book.tags c) h
+read_refuses : (asked : Asked) (steps seat : ℕ) (s : Seat) (r : Result Command LineFault) → is_some (read_outcome asked steps seat s.book r).refusal ≡ true → Refuses (Some s) (read_outcome asked steps seat s.book r)
+read_refuses asked steps seat s (Err fault) h = the_line s _ refl refl
+read_refuses asked steps seat s (Ok c) h = decided_refuses steps seat s c (rule_of asked seat s.book.tags c) h
 
-line_refuses : (asked : Asked) (steps : ℕ) (s : Seat) (bytes : List ℕ) (j : Bool) → let o = cond j (read_outcome asked steps s.book (command_of bytes (eqb s.book.seat 0))) (refused_direct 0 NoHello) in is_some o.refusal ≡ true → Refuses (Some s) o
-line_refuses asked steps s bytes true h = read_refuses asked steps s (command_of bytes (eqb s.book.seat 0)) h
-line_refuses asked steps s bytes false h = directly 0 NoHello refl
+line_refuses : (asked : Asked) (steps seat : ℕ) (s : Seat) (bytes : List ℕ) (j : Bool) → let o = cond j (read_outcome asked steps seat s.book (command_of bytes (eqb seat 0))) (refused_direct 0 NoHello) in is_some o.refusal ≡ true → Refuses (Some s) o
+line_refuses asked steps seat s bytes true h = read_refuses asked steps seat s (command_of bytes (eqb seat 0)) h
+line_refuses asked steps seat s bytes false h = directly 0 NoHello refl
 
 refuses : (asked : Asked) (steps : ℕ) (before : Option Seat) (e : Entry) → is_some (outcome_at asked steps before e).refusal ≡ true → Refuses before (outcome_at asked steps before e)
 refuses asked steps None (Join seat key reader writer) h = directly 0 BadKey refl
 refuses asked steps None (Line seat bytes) h = directly 0 NoHello refl
 refuses asked steps None (Taken seat count) h = cc
 refuses asked steps (Some s) (Join seat key reader writer) h = join_refuses asked s reader writer (join_refusal s.book key) h
-refuses asked steps (Some s) (Line seat bytes) h = line_refuses asked steps s bytes (is_joined s.book.state) h
+refuses asked steps (Some s) (Line seat bytes) h = line_refuses asked steps seat s bytes (is_joined s.book.state) h
 refuses asked steps (Some s) (Taken seat count) h = cc
 
 -- ---- a refusal sends its reply alone

@@ -1,6 +1,6 @@
 -- What an entry does to its own seat, from what it asks. A world and a player machine decide by the same definition.
 use Rattle.std.specs.Prelude.{ℕ, ◌+◌, ◌==◌, Bool, true, false, List, [], ◌∷◌, if◌then◌else◌, Option, Some, None, Result, Ok, Err, codes}
-use Rattle.seats.specs.Book.{Book, joined, left, counted, join_refusal, with_tag}
+use Rattle.seats.specs.Book.{Book, joined, left, counted, join_refusal}
 use Rattle.seats.specs.SeatState.{is_joined}
 use Rattle.seats.specs.declared.seat_state.JoinRefusal.{JoinRefusal}
 use Rattle.seats.specs.declared.seat_state.JoinRefusal.TheVariants as joins
@@ -90,25 +90,14 @@ abbrev pub is_move : Command → Bool
 is_move (Move token path) = true
 is_move c = false
 
--- the tag of the token that a command makes
-abbrev pub tag_made : Command → Option (List ℕ)
-tag_made (Make tag map cell name) = Some tag
-tag_made (Token tag map cell name size layer) = Some tag
-tag_made c = None
-
 -- what a command says, and to whom
 abbrev pub said : Command → Option (To × List ℕ)
 said (Say text to) = Some (to, text)
 said c = None
 
--- the book once the tag is used
-abbrev pub using_tag : Option (List ℕ) → Book → Book
-using_tag None b = b
-using_tag (Some tag) b = with_tag b tag
-
--- what an accepted command does to the book, the line being counted: a made token's tag is used, and a bye ends the session
+-- what an accepted command does to the book, the line being counted
 abbrev pub book_done : Command → Book → Book
-book_done c b = let used = using_tag (tag_made c) b in if is_bye c then left used else used
+book_done c b = if is_bye c then left b else b
 
 -- the name of an accepted command in its reply
 abbrev pub reply_name : Command → List ℕ
@@ -147,22 +136,22 @@ abbrev pub message_by : ℕ → Option (To × List ℕ) → List Message
 message_by seat None = []
 message_by seat (Some words) = record { from = seat; to = words.0; line = message_line seat words.0 words.1 } ∷ []
 
-abbrev pub accepted : ℕ → Book → Command → Outcome
-accepted steps b c = record nothing {
+abbrev pub accepted : ℕ → ℕ → Book → Command → Outcome
+accepted steps seat b c = record nothing {
   book = Some (book_done c (counted b));
   reply = reply_line steps (b.lines + 1) c ∷ [];
-  messages = message_by b.seat (said c);
+  messages = message_by seat (said c);
   full = is_look c;
   done = Some c;
 }
 
 -- by the first broken rule
-abbrev pub decided : ℕ → Book → Command → Option Refusal → Outcome
-decided steps b c None = accepted steps b c
-decided steps b c (Some refusal) = refused_line b refusal
+abbrev pub decided : ℕ → ℕ → Book → Command → Option Refusal → Outcome
+decided steps seat b c None = accepted steps seat b c
+decided steps seat b c (Some refusal) = refused_line b refusal
 
-abbrev pub command_outcome : Asked → ℕ → Book → Command → Outcome
-command_outcome asked steps b c = decided steps b c (rule_of asked b.seat b.tags c)
+abbrev pub command_outcome : Asked → ℕ → ℕ → Book → Command → Outcome
+command_outcome asked steps seat b c = decided steps seat b c (rule_of asked seat b.tags c)
 
 -- ---- lines
 
@@ -174,12 +163,12 @@ refusal_of_line faults.GmOnly = GmOnly
 refusal_of_line (faults.BadField name) = BadField name
 refusal_of_line faults.Memory = BadJson
 
-abbrev pub read_outcome : Asked → ℕ → Book → Result Command LineFault → Outcome
-read_outcome asked steps b (Err fault) = refused_line b (refusal_of_line fault)
-read_outcome asked steps b (Ok command) = command_outcome asked steps b command
+abbrev pub read_outcome : Asked → ℕ → ℕ → Book → Result Command LineFault → Outcome
+read_outcome asked steps seat b (Err fault) = refused_line b (refusal_of_line fault)
+read_outcome asked steps seat b (Ok command) = command_outcome asked steps seat b command
 
-abbrev pub line_outcome : Asked → ℕ → Book → List ℕ → Outcome
-line_outcome asked steps b bytes = if is_joined b.state then read_outcome asked steps b (command_of bytes (b.seat == 0)) else refused_direct 0 NoHello
+abbrev pub line_outcome : Asked → ℕ → ℕ → Book → List ℕ → Outcome
+line_outcome asked steps seat b bytes = if is_joined b.state then read_outcome asked steps seat b (command_of bytes (seat == 0)) else refused_direct 0 NoHello
 
 -- ---- entries
 
@@ -191,7 +180,7 @@ absent_outcome (Taken seat count) = nothing
 
 abbrev pub present_outcome : Asked → ℕ → Book → Entry → Outcome
 present_outcome asked steps b (Join seat key reader writer) = join_outcome asked b reader writer (join_refusal b key)
-present_outcome asked steps b (Line seat bytes) = line_outcome asked steps b bytes
+present_outcome asked steps b (Line seat bytes) = line_outcome asked steps seat b bytes
 present_outcome asked steps b (Taken seat count) = record nothing { taken = count }
 
 -- of an entry whose seat is this, where a move takes so many steps
