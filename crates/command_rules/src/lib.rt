@@ -5,9 +5,10 @@ mod effects;
 mod places;
 mod refusal;
 mod rules;
-
+mod sight;
 
 pub use effects::{scene_by, steps_by};
 pub use refusal::Refusal;
 pub use rules::rule_of;
+pub use sight::settle;
 
