@@ -3,8 +3,8 @@ ghost use Rattle.std.specs.Prelude.{◌≡◌, ◌<◌, ◌≤◌, ◌∷◌, []
 ghost use Rattle.seats.specs.Book.{join_refusal};
 ghost use Rattle.player_view.specs.Asked.{Asked};
 ghost use Rattle.command_json.specs.Commands.{command_of};
-ghost use Rattle.campaign_law.specs.Outcome.{nothing as nothing_lem, refused_direct as refused_direct_lem, refused_line as refused_line_lem, refusal_of_join as refusal_of_join_lem, join_outcome as join_outcome_lem, is_bye as is_bye_lem, is_look as is_look_lem, is_move as is_move_lem, tag_made as tag_made_lem, said, book_done as book_done_lem, reply_name as reply_name_lem, reply_line as reply_line_lem, message_by as message_by_lem, accepted as accepted_lem, command_outcome as command_outcome_lem, refusal_of_line as refusal_of_line_lem, read_outcome as read_outcome_lem, absent_outcome as absent_outcome_lem, present_outcome as present_outcome_lem, seat_of as seat_of_lem, count_if_joined as count_if_joined_lem};
-ghost use Rattle.campaign_law.specs.World.{asked_of, steps_of as steps_of_lem, outcome_of};
+ghost use Rattle.campaign_law.specs.Outcome.{nothing as nothing_lem, refused_direct as refused_direct_lem, refused_line as refused_line_lem, refusal_of_join as refusal_of_join_lem, join_outcome as join_outcome_lem, is_bye as is_bye_lem, is_look as is_look_lem, is_move as is_move_lem, said, book_done as book_done_lem, reply_name as reply_name_lem, reply_line as reply_line_lem, message_by as message_by_lem, accepted as accepted_lem, command_outcome as command_outcome_lem, refusal_of_line as refusal_of_line_lem, read_outcome as read_outcome_lem, outcome_at, absent_outcome as absent_outcome_lem, present_outcome as present_outcome_lem, seat_of as seat_of_lem, count_if_joined as count_if_joined_lem};
+ghost use Rattle.campaign_law.specs.World.{asked_of, steps_of as steps_of_lem, outcome_of, seat_at};
 ghost use Rattle.campaign_law.specs.State.{world_in};
 
 use crate::state::State;
@@ -170,17 +170,6 @@ fn is_move(command: &Command) -> bool
     matches!(command, Command::Move { .. })
 }
 
-/// The tag of the token that a command makes.
-fn tag_made(command: &Command) -> Option<Tag>
-    ensures { result ≡ tag_made_lem command.now }
-{
-    match command {
-        Command::Make { tag, .. } => Some(*tag),
-        Command::Token { tag, .. } => Some(*tag),
-        _ => None,
-    }
-}
-
 /// What an accepted command does to the book, the line being counted.
 fn change_book(command: &Command, book: &mut SeatBook)
     ensures { book.new ≡ book_done_lem command.now book.old }
@@ -252,9 +241,15 @@ fn message_by(alloc: Global, seat: SeatNo, command: &Command) -> Result<Vec<Mess
     Ok(messages)
 }
 
-fn accepted(alloc: Global, steps: u32, book: &SeatBook, command: Command) -> Result<Outcome, Memory>
+fn accepted(
+    alloc: Global,
+    steps: u32,
+    seat: SeatNo,
+    book: &SeatBook,
+    command: Command,
+) -> Result<Outcome, Memory>
     requires { book.now.lines < 16384 }
-    ensures { IfOk result (λ o. o ≡ accepted_lem steps book.now command) }
+    ensures { IfOk result (λ o. o ≡ accepted_lem steps seat book.now command) }
 {
     let mut after = book.copy()?;
     after.count_line();
@@ -262,7 +257,7 @@ fn accepted(alloc: Global, steps: u32, book: &SeatBook, command: Command) -> Res
     let mut outcome = nothing(alloc);
     outcome.book = Some(after);
     outcome.reply = Some(reply_line(alloc, steps, book.lines() + 1, &command)?);
-    outcome.messages = message_by(alloc, book.seat(), &command)?;
+    outcome.messages = message_by(alloc, seat, &command)?;
     outcome.full = is_look(&command);
     outcome.done = Some(command);
     Ok(outcome)
@@ -272,15 +267,16 @@ fn command_outcome(
     alloc: Global,
     state: &State,
     steps: u32,
+    seat: SeatNo,
     book: &SeatBook,
     command: Command,
 ) -> Result<Outcome, Memory>
     requires { book.now.lines < 16384 }
-    ensures { IfOk result (λ o. o ≡ command_outcome_lem (asked_of (world_in state.now) book.now.seat) steps book.now command) }
+    ensures { IfOk result (λ o. o ≡ command_outcome_lem (asked_of (world_in state.now) seat) steps seat book.now command) }
 {
-    match rule_of(state.scene(), book.seat(), &command) {
+    match rule_of(state.scene(), seat, &command) {
         Some(refusal) => refused_line(alloc, book, refusal),
-        None => accepted(alloc, steps, book, command),
+        None => accepted(alloc, steps, seat, book, command),
     }
 }
 
@@ -305,14 +301,15 @@ fn read_outcome(
     alloc: Global,
     state: &State,
     steps: u32,
+    seat: SeatNo,
     book: &SeatBook,
     bytes: &[u8],
 ) -> Result<Outcome, Memory>
     requires { book.now.lines < 16384 }
-    ensures { IfOk result (λ o. o ≡ read_outcome_lem (asked_of (world_in state.now) book.now.seat) steps book.now (command_of bytes.now (book.now.seat == 0))) }
+    ensures { IfOk result (λ o. o ≡ read_outcome_lem (asked_of (world_in state.now) seat) steps seat book.now (command_of bytes.now (seat == 0))) }
 {
-    match read_line(alloc, bytes, book.seat().number() == 0) {
-        Ok(command) => command_outcome(alloc, state, steps, book, command),
+    match read_line(alloc, bytes, seat.number() == 0) {
+        Ok(command) => command_outcome(alloc, state, steps, seat, book, command),
         Err(fault) => match refusal_of_line(fault) {
             Some(refusal) => refused_line(alloc, book, refusal),
             None => Err(Memory),
@@ -349,10 +346,10 @@ fn present_outcome(
             reader,
             writer,
         } => join_outcome(alloc, state, *seat, book, key.bytes(), *reader, *writer),
-        Entry::Line { bytes, .. } => {
+        Entry::Line { seat, bytes } => {
             let _lines = book.lines();
             if book.state().is_joined() {
-                read_outcome(alloc, state, steps, book, bytes.bytes())
+                read_outcome(alloc, state, steps, *seat, book, bytes.bytes())
             } else {
                 refused_direct(alloc, 0, Refusal::NoHello)
             }
@@ -404,7 +401,7 @@ pub(crate) fn decide(alloc: Global, state: &State, entry: &Entry) -> Result<(u32
 }
 
 /// The seat that acts.
-fn own_seat(entry: &Entry) -> SeatNo
+pub(crate) fn own_seat(entry: &Entry) -> SeatNo
     ensures { result ≡ seat_of_lem entry.now }
 {
     match entry {

@@ -1,5 +1,5 @@
 //! What a running campaign keeps: each seat's book, the lines that wait for it, and the scene.
-ghost use Rattle.std.specs.Prelude.{◌≡◌, ◌≤◌, ◌==◌, ◌+◌, ◌-◌, ◌||◌, length, slice_get, option_map, Some, IfOk, OnOk, map, drop, ◌++◌, ◌∷◌, [], if◌then◌else◌, unwrap_or};
+ghost use Rattle.std.specs.Prelude.{◌≡◌, ◌≤◌, ◌==◌, ◌+◌, ◌-◌, ◌||◌, ◌&&◌, length, slice_get, option_map, Some, IfOk, OnOk, map, drop, ◌++◌, ◌∷◌, [], if◌then◌else◌, unwrap_or};
 ghost use Rattle.seats.specs.SeatState.{is_free as is_free_lem, is_closing as is_closing_lem};
 ghost use Rattle.campaign_law.specs.Seat.{let_go};
 ghost use Rattle.campaign_law.specs.World.{changed};
