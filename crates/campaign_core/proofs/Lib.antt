@@ -1,1 +1,10 @@
-pub mod Openings
+pub mod Lists
+pub mod Seats
+pub mod Views
+pub mod Runs
+pub mod Outcomes
+pub mod Simulation
+pub mod Sessions
+pub mod States
+pub mod OneLines
+pub mod Refused

@@ -1,10 +1,10 @@
 use Rattle.std.proofs.Common.{◌<◌, ◌∙◌, sym, ap, subst, length, drop}
 use Rattle.std.specs.Prelude.{option_map, slice_get}
-use Rattle.campaign_law.specs.World.{seat_at, replay}
-use Rattle.campaign_law.specs.Session.{session}
-use Rattle.campaign_law.specs.State.{world_in}
-use Rattle.campaign_law.specs.Law.{Course}
-use Rattle.campaign_law.proofs.States.{post_found, post_there}
+use Rattle.campaign_core.specs.World.{seat_at, replay}
+use Rattle.campaign_core.specs.Session.{session}
+use Rattle.campaign_core.specs.State.{world_in}
+use Rattle.campaign_core.specs.Law.{Course}
+use Rattle.campaign_core.proofs.States.{post_found, post_there}
 use Rattle.campaign_core.proofs.campaign.Campaign.post.Goals as goal
 
 pub unreachable-requires : goal.unreachable-requires

@@ -1,12 +1,12 @@
 use Rattle.std.proofs.Common.{◌≡◌, ◌∙◌, sym, ap, subst, ◌++◌, ◌∷◌, [], rules}
 use Rattle.std.specs.Prelude.{is_some}
-use Rattle.campaign_law.specs.declared.answer.Answer.{Answer}
-use Rattle.campaign_law.specs.World.{World, steps_of, outcome_of, replay}
-use Rattle.campaign_law.specs.State.{world_in, state_after, state_of}
-use Rattle.campaign_law.specs.Law.{Course, IsOpening, answer_of, ChangesLittle}
-use Rattle.campaign_law.proofs.Sessions.{state_of-more, world_in-state_of}
-use Rattle.campaign_law.proofs.Simulation.{sent_is_machine}
-use Rattle.campaign_law.proofs.Refused.{refused_changes_little}
+use Rattle.campaign_core.specs.declared.campaign.Answer.{Answer}
+use Rattle.campaign_core.specs.World.{World, steps_of, outcome_of, replay}
+use Rattle.campaign_core.specs.State.{world_in, state_after, state_of}
+use Rattle.campaign_core.specs.Law.{Course, IsOpening, answer_of, ChangesLittle}
+use Rattle.campaign_core.proofs.Sessions.{state_of-more, world_in-state_of}
+use Rattle.campaign_core.proofs.Simulation.{sent_is_machine}
+use Rattle.campaign_core.proofs.Refused.{refused_changes_little}
 use Rattle.campaign_core.proofs.campaign.Campaign.step.Goals as goal
 
 pub returns-in_default-clause-sent : goal.returns-in_default-clause-sent

@@ -1,7 +1,7 @@
 use Rattle.std.proofs.Common.{◌∙◌, sym, ap, subst, []}
-use Rattle.campaign_law.specs.State.{State, world_in, state_of}
-use Rattle.campaign_law.specs.Law.{IsOpening}
-use Rattle.campaign_law.proofs.States.{opened, opening_world_in, opening_is}
+use Rattle.campaign_core.specs.State.{State, world_in, state_of}
+use Rattle.campaign_core.specs.Law.{IsOpening}
+use Rattle.campaign_core.proofs.States.{opened, opening_world_in, opening_is}
 use Rattle.campaign_core.proofs.campaign.Campaign.with_seats.Goals as goal
 
 pub invariant_of-result : goal.invariant_of-result

@@ -1,10 +1,10 @@
 use Rattle.std.proofs.Common.{◌∙◌, sym, ap, eqb, length, arith}
-use Rattle.campaign_law.specs.Views.{no_view}
-use Rattle.campaign_law.specs.Outcome.{seat_of}
-use Rattle.campaign_law.specs.World.{mapped_from}
-use Rattle.campaign_law.specs.State.{post_by}
-use Rattle.campaign_law.proofs.Lists.{length-mapped_from}
-use Rattle.campaign_law.proofs.States.{stated}
+use Rattle.campaign_core.specs.Views.{no_view}
+use Rattle.campaign_core.specs.Outcome.{seat_of}
+use Rattle.campaign_core.specs.World.{mapped_from}
+use Rattle.campaign_core.specs.State.{post_by}
+use Rattle.campaign_core.proofs.Lists.{length-mapped_from}
+use Rattle.campaign_core.proofs.States.{stated}
 use Rattle.campaign_core.proofs.state.State.after.Goals as goal
 
 pub invariant_of-result : goal.invariant_of-result

@@ -1,0 +1,161 @@
+-- Outcomes: what the world's and the machine's have in common, and what fits a seat.
+use Rattle.std.proofs.Common.{◌≡◌, ℕ, ◌<◌, ◌≤◌, Bool, true, false, cond, ◌||◌, eqb, List, length, Some, None, refl, sym, ◌∙◌, ap, arith, ◌⊎◌, inl, inr}
+use Rattle.std.specs.Prelude.{option_map, Option, unwrap_or, Result, Ok, Err}
+use Rattle.seats.specs.declared.seat_state.JoinRefusal.{JoinRefusal}
+use Rattle.seats.specs.Book.{Book, counted, blank_book, join_refusal}
+use Rattle.seats.specs.SeatState.{is_joined}
+use Rattle.campaign_core.specs.declared.entry.Entry.{Entry}
+use Rattle.campaign_core.specs.declared.entry.Entry.TheVariants.{Join, Line, Taken}
+use Rattle.campaign_core.specs.declared.command.Command.{Command}
+use Rattle.campaign_core.specs.declared.command.Command.TheVariants.{Hello, Bye, Say}
+use Rattle.campaign_core.specs.declared.command.LineFault.{LineFault}
+use Rattle.campaign_core.specs.declared.command.Refusal.{Refusal}
+use Rattle.campaign_core.specs.declared.command.Refusal.TheVariants.{NoHello}
+use Rattle.campaign_core.specs.Asked.{Asked}
+use Rattle.campaign_core.specs.Commands.{command_of}
+use Rattle.campaign_core.specs.Seat.{Seat, blank_seat, was_joined}
+use Rattle.campaign_core.specs.Outcome.{Outcome, nothing, outcome_at, join_outcome, read_outcome, rule_of, book_done, accepted, decided, refused_direct, refused_line, refusal_of_join, blank_entry, seat_of}
+use Rattle.campaign_core.specs.World.{changed, is_present, queued_reply}
+use Rattle.seats.proofs.Books.{is_joined-blank, counted-blank, joined-blank, left-blank, join_refusal-blank}
+
+-- ---- decides alike: each part, without pass numbers
+
+abbrev pub blank_outcome : Outcome → Outcome
+blank_outcome o = record o { book = option_map blank_book o.book }
+
+join_outcome-blank : (asked : Asked) (b : Book) (reader writer : ℕ) (refusal : Option JoinRefusal) → join_outcome asked (blank_book b) 0 0 refusal ≡ blank_outcome (join_outcome asked b reader writer refusal)
+join_outcome-blank asked b reader writer None = ap (λ c. record (join_outcome asked b 0 0 None) { book = Some c }) (joined-blank b reader writer)
+join_outcome-blank asked b reader writer (Some refusal) = ap (λ j. refused_direct (cond j b.lines 0) (refusal_of_join refusal)) (is_joined-blank b.state)
+
+refused_line-blank : (b : Book) (r : Refusal) → refused_line (blank_book b) r ≡ blank_outcome (refused_line b r)
+refused_line-blank b r = ap (λ c. record (refused_line b r) { book = Some c }) (counted-blank b)
+
+-- a line for each command
+book_done-blank : (c : Command) (b : Book) → book_done c (blank_book b) ≡ blank_book (book_done c b)
+book_done-blank (Hello named key) b = refl
+book_done-blank Bye b = left-blank b
+book_done-blank (Say text) b = refl
+
+accepted-blank : (steps : ℕ) (b : Book) (c : Command) → accepted steps (blank_book b) c ≡ blank_outcome (accepted steps b c)
+accepted-blank steps b c = ap (λ x. record (accepted steps b c) { book = Some x }) (ap (book_done c) (counted-blank b) ∙ book_done-blank c (counted b))
+
+decided-blank : (steps : ℕ) (b : Book) (c : Command) (r : Option Refusal) → decided steps (blank_book b) c r ≡ blank_outcome (decided steps b c r)
+decided-blank steps b c None = accepted-blank steps b c
+decided-blank steps b c (Some r) = refused_line-blank b r
+
+read_outcome-blank : (asked : Asked) (steps : ℕ) (b : Book) (r : Result Command LineFault) → read_outcome asked steps (blank_book b) r ≡ blank_outcome (read_outcome asked steps b r)
+read_outcome-blank asked steps b (Err fault) = refused_line-blank b _
+read_outcome-blank asked steps b (Ok command) = decided-blank steps b command (rule_of asked b.seat command)
+
+line_if-blank : (j : Bool) (o o' : Outcome) → o' ≡ blank_outcome o → cond j o' (refused_direct 0 NoHello) ≡ blank_outcome (cond j o (refused_direct 0 NoHello))
+line_if-blank true o o' h = h
+line_if-blank false o o' h = refl
+
+pub outcome_at-blank : (asked : Asked) (steps : ℕ) (before : Option Seat) (e : Entry) → outcome_at asked steps (option_map blank_seat before) (blank_entry e) ≡ blank_outcome (outcome_at asked steps before e)
+outcome_at-blank asked steps None (Join seat key reader writer) = refl
+outcome_at-blank asked steps None (Line seat bytes) = refl
+outcome_at-blank asked steps None (Taken seat count) = refl
+outcome_at-blank asked steps (Some s) (Join seat key reader writer) = ap (join_outcome asked (blank_book s.book) 0 0) (join_refusal-blank s.book key) ∙ join_outcome-blank asked s.book reader writer (join_refusal s.book key)
+outcome_at-blank asked steps (Some s) (Line seat bytes) =
+    ap (λ j. cond j (read_outcome asked steps (blank_book s.book) (command_of bytes (eqb s.book.seat 0))) (refused_direct 0 NoHello)) (is_joined-blank s.book.state)
+    ∙ line_if-blank (is_joined s.book.state) _ _ (read_outcome-blank asked steps s.book (command_of bytes (eqb s.book.seat 0)))
+outcome_at-blank asked steps (Some s) (Taken seat count) = refl
+
+-- a seat that isn't Joined asks for the number of seats alone
+pub outcome_at-unasked : (asked other : Asked) (steps : ℕ) (before : Option Seat) (e : Entry) → asked.seats ≡ other.seats → was_joined before ≡ false → outcome_at asked steps before e ≡ outcome_at other steps before e
+outcome_at-unasked asked other steps None (Join seat key reader writer) n h = refl
+outcome_at-unasked asked other steps None (Line seat bytes) n h = refl
+outcome_at-unasked asked other steps None (Taken seat count) n h = refl
+outcome_at-unasked asked other steps (Some s) (Join seat key reader writer) n h = joining (join_refusal s.book key)
+  where
+    joining : (r : Option JoinRefusal) → join_outcome asked s.book reader writer r ≡ join_outcome other s.book reader writer r
+    joining (Some r) = refl
+    joining None = ap (λ n. join_outcome (record asked { seats = n }) s.book reader writer None) n
+outcome_at-unasked asked other steps (Some s) (Line seat bytes) n h =
+    ap (λ j. cond j (read_outcome asked steps s.book (command_of bytes (eqb s.book.seat 0))) (refused_direct 0 NoHello)) h
+    ∙ sym (ap (λ j. cond j (read_outcome other steps s.book (command_of bytes (eqb s.book.seat 0))) (refused_direct 0 NoHello)) h)
+outcome_at-unasked asked other steps (Some s) (Taken seat count) n h = refl
+
+-- ---- what fits a seat
+
+pub record IsFit (s : Seat) (o : Outcome) : Type 0 where
+  pub stays : is_present true (Some s) o ≡ true → (is_joined (changed o true s).book.state ≡ true) ⊎ (0 < length (queued_reply o))
+  pub joined : is_joined (changed o true s).book.state ≡ true → is_present true (Some s) o ≡ true
+  pub full : o.full ≡ true → is_present true (Some s) o ≡ true
+  pub joins : o.joins ≡ true → o.full ≡ true
+
+or_true : (x : Bool) → x ≡ true → (x || false) ≡ true
+or_true true h = refl
+or_true false h = h
+
+or_of : (x : Bool) → (x || false) ≡ true → x ≡ true
+or_of true h = refl
+or_of false h = h
+
+or_second : (x y : Bool) → y ≡ true → (x || y) ≡ true
+or_second true y h = refl
+or_second false y h = h
+
+-- of a Joined seat, that prints a reply and may change its book
+joined_fits : (s : Seat) (o : Outcome) → is_joined s.book.state ≡ true → o.joins ≡ false → 0 < length (queued_reply o) → IsFit s o
+joined_fits s o j n r = record {
+  stays = λ _. inr r;
+  joined = λ _. ap (λ x. x || o.joins) j;
+  full = λ _. ap (λ x. x || o.joins) j;
+  joins = λ h. let z : true ≡ false = sym h ∙ n in cc;
+}
+
+-- one that leaves the book and the view as they are
+kept_fits : (s : Seat) (o : Outcome) → o.book ≡ None → o.joins ≡ false → o.full ≡ false → IsFit s o
+kept_fits s o b n f = record {
+  stays = λ h. inl (ap (λ x. is_joined (unwrap_or x s.book).state) b ∙ or_of (is_joined s.book.state) (sym (ap (λ x. is_joined s.book.state || x) n) ∙ h));
+  joined = λ h. ap (λ x. is_joined s.book.state || x) n ∙ or_true (is_joined s.book.state) (sym (ap (λ x. is_joined (unwrap_or x s.book).state) b) ∙ h);
+  full = λ h. let z : true ≡ false = sym h ∙ f in cc;
+  joins = λ h. let z : true ≡ false = sym h ∙ n in cc;
+}
+
+decided_fits : (steps : ℕ) (s : Seat) (c : Command) (r : Option Refusal) → is_joined s.book.state ≡ true → IsFit s (decided steps s.book c r)
+decided_fits steps s c None j = joined_fits s (accepted steps s.book c) j refl (omega arith)
+decided_fits steps s c (Some r) j = joined_fits s (refused_line s.book r) j refl (omega arith)
+
+read_fits : (asked : Asked) (steps : ℕ) (s : Seat) (r : Result Command LineFault) → is_joined s.book.state ≡ true → IsFit s (read_outcome asked steps s.book r)
+read_fits asked steps s (Err fault) j = joined_fits s (read_outcome asked steps s.book (Err fault)) j refl (omega arith)
+read_fits asked steps s (Ok command) j = decided_fits steps s command (rule_of asked s.book.seat command) j
+
+line_fits : (asked : Asked) (steps : ℕ) (s : Seat) (bytes : List ℕ) (j : Bool) → is_joined s.book.state ≡ j → IsFit s (cond j (read_outcome asked steps s.book (command_of bytes (eqb s.book.seat 0))) (refused_direct 0 NoHello))
+line_fits asked steps s bytes true e = read_fits asked steps s (command_of bytes (eqb s.book.seat 0)) e
+line_fits asked steps s bytes false e = kept_fits s (refused_direct 0 NoHello) refl refl refl
+
+join_fits : (asked : Asked) (s : Seat) (reader writer : ℕ) (r : Option JoinRefusal) → IsFit s (join_outcome asked s.book reader writer r)
+join_fits asked s reader writer (Some r) = kept_fits s (join_outcome asked s.book reader writer (Some r)) refl refl refl
+join_fits asked s reader writer None = record {
+  stays = λ h. inr (omega arith);
+  joined = λ h. or_second (is_joined s.book.state) true refl;
+  full = λ h. or_second (is_joined s.book.state) true refl;
+  joins = λ h. h;
+}
+
+pub outcome_fits : (asked : Asked) (steps : ℕ) (s : Seat) (e : Entry) → IsFit s (outcome_at asked steps (Some s) e)
+outcome_fits asked steps s (Join seat key reader writer) = join_fits asked s reader writer (join_refusal s.book key)
+outcome_fits asked steps s (Line seat bytes) = line_fits asked steps s bytes (is_joined s.book.state) refl
+outcome_fits asked steps s (Taken seat count) = kept_fits s (record nothing { taken = count }) refl refl refl
+
+-- a seat that isn't there doesn't join
+pub absent_joins : (asked : Asked) (steps : ℕ) (e : Entry) → (outcome_at asked steps None e).joins ≡ false
+absent_joins asked steps (Join seat key reader writer) = refl
+absent_joins asked steps (Line seat bytes) = refl
+absent_joins asked steps (Taken seat count) = refl
+
+pub absent_full : (asked : Asked) (steps : ℕ) (e : Entry) → (outcome_at asked steps None e).full ≡ false
+absent_full asked steps (Join seat key reader writer) = refl
+absent_full asked steps (Line seat bytes) = refl
+absent_full asked steps (Taken seat count) = refl
+
+pub seat_of-blank : (e : Entry) → seat_of (blank_entry e) ≡ seat_of e
+seat_of-blank (Join seat key reader writer) = refl
+seat_of-blank (Line seat bytes) = refl
+seat_of-blank (Taken seat count) = refl
+
+-- what was taken stays within what was queued
+pub taken_within : (o : Outcome) (s : Seat) → s.taken ≤ s.queued → (changed o true s).taken ≤ (changed o true s).queued
+taken_within o s h = omega arith
