@@ -1,5 +1,6 @@
 pub mod Scans
 pub mod FlatTrees
+pub mod Comparing
 pub mod Loops
 pub mod Names
 pub mod Operators

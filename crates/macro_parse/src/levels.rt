@@ -6,16 +6,17 @@ ghost use Rattle.macro_parse.specs.Levels.{IsNext};
 use crate::nodes::Operator;
 use reading::Cursor;
 
-/// A level of an expression that is a chain of operators.
+/// A level of an expression: what stands between operators of one strength. All but `Compare` are chains.
 #[derive(Clone, Copy, Debug, PartialEq, Eq)]
 pub(crate) enum Level {
     Or,
     And,
+    Compare,
     Sum,
     Product,
 }
 
-/// What comes next in a chain.
+/// What comes next behind an operand.
 #[derive(Clone, Copy, Debug, PartialEq, Eq)]
 pub(crate) enum Next {
     /// No operator of the level.
@@ -48,6 +49,34 @@ fn and_operator(cursor: &mut Cursor<'_>) -> Next
         return Next::Fails;
     }
     Next::Found(Operator::And)
+}
+
+/// The longer of two operators is read, so `<=` is no `<`.
+#[tactic(auto, unfolding(crate::specs::Readers::compare_operator_at))]
+fn compare_operator(cursor: &mut Cursor<'_>) -> Next
+    ensures { IsNext Level.Compare cursor.old.rest.now result cursor.new.rest.now }
+{
+    let Some((first, rest)) = cursor.rest.split_first() else {
+        return Next::Nothing;
+    };
+    let first = *first;
+    if first != b'=' && first != b'!' && first != b'<' && first != b'>' {
+        return Next::Nothing;
+    }
+    cursor.rest = rest;
+    if cursor.takes(b'=') {
+        return Next::Found(match first {
+            b'=' => Operator::Equal,
+            b'!' => Operator::NotEqual,
+            b'<' => Operator::LessOrEqual,
+            _ => Operator::GreaterOrEqual,
+        });
+    }
+    match first {
+        b'<' => Next::Found(Operator::Less),
+        b'>' => Next::Found(Operator::Greater),
+        _ => Next::Fails,
+    }
 }
 
 fn sum_operator(cursor: &mut Cursor<'_>) -> Next
@@ -88,6 +117,7 @@ pub(crate) fn operator(cursor: &mut Cursor<'_>, level: Level) -> Next
     match level {
         Level::Or => or_operator(cursor),
         Level::And => and_operator(cursor),
+        Level::Compare => compare_operator(cursor),
         Level::Sum => sum_operator(cursor),
         Level::Product => product_operator(cursor),
     }

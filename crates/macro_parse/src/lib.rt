@@ -5,6 +5,7 @@ mod atoms;
 mod laws;
 mod levels;
 mod nodes;
+mod reader;
 
 pub use laws::one_reading;
 pub use nodes::{Arguments, Function, Node, Operator};

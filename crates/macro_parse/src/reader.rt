@@ -1,0 +1,47 @@
+//! A macro's text as it is read.
+
+ghost use Rattle.std.specs.Prelude.{◌≡◌, ◌≤◌, ◌++◌, ◌∷◌, [], IfOk, IfErr, length};
+ghost use Rattle.macro_parse.specs.Flat.{place};
+
+use crate::nodes::Node;
+use reading::Cursor;
+
+/// Why reading stops.
+#[derive(Clone, Copy, Debug, PartialEq, Eq)]
+pub(crate) enum Stop {
+    /// The text leaves the grammar where the cursor stands.
+    Off,
+    /// Want of memory.
+    Memory,
+}
+
+/// What is left of a text of `end` bytes, and the nodes read so far.
+#[derive(Drop)]
+pub(crate) struct Reader<'a> {
+    pub(crate) end: u32,
+    pub(crate) cursor: Cursor<'a>,
+    pub(crate) nodes: Vec<Node>,
+}
+
+impl Reader<'_> {
+    /// The place of the next byte.
+    pub(crate) fn at(&self) -> u32
+        requires { length self.now.cursor.rest.now ≤ self.now.end }
+        ensures { result ≡ place self.now.end self.now.cursor.rest.now }
+    {
+        self.end - self.cursor.rest.len() as u32
+    }
+}
+
+/// Puts a node behind the others, and says where.
+pub(crate) fn keep(nodes: &mut Vec<Node>, node: Node) -> Result<usize, Stop>
+    ensures kept { IfOk result (λ i. i ≡ length nodes.old.items) }
+    ensures items { IfOk result (λ _. nodes.new.items ≡ nodes.old.items ++ node ∷ []) }
+    ensures memory { IfErr result (λ stop. stop ≡ Stop.Memory) }
+{
+    let place = nodes.len();
+    match nodes.push(node) {
+        Ok(()) => Ok(place),
+        Err(_) => Err(Stop::Memory),
+    }
+}
