@@ -11,7 +11,7 @@ use Rattle.macro_parse.specs.declared.nodes.Operator.{Operator}
 use Rattle.macro_parse.specs.declared.nodes.Function.{Function}
 use Rattle.macro_parse.specs.Tree.{Tree, Number, Dice, Quoted, Name, Call0, Call1, Call2, Call3, Negated, Inverted, Binary, Assigned}
 use Rattle.macro_parse.specs.Grammar.{DiceFit}
-use Rattle.macro_parse.specs.Flat.{Shows, Keeps, NodeFits, NodesFit, Puts, Grows}
+use Rattle.macro_parse.specs.Flat.{Shows, Keeps, Kept, NodeFits, NodesFit, Puts, Grows}
 
 get_in : (xs : List Node) (i : ℕ) (x : Node) → slice_get xs i ≡ Some x → i < length xs
 get_in [] i x e = absurd cc
@@ -66,18 +66,14 @@ keeps_then xs ys zs h g = (h.0 ++ g.0, let e = h.1 in let f = g.1 in rw (f, e) (
 
 -- ---- a node that is put at the end
 
-pub record Kept (old new : List Node) (i : ℕ) (n : Node) : Type 0 where
-  pub place : i ≡ length old
-  pub items : new ≡ old ++ (n ∷ [])
-
 kept_get : (xs zs : List Node) (i : ℕ) (n : Node) → Kept xs zs i n → slice_get zs i ≡ Some n
-kept_get xs zs i n k = let e = k.place in let f = k.items in rw (f, e) (get_last xs n)
+kept_get xs zs i n k = let e = k.at_end in let f = k.items in rw (f, e) (get_last xs n)
 
 kept_keeps : (xs zs : List Node) (i : ℕ) (n : Node) → Kept xs zs i n → Keeps xs zs
 kept_keeps xs zs i n k = (n ∷ [], k.items)
 
 kept_shows : (xs zs : List Node) (i j : ℕ) (n : Node) (t : Tree) → Kept xs zs i n → Shows xs j t → (j < i) × Shows zs j t
-kept_shows xs zs i j n t k h = let e = k.place in let lt = shown_in xs j t h in (omega arith, shows_kept xs zs j t (kept_keeps xs zs i n k) h)
+kept_shows xs zs i j n t k h = let e = k.at_end in let lt = shown_in xs j t h in (omega arith, shows_kept xs zs j t (kept_keeps xs zs i n k) h)
 
 fits_one : (n : Node) → NodeFits n → NodesFit (n ∷ [])
 fits_one n h zero d lt = h

@@ -1,7 +1,9 @@
 pub mod Scans
 pub mod FlatTrees
 pub mod Comparing
+pub mod Finding
 pub mod Loops
+pub mod Chains
 pub mod Names
 pub mod Operators
 pub mod LevelWords

@@ -1,5 +1,5 @@
 -- Trees as they stand in a list of nodes.
-use Rattle.std.specs.Prelude.{◌≡◌, ℕ, ◌<◌, ◌-◌, List, ◌++◌, length, Option, Some, None, Result, Ok, Err, All, slice_get}
+use Rattle.std.specs.Prelude.{◌≡◌, ℕ, ◌<◌, ◌-◌, List, [], ◌∷◌, ◌++◌, length, Option, Some, None, Result, Ok, Err, All, slice_get}
 use Rattle.std.specs.Global.{Vec}
 use Rattle.reading.specs.Reading.{Read}
 use Rattle.dice_parse.specs.Grammar.{GroupFits}
@@ -29,6 +29,11 @@ Shows nodes i (Assigned at name t) = (v : Vec ℕ) × (j : ℕ) × (j < i) × (s
 -- the old nodes stand in front
 abbrev pub Keeps : List Node → List Node → Type 0
 Keeps old new = (more : List Node) × (new ≡ old ++ more)
+
+-- a node was put behind the old ones, and is the one at i
+pub record Kept (old new : List Node) (i : ℕ) (node : Node) : Type 0 where
+  pub at_end : i ≡ length old
+  pub items : new ≡ old ++ (node ∷ [])
 
 -- a node has no dice off the limits
 abbrev pub NodeFits : Node → Type 0

@@ -28,7 +28,8 @@ pub(crate) enum Next {
 }
 
 fn or_operator(cursor: &mut Cursor<'_>) -> Next
-    ensures { IsNext Level.Or cursor.old.rest.now result cursor.new.rest.now }
+    ensures value { IsNext Level.Or cursor.old.rest.now result cursor.new.rest.now }
+    ensures shrinks { length cursor.new.rest.now ≤ length cursor.old.rest.now }
 {
     if !cursor.takes(b'|') {
         return Next::Nothing;
@@ -40,7 +41,8 @@ fn or_operator(cursor: &mut Cursor<'_>) -> Next
 }
 
 fn and_operator(cursor: &mut Cursor<'_>) -> Next
-    ensures { IsNext Level.And cursor.old.rest.now result cursor.new.rest.now }
+    ensures value { IsNext Level.And cursor.old.rest.now result cursor.new.rest.now }
+    ensures shrinks { length cursor.new.rest.now ≤ length cursor.old.rest.now }
 {
     if !cursor.takes(b'&') {
         return Next::Nothing;
@@ -54,7 +56,8 @@ fn and_operator(cursor: &mut Cursor<'_>) -> Next
 /// The longer of two operators is read, so `<=` is no `<`.
 #[tactic(auto, unfolding(crate::specs::Readers::compare_operator_at))]
 fn compare_operator(cursor: &mut Cursor<'_>) -> Next
-    ensures { IsNext Level.Compare cursor.old.rest.now result cursor.new.rest.now }
+    ensures value { IsNext Level.Compare cursor.old.rest.now result cursor.new.rest.now }
+    ensures shrinks { length cursor.new.rest.now ≤ length cursor.old.rest.now }
 {
     let Some((first, rest)) = cursor.rest.split_first() else {
         return Next::Nothing;
@@ -80,7 +83,8 @@ fn compare_operator(cursor: &mut Cursor<'_>) -> Next
 }
 
 fn sum_operator(cursor: &mut Cursor<'_>) -> Next
-    ensures { IsNext Level.Sum cursor.old.rest.now result cursor.new.rest.now }
+    ensures value { IsNext Level.Sum cursor.old.rest.now result cursor.new.rest.now }
+    ensures shrinks { length cursor.new.rest.now ≤ length cursor.old.rest.now }
 {
     let Some((first, rest)) = cursor.rest.split_first() else {
         return Next::Nothing;
@@ -95,7 +99,8 @@ fn sum_operator(cursor: &mut Cursor<'_>) -> Next
 }
 
 fn product_operator(cursor: &mut Cursor<'_>) -> Next
-    ensures { IsNext Level.Product cursor.old.rest.now result cursor.new.rest.now }
+    ensures value { IsNext Level.Product cursor.old.rest.now result cursor.new.rest.now }
+    ensures shrinks { length cursor.new.rest.now ≤ length cursor.old.rest.now }
 {
     let Some((first, rest)) = cursor.rest.split_first() else {
         return Next::Nothing;
@@ -112,7 +117,8 @@ fn product_operator(cursor: &mut Cursor<'_>) -> Next
 
 /// The operator of a level that comes next.
 pub(crate) fn operator(cursor: &mut Cursor<'_>, level: Level) -> Next
-    ensures { IsNext level cursor.old.rest.now result cursor.new.rest.now }
+    ensures value { IsNext level cursor.old.rest.now result cursor.new.rest.now }
+    ensures shrinks { length cursor.new.rest.now ≤ length cursor.old.rest.now }
 {
     match level {
         Level::Or => or_operator(cursor),

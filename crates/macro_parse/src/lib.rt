@@ -2,6 +2,8 @@
 #![tactic(auto)]
 
 mod atoms;
+mod expressions;
+mod functions;
 mod laws;
 mod levels;
 mod nodes;

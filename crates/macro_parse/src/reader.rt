@@ -1,7 +1,7 @@
 //! A macro's text as it is read.
 
-ghost use Rattle.std.specs.Prelude.{◌≡◌, ◌≤◌, ◌++◌, ◌∷◌, [], IfOk, IfErr, length};
-ghost use Rattle.macro_parse.specs.Flat.{place};
+ghost use Rattle.std.specs.Prelude.{◌≡◌, ◌≤◌, IfOk, IfErr, length};
+ghost use Rattle.macro_parse.specs.Flat.{Kept, place};
 
 use crate::nodes::Node;
 use reading::Cursor;
@@ -35,8 +35,7 @@ impl Reader<'_> {
 
 /// Puts a node behind the others, and says where.
 pub(crate) fn keep(nodes: &mut Vec<Node>, node: Node) -> Result<usize, Stop>
-    ensures kept { IfOk result (λ i. i ≡ length nodes.old.items) }
-    ensures items { IfOk result (λ _. nodes.new.items ≡ nodes.old.items ++ node ∷ []) }
+    ensures kept { IfOk result (λ i. Kept nodes.old.items nodes.new.items i node) }
     ensures memory { IfErr result (λ stop. stop ≡ Stop.Memory) }
 {
     let place = nodes.len();
