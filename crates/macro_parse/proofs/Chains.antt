@@ -1,6 +1,6 @@
 -- Operators with their operands, as the code reads them.
 use Rattle.std.proofs.Common.{◌≡◌, ℕ, ◌+◌, ◌-◌, ◌<◌, ◌≤◌, List, length, Option, Some, None, Ok, Err, refl, sym, ◌∙◌, arith}
-use Rattle.std.specs.Prelude.{Result}
+use Rattle.std.specs.Prelude.{Result, IsErrAnd}
 use Rattle.reading.specs.Reading.{Read, done}
 use Rattle.reading.specs.Placed.{bind_at}
 use Rattle.macro_parse.specs.declared.nodes.Node.{Node}
@@ -57,3 +57,7 @@ module _ (depth end : ℕ) (x : Tree) (s r : List ℕ) (n0 n1 : List Node) where
 
   pub compare_found : (i : ℕ) → Steps Compare depth end x n0 n1 (Ok (Some i)) s r → Finds (Grows x n0 n1) (λ turns. compared_with (sum_at (unary_at turns depth) turns) turns (place end s) x) (Ok i) s r
   compare_found i (t, grown, short, h) = (t, grown, λ turns lt. h turns (λ at y. done y) lt)
+
+pub step_residual : (level : Level) (depth end : ℕ) (x : Tree) (n0 n1 : List Node) (found : Result (Option ℕ) Stop) (stop : Stop) (s r : List ℕ) → IsErrAnd found (λ e. e ≡ stop) → Steps level depth end x n0 n1 (Err stop) s r → Steps level depth end x n0 n1 found s r
+step_residual level depth end x n0 n1 (Ok v) stop s r e h = absurd e
+step_residual level depth end x n0 n1 (Err other) stop s r e h = rw e h

@@ -1,6 +1,6 @@
 -- What is found, put together from what its parts found.
 use Rattle.std.proofs.Common.{◌≡◌, ℕ, ◌+◌, ◌-◌, ◌<◌, ◌≤◌, List, [], ◌∷◌, ◌++◌, length, Option, Some, None, Ok, Err, refl, sym, ap, ◌∙◌, arith}
-use Rattle.std.specs.Prelude.{Result, IfOk, IfErr}
+use Rattle.std.specs.Prelude.{Result, IfOk, IfErr, IsErrAnd}
 use Rattle.std.proofs.lemmas.List.{length-append}
 use Rattle.reading.specs.Reading.{Read, done}
 use Rattle.reading.specs.Placed.{bind_at}
@@ -88,3 +88,8 @@ finds_blanks Shown read v s r1 r2 (w, e) h = (h.0, h.1, λ turns lt. let f = h.2
 pub stops_blanks : {V : Type 0} (Shown : V → Tree → Type 0) (read : ℕ → Read Tree) (stop : Stop) (s r : List ℕ) → Finds Shown read (Err stop) s r → Finds Shown (λ turns. then_blanks (read turns)) (Err stop) s r
 stops_blanks Shown read Off s r h = λ turns lt. let f = h turns lt in rw f refl
 stops_blanks Shown read Memory s r h = tt
+
+-- what `?` hands on
+pub finds_residual : {V T : Type 0} (Shown : V → T → Type 0) (read : ℕ → Read T) (found : Result V Stop) (stop : Stop) (s r : List ℕ) → IsErrAnd found (λ e. e ≡ stop) → Finds Shown read (Err stop) s r → Finds Shown read found s r
+finds_residual Shown read (Ok v) stop s r e h = absurd e
+finds_residual Shown read (Err other) stop s r e h = rw e h

@@ -3,6 +3,8 @@ pub mod FlatTrees
 pub mod Comparing
 pub mod Finding
 pub mod Loops
+pub mod Inside
+pub mod CallsFound
 pub mod Chains
 pub mod Names
 pub mod Operators

@@ -161,7 +161,7 @@ pub quote_opens : (s r : List ℕ) → takes_at 34 s ≡ (Some true, r) → Insi
 unfolding quoted_at
 quote_opens s r e at = let k = took 34 s r e in rw k (carry_quoted at (inside_at false r).0 (inside_at false r).1)
 
-item_none : (wanted : ℕ) (s : List ℕ) → Free (nat_eq wanted) s → item (nat_eq wanted) s ≡ (None, s)
+pub item_none : (wanted : ℕ) (s : List ℕ) → Free (nat_eq wanted) s → item (nat_eq wanted) s ≡ (None, s)
 item_none wanted [] f = refl
 item_none wanted (b ∷ s) f = rw f refl
 

@@ -1,5 +1,5 @@
 -- What the code finds, as the trees that it stands for.
-use Rattle.std.specs.Prelude.{◌≡◌, ◌⊎◌, ℕ, ◌<◌, ◌&&◌, false, List, [], ◌∷◌, ◌++◌, Option, Some, None, Result, Ok, Err, nat_eq}
+use Rattle.std.specs.Prelude.{◌≡◌, ◌⊎◌, ℕ, ◌<◌, ◌≤◌, ◌&&◌, false, List, [], ◌∷◌, ◌++◌, Option, Some, None, Result, Ok, Err, length, nat_eq}
 use Rattle.std.specs.Global.{Vec}
 use Rattle.reading.specs.Reading.{Read, on_head, item}
 use Rattle.macro_parse.specs.declared.nodes.Node.{Node}
@@ -61,7 +61,7 @@ Prefixes depth s (Some Not) rest = (0 < depth) × (s ≡ 33 ∷ rest)
 -- an expression is found behind the separator, or there is no separator
 abbrev pub Argues : ℕ → ℕ → ℕ → List Node → List Node → Result ℕ Stop → List ℕ → List ℕ → Type 0
 Argues separator depth end old new result s rest =
-    ((t : List ℕ) × (s ≡ separator ∷ t) × Finds (Puts old new) (λ turns. expr_at depth turns (place end t)) result t rest)
+    ((t : List ℕ) × (s ≡ separator ∷ t) × (length rest ≤ length t) × Finds (Puts old new) (λ turns. expr_at depth turns (place end t)) result t rest)
     ⊎ ((result ≡ Err Off) × (item (nat_eq separator) s ≡ (None, rest)))
 
 -- a name is followed by the arguments of its function, or is no call
