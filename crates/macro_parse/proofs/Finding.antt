@@ -93,3 +93,9 @@ stops_blanks Shown read Memory s r h = tt
 pub finds_residual : {V T : Type 0} (Shown : V → T → Type 0) (read : ℕ → Read T) (found : Result V Stop) (stop : Stop) (s r : List ℕ) → IsErrAnd found (λ e. e ≡ stop) → Finds Shown read (Err stop) s r → Finds Shown read found s r
 finds_residual Shown read (Ok v) stop s r e h = absurd e
 finds_residual Shown read (Err other) stop s r e h = rw e h
+
+-- more is known of what was found than is told of it
+pub finds_weaker : {V T : Type 0} (Shown Told : V → T → Type 0) (read : ℕ → Read T) (found : Result V Stop) (s r : List ℕ) → ((v : V) (t : T) → Shown v t → Told v t) → Finds Shown read found s r → Finds Told read found s r
+finds_weaker Shown Told read (Ok v) s r weaker h = (h.0, weaker v h.0 h.1, h.2)
+finds_weaker Shown Told read (Err Off) s r weaker h = h
+finds_weaker Shown Told read (Err Memory) s r weaker h = tt

@@ -24,7 +24,7 @@ use Rattle.macro_parse.specs.Found.{FindsName, Prefixes, Argues, Calls, Closes}
 use Rattle.macro_parse.proofs.FlatTrees.{put_name, put_negated, put_inverted, put_call0, put_call1, put_call2, put_call3}
 use Rattle.macro_parse.proofs.Finding.{finds_kept, finds_as, finds_then, stops_then, finds_blanks, stops_blanks}
 use Rattle.macro_parse.proofs.Scans.{takes_at, took, left, item_none}
-use Rattle.macro_parse.proofs.Options.{same_byte}
+use Rattle.macro_parse.proofs.OptionWords.{same_byte}
 
 -- ---- unaries
 

@@ -56,6 +56,15 @@ pub record Puts (old new : List Node) (i : ℕ) (t : Tree) : Type 0 where
   pub keeps : Keeps old new
   pub fits : NodesFit old → DiceFit t → NodesFit new
 
+abbrev pub IsNoName : Tree → Type 0
+IsNoName (Name at name) = ⊥
+IsNoName t = Unit {0}
+
+-- the same, where the tree is no name
+pub record PutsCall (old new : List Node) (i : ℕ) (t : Tree) : Type 0 where
+  pub puts : Puts old new i t
+  pub no_name : IsNoName t
+
 -- the same, where the tree has x, which stood in the old nodes, as a part
 pub record Grows (x : Tree) (old new : List Node) (i : ℕ) (t : Tree) : Type 0 where
   pub puts : Puts old new i t

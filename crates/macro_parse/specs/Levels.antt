@@ -1,5 +1,5 @@
 -- The levels of an expression, from the weakest.
-use Rattle.std.specs.Prelude.{◌≡◌, ℕ, zero, suc, ◌<◌, Bool, true, false, List, length, Option, Some, None, Result, Ok, Err, nat_eq}
+use Rattle.std.specs.Prelude.{◌≡◌, ℕ, zero, suc, ◌<◌, Bool, true, false, List, [], ◌∷◌, length, Option, Some, None, Result, Ok, Err, nat_eq}
 use Rattle.reading.specs.Reading.{Read, done, on_head}
 use Rattle.reading.specs.Placed.{bind_at, more_at, chain_at}
 use Rattle.macro_parse.specs.declared.nodes.Operator.{Operator}
@@ -12,7 +12,7 @@ use Rattle.macro_parse.specs.declared.reader.Stop.{Stop}
 use Rattle.macro_parse.specs.declared.reader.Stop.TheVariants.{Off, Memory}
 use Rattle.macro_parse.specs.Flat.{Grows, place}
 use Rattle.macro_parse.specs.Tree.{Tree, Binary}
-use Rattle.macro_parse.specs.Readers.{is_product, product_operator_at, is_sum, sum_operator_at, is_compare, compare_operator_at, and_operator_at, or_operator_at, product_at, sum_at, compared_at, conjunction_at, nothing_at, unary_at}
+use Rattle.macro_parse.specs.Readers.{is_product, product_operator_at, is_sum, sum_operator_at, is_compare, compare_operator_at, and_operator_at, or_operator_at, product_at, sum_at, compared_at, conjunction_at, compared_with, then_blanks, word_at, expression_at, after_word, nothing_at, unary_at}
 
 -- the first byte of an operator of the level
 abbrev pub test_of : Level → ℕ → Bool
@@ -71,3 +71,26 @@ abbrev pub IsNext : Level → List ℕ → Next → List ℕ → Type 0
 IsNext level s Nothing rest = (rest ≡ s) × ((p q : Read Tree) → on_head (test_of level) p q s ≡ q s)
 IsNext level s Fails rest = ((at : ℕ) → operator_of level at s ≡ (None, rest)) × ((p q : Read Tree) → on_head (test_of level) p q s ≡ p s)
 IsNext level s (Found o) rest = ((at : ℕ) → operator_of level at s ≡ (Some o, rest)) × ((p q : Read Tree) → on_head (test_of level) p q s ≡ p s) × (length rest < length s)
+
+-- ---- statements
+
+-- the rest of an expression behind its first comparison
+abbrev pub ands_from : (ℕ → Read Tree) → ℕ → ℕ → Tree → Read Tree
+ands_from unary turns at x = bind_at at (λ at2. more_of And unary turns at2 x) (λ at3 y. more_of Or unary turns at3 y)
+
+-- behind its first sum
+abbrev pub compares_from : (ℕ → Read Tree) → ℕ → ℕ → Tree → Read Tree
+compares_from unary turns at x = bind_at at (λ at2. compared_with (sum_at unary turns) turns at2 x) (λ at3 y. ands_from unary turns at3 y)
+
+-- behind its first product
+abbrev pub sums_from : (ℕ → Read Tree) → ℕ → ℕ → Tree → Read Tree
+sums_from unary turns at x = bind_at at (λ at2. more_of Sum unary turns at2 x) (λ at3 y. compares_from unary turns at3 y)
+
+-- a statement that begins with a word
+abbrev pub named_at : ℕ → ℕ → ℕ → Read Tree
+named_at depth turns at = bind_at at (λ at2. then_blanks (word_at (nests depth) (expression_at (nested_at turns depth) turns) at2)) (after_word (unary_at turns depth) turns)
+
+-- the next byte meets the test, or none does
+abbrev pub HeadIs : (ℕ → Bool) → List ℕ → Bool → Type 0
+HeadIs test [] v = v ≡ false
+HeadIs test (b ∷ s) v = test b ≡ v

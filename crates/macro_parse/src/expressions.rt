@@ -8,7 +8,7 @@ ghost use Rattle.reading.specs.Placed.{bind_at};
 ghost use Rattle.macro_parse.specs.Tree.{Tree};
 ghost use Rattle.macro_parse.specs.Grammar.{arity};
 ghost use Rattle.macro_parse.specs.Readers.{sum_at, compared_with, compared_at, number_or_dice_at, quoted_at, arguments_at, word_at, group_at, atom_at, inner_at, expression_at, unary_at, expr_at};
-ghost use Rattle.macro_parse.specs.Flat.{Shows, Puts, Grows, Finds, place};
+ghost use Rattle.macro_parse.specs.Flat.{Shows, Puts, PutsCall, Grows, Finds, place};
 ghost use Rattle.macro_parse.specs.Levels.{operand_of, level_at, more_of, Steps, nests, nested_at};
 ghost use Rattle.macro_parse.specs.Found.{FindsName, Prefixes, Argues, Calls, Closes};
 
@@ -302,7 +302,7 @@ impl Reader<'_> {
     pub(crate) fn arguments(&mut self, depth: u32, at: u32, function: Function) -> Result<usize, Stop>
         requires place { length self.old.cursor.rest.now ≤ self.old.end }
         requires nests { 0 < arity function → 0 < depth }
-        ensures value { Finds (Puts self.old.nodes.items self.new.nodes.items) (λ turns. arguments_at (expression_at (nested_at turns depth) turns) at function (place self.old.end self.old.cursor.rest.now) (arity function)) result self.old.cursor.rest.now self.new.cursor.rest.now }
+        ensures value { Finds (PutsCall self.old.nodes.items self.new.nodes.items) (λ turns. arguments_at (expression_at (nested_at turns depth) turns) at function (place self.old.end self.old.cursor.rest.now) (arity function)) result self.old.cursor.rest.now self.new.cursor.rest.now }
         ensures end { self.new.end ≡ self.old.end }
         ensures shrinks { length self.new.cursor.rest.now ≤ length self.old.cursor.rest.now }
     {

@@ -8,6 +8,7 @@ mod laws;
 mod levels;
 mod nodes;
 mod reader;
+mod statements;
 
 pub use laws::one_reading;
 pub use nodes::{Arguments, Function, Node, Operator};

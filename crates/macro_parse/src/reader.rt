@@ -1,7 +1,9 @@
 //! A macro's text as it is read.
 
-ghost use Rattle.std.specs.Prelude.{◌≡◌, ◌≤◌, IfOk, IfErr, length};
+ghost use Rattle.std.specs.Prelude.{◌≡◌, ◌≤◌, IfOk, IfErr, length, nat_eq};
 ghost use Rattle.macro_parse.specs.Flat.{Kept, place};
+ghost use Rattle.macro_parse.specs.Readers.{is_letter};
+ghost use Rattle.macro_parse.specs.Levels.{HeadIs};
 
 use crate::nodes::Node;
 use reading::Cursor;
@@ -30,6 +32,26 @@ impl Reader<'_> {
         ensures { result ≡ place self.now.end self.now.cursor.rest.now }
     {
         self.end - self.cursor.rest.len() as u32
+    }
+
+    /// Whether the next byte is the wanted one.
+    pub(crate) fn next_is(&self, wanted: u8) -> bool
+        ensures { HeadIs (nat_eq wanted) self.now.cursor.rest.now result }
+    {
+        match self.cursor.rest.split_first() {
+            None => false,
+            Some((first, _)) => *first == wanted,
+        }
+    }
+
+    /// Whether the next byte is a letter from a to z.
+    pub(crate) fn next_is_letter(&self) -> bool
+        ensures { HeadIs is_letter self.now.cursor.rest.now result }
+    {
+        match self.cursor.rest.split_first() {
+            None => false,
+            Some((first, _)) => first.is_ascii_lowercase(),
+        }
     }
 }
 

@@ -1,10 +1,10 @@
 use Rattle.std.proofs.Common.{◌≡◌, ◌≤◌, ◌-◌, ℕ, suc, length, Err, refl, sym, subst, ◌∙◌, arith}
 use Rattle.macro_parse.specs.Grammar.{arity}
 use Rattle.macro_parse.specs.Readers.{unary_at, sum_at, compared_with, number_or_dice_at, quoted_at, group_at, expression_at, expr_at}
-use Rattle.macro_parse.specs.Flat.{Puts, Grows, place}
+use Rattle.macro_parse.specs.Flat.{Puts, PutsCall, Grows, place}
 use Rattle.macro_parse.specs.Levels.{operand_of, more_of, Steps, nests, nested_at}
 use Rattle.macro_parse.proofs.FlatTrees.{grows_itself, grows_grows}
-use Rattle.macro_parse.proofs.Finding.{finds_as, finds_residual, puts_then_grows}
+use Rattle.macro_parse.proofs.Finding.{finds_as, finds_residual, finds_weaker, puts_then_grows}
 use Rattle.macro_parse.proofs.Loops.{so_far_first, so_far_next, so_far_end, so_far_stop}
 use Rattle.macro_parse.proofs.Chains.{step_found, step_stops, step_residual, compare_stops, compare_none, compare_found}
 use Rattle.macro_parse.proofs.Inside.{inner_of, atom_of, word_of, unary_finds, inner_atom, inner_atom_stops, sign_stops, negated_found, inverted_found, atom_digit, atom_quote, atom_group, atom_word, atom_end, no_digit, not_same, no_group, group_closed, group_open, group_stops}
@@ -171,7 +171,8 @@ pub word-returns-clause-value : goal.word-returns-clause-value
 word-returns-clause-value t c =
     let g = rw (c.name.ensures.nodes, c.name.ensures.end, c.at-at.ensures) at c.arguments.ensures.value in
     let some = rw c.as_slice.ensures.value at c.in-Some.ensures in
-    word_calls c.args.depth c.args.self.now.end c.args.self.now.cursor.rest.now c.name.new.self.cursor.rest.now c.requires (Puts c.args.self.now.nodes.items c.arguments.new.self.nodes.items) c.in_ok-name.name c.in-Some.function (place c.args.self.now.end c.args.self.now.cursor.rest.now) c.arguments.result c.arguments.new.self.cursor.rest.now c.name.ensures.shrinks refl c.in_ok-name.ensures.value some g
+    finds_weaker (PutsCall c.args.self.now.nodes.items c.arguments.new.self.nodes.items) (Puts c.args.self.now.nodes.items c.arguments.new.self.nodes.items) (λ turns. word_of c.args.depth turns (place c.args.self.now.end c.args.self.now.cursor.rest.now)) c.arguments.result c.args.self.now.cursor.rest.now c.arguments.new.self.cursor.rest.now (λ i t p. p.puts)
+      (word_calls c.args.depth c.args.self.now.end c.args.self.now.cursor.rest.now c.name.new.self.cursor.rest.now c.requires (PutsCall c.args.self.now.nodes.items c.arguments.new.self.nodes.items) c.in_ok-name.name c.in-Some.function (place c.args.self.now.end c.args.self.now.cursor.rest.now) c.arguments.result c.arguments.new.self.cursor.rest.now c.name.ensures.shrinks refl c.in_ok-name.ensures.value some g)
 
 -- ---- arguments
 
@@ -186,8 +187,8 @@ arguments-returns-then-count-eq0-clause-value t c =
 pub arguments-returns-in_err-first-clause-value : goal.arguments-returns-in_err-first-clause-value
 arguments-returns-in_err-first-clause-value t c =
     let nest : c.args.depth ≡ suc (c.args.depth - 1) = omega (arith, c.arity-count.ensures, c.requires.nests) in
-    finds_residual (Puts c.args.self.now.nodes.items c.argument.new.self.nodes.items) (λ turns. args_of c.args.depth c.args.at c.args.function turns (place c.args.self.now.end c.args.self.now.cursor.rest.now)) c.from_residual.result c.in_err-first.field-0.0 c.args.self.now.cursor.rest.now c.argument.new.self.cursor.rest.now c.from_residual.ensures.1
-      (first_stops c.args.depth c.args.at c.args.function c.args.self.now.end c.args.self.now.cursor.rest.now c.argument.new.self.cursor.rest.now c.args.self.now.nodes.items c.argument.new.self.nodes.items c.requires.place (Puts c.args.self.now.nodes.items c.argument.new.self.nodes.items) (c.args.depth - 1) (arity c.args.function - 1) c.in_err-first.field-0.0 nest (omega (arith, c.arity-count.ensures)) c.in_err-first.ensures.value)
+    finds_residual (PutsCall c.args.self.now.nodes.items c.argument.new.self.nodes.items) (λ turns. args_of c.args.depth c.args.at c.args.function turns (place c.args.self.now.end c.args.self.now.cursor.rest.now)) c.from_residual.result c.in_err-first.field-0.0 c.args.self.now.cursor.rest.now c.argument.new.self.cursor.rest.now c.from_residual.ensures.1
+      (first_stops c.args.depth c.args.at c.args.function c.args.self.now.end c.args.self.now.cursor.rest.now c.argument.new.self.cursor.rest.now c.args.self.now.nodes.items c.argument.new.self.nodes.items c.requires.place (PutsCall c.args.self.now.nodes.items c.argument.new.self.nodes.items) (c.args.depth - 1) (arity c.args.function - 1) c.in_err-first.field-0.0 nest (omega (arith, c.arity-count.ensures)) c.in_err-first.ensures.value)
 
 pub arguments-returns-then-count-eq1-clause-value : goal.arguments-returns-then-count-eq1-clause-value
 arguments-returns-then-count-eq1-clause-value t c =
@@ -197,8 +198,8 @@ arguments-returns-then-count-eq1-clause-value t c =
 pub arguments-returns-in_err-second-clause-value : goal.arguments-returns-in_err-second-clause-value
 arguments-returns-in_err-second-clause-value t c =
     let nest : c.args.depth ≡ suc (c.args.depth - 1) = omega (arith, c.arity-count.ensures, c.requires.nests) in
-    finds_residual (Puts c.args.self.now.nodes.items c.argument-2.new.self.nodes.items) (λ turns. args_of c.args.depth c.args.at c.args.function turns (place c.args.self.now.end c.args.self.now.cursor.rest.now)) c.from_residual-in_err-second.result c.in_err-second.field-0.0 c.args.self.now.cursor.rest.now c.argument-2.new.self.cursor.rest.now c.from_residual-in_err-second.ensures.1
-      (second_stops c.args.depth c.args.at c.args.function c.args.self.now.end c.args.self.now.cursor.rest.now c.argument.new.self.cursor.rest.now c.args.self.now.nodes.items c.argument.new.self.nodes.items c.requires.place (c.args.depth - 1) c.in_ok-first.first nest c.in_ok-first.ensures.value c.argument.new.self.end c.argument.ensures.end (omega (arith, c.requires.place, c.argument.ensures.shrinks)) c.argument-2.new.self.cursor.rest.now c.argument-2.new.self.nodes.items (Puts c.args.self.now.nodes.items c.argument-2.new.self.nodes.items) (arity c.args.function - 2) c.in_err-second.field-0.0 (omega (arith, c.arity-count.ensures)) c.in_err-second.ensures.value)
+    finds_residual (PutsCall c.args.self.now.nodes.items c.argument-2.new.self.nodes.items) (λ turns. args_of c.args.depth c.args.at c.args.function turns (place c.args.self.now.end c.args.self.now.cursor.rest.now)) c.from_residual-in_err-second.result c.in_err-second.field-0.0 c.args.self.now.cursor.rest.now c.argument-2.new.self.cursor.rest.now c.from_residual-in_err-second.ensures.1
+      (second_stops c.args.depth c.args.at c.args.function c.args.self.now.end c.args.self.now.cursor.rest.now c.argument.new.self.cursor.rest.now c.args.self.now.nodes.items c.argument.new.self.nodes.items c.requires.place (c.args.depth - 1) c.in_ok-first.first nest c.in_ok-first.ensures.value c.argument.new.self.end c.argument.ensures.end (omega (arith, c.requires.place, c.argument.ensures.shrinks)) c.argument-2.new.self.cursor.rest.now c.argument-2.new.self.nodes.items (PutsCall c.args.self.now.nodes.items c.argument-2.new.self.nodes.items) (arity c.args.function - 2) c.in_err-second.field-0.0 (omega (arith, c.arity-count.ensures)) c.in_err-second.ensures.value)
 
 pub arguments-returns-then-count-eq2-clause-value : goal.arguments-returns-then-count-eq2-clause-value
 arguments-returns-then-count-eq2-clause-value t c =
@@ -208,8 +209,8 @@ arguments-returns-then-count-eq2-clause-value t c =
 pub arguments-returns-in_err-third-clause-value : goal.arguments-returns-in_err-third-clause-value
 arguments-returns-in_err-third-clause-value t c =
     let nest : c.args.depth ≡ suc (c.args.depth - 1) = omega (arith, c.arity-count.ensures, c.requires.nests) in
-    finds_residual (Puts c.args.self.now.nodes.items c.argument-3.new.self.nodes.items) (λ turns. args_of c.args.depth c.args.at c.args.function turns (place c.args.self.now.end c.args.self.now.cursor.rest.now)) c.from_residual-in_err-third.result c.in_err-third.field-0.0 c.args.self.now.cursor.rest.now c.argument-3.new.self.cursor.rest.now c.from_residual-in_err-third.ensures.1
-      (third_stops c.args.depth c.args.at c.args.function c.args.self.now.end c.args.self.now.cursor.rest.now c.argument.new.self.cursor.rest.now c.args.self.now.nodes.items c.argument.new.self.nodes.items c.requires.place (c.args.depth - 1) c.in_ok-first.first nest c.in_ok-first.ensures.value c.argument.new.self.end c.argument.ensures.end (omega (arith, c.requires.place, c.argument.ensures.shrinks)) c.argument-2.new.self.cursor.rest.now c.argument-2.new.self.nodes.items c.in_ok-second.second c.in_ok-second.ensures.value (arity c.args.function - 3) c.argument-2.new.self.end c.argument-2.ensures.end (omega (arith, c.requires.place, c.argument.ensures.shrinks, c.argument-2.ensures.shrinks)) c.argument-3.new.self.cursor.rest.now c.argument-3.new.self.nodes.items (omega (arith, c.arity-count.ensures)) (Puts c.args.self.now.nodes.items c.argument-3.new.self.nodes.items) c.in_err-third.field-0.0 c.in_err-third.ensures.value)
+    finds_residual (PutsCall c.args.self.now.nodes.items c.argument-3.new.self.nodes.items) (λ turns. args_of c.args.depth c.args.at c.args.function turns (place c.args.self.now.end c.args.self.now.cursor.rest.now)) c.from_residual-in_err-third.result c.in_err-third.field-0.0 c.args.self.now.cursor.rest.now c.argument-3.new.self.cursor.rest.now c.from_residual-in_err-third.ensures.1
+      (third_stops c.args.depth c.args.at c.args.function c.args.self.now.end c.args.self.now.cursor.rest.now c.argument.new.self.cursor.rest.now c.args.self.now.nodes.items c.argument.new.self.nodes.items c.requires.place (c.args.depth - 1) c.in_ok-first.first nest c.in_ok-first.ensures.value c.argument.new.self.end c.argument.ensures.end (omega (arith, c.requires.place, c.argument.ensures.shrinks)) c.argument-2.new.self.cursor.rest.now c.argument-2.new.self.nodes.items c.in_ok-second.second c.in_ok-second.ensures.value (arity c.args.function - 3) c.argument-2.new.self.end c.argument-2.ensures.end (omega (arith, c.requires.place, c.argument.ensures.shrinks, c.argument-2.ensures.shrinks)) c.argument-3.new.self.cursor.rest.now c.argument-3.new.self.nodes.items (omega (arith, c.arity-count.ensures)) (PutsCall c.args.self.now.nodes.items c.argument-3.new.self.nodes.items) c.in_err-third.field-0.0 c.in_err-third.ensures.value)
 
 pub arguments-returns-clause-value : goal.arguments-returns-clause-value
 arguments-returns-clause-value t c =
