@@ -19,3 +19,5 @@ pub mod StatementsAgain
 pub mod OptionWords
 pub mod RollsAgain
 pub mod WholeMacros
+pub mod RollsFound
+pub mod RollsWhole

@@ -11,7 +11,7 @@ use Rattle.macro_parse.specs.declared.reader.Stop.TheVariants.{Off, Memory}
 use Rattle.macro_parse.specs.declared.expressions.Sign.{Sign}
 use Rattle.macro_parse.specs.declared.expressions.Sign.TheVariants.{Minus, Not}
 use Rattle.macro_parse.specs.Grammar.{arity}
-use Rattle.macro_parse.specs.Readers.{inside_at, name_at, function_of, called_at, arguments_at, expr_at}
+use Rattle.macro_parse.specs.Readers.{inside_at, name_at, function_of, called_at, arguments_at, expr_at, bytes_at}
 use Rattle.macro_parse.specs.Flat.{Kept, Puts, Finds, place}
 use Rattle.macro_parse.specs.Levels.{nests}
 use Rattle.macro_parse.specs.declared.atoms.Numeral.{Numeral}
@@ -74,3 +74,15 @@ abbrev pub Closes : ℕ → Function → Arguments → List Node → List Node �
 Closes at f arguments old new (Ok i) s rest = (s ≡ 41 ∷ rest) × Kept old new i (CallNode at f arguments)
 Closes at f arguments old new (Err Off) s rest = item (nat_eq 41) s ≡ (None, rest)
 Closes at f arguments old new (Err Memory) s rest = Unit {0}
+
+-- the wanted byte came next and was taken
+abbrev pub Expects : {U : Type 0} → ℕ → Result U Stop → List ℕ → List ℕ → Type 0
+Expects wanted (Ok u) s rest = s ≡ wanted ∷ rest
+Expects wanted (Err Off) s rest = item (nat_eq wanted) s ≡ (None, rest)
+Expects wanted (Err Memory) s rest = ⊥
+
+-- the bytes of a word came next and were taken
+abbrev pub Spells : {U : Type 0} → List ℕ → Result U Stop → List ℕ → List ℕ → Type 0
+Spells word (Ok u) s rest = bytes_at word s ≡ (Some [], rest)
+Spells word (Err Off) s rest = bytes_at word s ≡ (None, rest)
+Spells word (Err Memory) s rest = ⊥

@@ -8,7 +8,8 @@ mod laws;
 mod levels;
 mod nodes;
 mod reader;
+mod rolls;
 mod statements;
 
 pub use laws::one_reading;
-pub use nodes::{Arguments, Function, Node, Operator};
+pub use nodes::{Address, Arguments, Branch, Function, Node, Operator, Options, Piece};

@@ -4,6 +4,7 @@ ghost use Rattle.std.specs.Prelude.{◌≡◌, ◌≤◌, IfOk, IfErr, length, n
 ghost use Rattle.macro_parse.specs.Flat.{Kept, place};
 ghost use Rattle.macro_parse.specs.Readers.{is_letter};
 ghost use Rattle.macro_parse.specs.Levels.{HeadIs};
+ghost use Rattle.macro_parse.specs.Found.{Expects};
 
 use crate::nodes::Node;
 use reading::Cursor;
@@ -65,4 +66,12 @@ pub(crate) fn keep(nodes: &mut Vec<Node>, node: Node) -> Result<usize, Stop>
         Ok(()) => Ok(place),
         Err(_) => Err(Stop::Memory),
     }
+}
+
+/// Takes the wanted byte, which has to come next.
+pub(crate) fn expect(cursor: &mut Cursor<'_>, wanted: u8) -> Result<(), Stop>
+    ensures value { Expects wanted result cursor.old.rest.now cursor.new.rest.now }
+    ensures shrinks { length cursor.new.rest.now ≤ length cursor.old.rest.now }
+{
+    if cursor.takes(wanted) { Ok(()) } else { Err(Stop::Off) }
 }
