@@ -21,3 +21,4 @@ pub mod RollsAgain
 pub mod WholeMacros
 pub mod RollsFound
 pub mod RollsWhole
+pub mod PiecesFound

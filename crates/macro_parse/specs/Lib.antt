@@ -6,3 +6,4 @@ pub mod Flat
 pub mod Levels
 pub mod Limits
 pub mod FlatPieces
+pub mod Turns

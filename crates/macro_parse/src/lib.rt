@@ -7,6 +7,7 @@ mod functions;
 mod laws;
 mod levels;
 mod nodes;
+mod pieces;
 mod reader;
 mod rolls;
 mod statements;

@@ -1,6 +1,6 @@
 //! A macro's text as it is read.
 
-ghost use Rattle.std.specs.Prelude.{◌≡◌, ◌≤◌, IfOk, IfErr, length, nat_eq};
+ghost use Rattle.std.specs.Prelude.{◌≡◌, ◌≤◌, ◌<◌, IfOk, IfErr, OnOk, length, nat_eq};
 ghost use Rattle.macro_parse.specs.Flat.{Kept, place};
 ghost use Rattle.macro_parse.specs.Readers.{is_letter};
 ghost use Rattle.macro_parse.specs.Levels.{HeadIs};
@@ -71,6 +71,7 @@ pub(crate) fn keep(nodes: &mut Vec<Node>, node: Node) -> Result<usize, Stop>
 /// Takes the wanted byte, which has to come next.
 pub(crate) fn expect(cursor: &mut Cursor<'_>, wanted: u8) -> Result<(), Stop>
     ensures value { Expects wanted result cursor.old.rest.now cursor.new.rest.now }
+    ensures shorter { OnOk result (length cursor.new.rest.now < length cursor.old.rest.now) }
     ensures shrinks { length cursor.new.rest.now ≤ length cursor.old.rest.now }
 {
     if cursor.takes(wanted) { Ok(()) } else { Err(Stop::Off) }

@@ -1,6 +1,6 @@
 //! Rolls: their options, and the statements behind them.
 
-ghost use Rattle.std.specs.Prelude.{◌≡◌, ◌≤◌, ◌<◌, ◌-◌, ℕ, List, [], ◌∷◌, length};
+ghost use Rattle.std.specs.Prelude.{◌≡◌, ◌≤◌, ◌<◌, ◌-◌, ℕ, OnOk, List, [], ◌∷◌, length};
 ghost use Rattle.macro_parse.specs.declared.nodes.Node.{Node};
 ghost use Rattle.macro_parse.specs.Tree.{Tree, Options as TheOptions};
 ghost use Rattle.macro_parse.specs.Grammar.{has_if};
@@ -231,6 +231,7 @@ impl Reader<'_> {
         requires place { length self.old.cursor.rest.now ≤ self.old.end }
         ensures value { Finds (Adds ShowsPiece PieceFits self.old.nodes.items self.new.nodes.items) (λ turns. roll_at (depth - 1) turns (place self.old.end self.old.cursor.rest.now)) result self.old.cursor.rest.now self.new.cursor.rest.now }
         ensures end { self.new.end ≡ self.old.end }
+        ensures shorter { OnOk result (length self.new.cursor.rest.now < length self.old.cursor.rest.now) }
         ensures shrinks { length self.new.cursor.rest.now ≤ length self.old.cursor.rest.now }
     {
         let at = self.at();
