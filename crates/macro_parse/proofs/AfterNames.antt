@@ -42,7 +42,7 @@ equal_found depth end end1 at i left right found s r1 r2 n0 n1 n2 n3 x room shri
     let b = put_binary n0 n1 n2 i at left right Equal x h.0 shown h.1 kept in
     let more = rw same at (g whole b.puts.shows) in
     finds_then (Puts n0 n1) (Grows whole n2 n3) (Grows x n0 n3) (λ turns. sum_at (unary_at turns depth) turns) (λ turns at2 y. ands_from (unary_at turns depth) turns at2 (Binary at Equal x y)) end right found s r1 r2 room shrinks h more
-      (λ w u grown. grows_grows n0 n2 n3 i w x whole u b grown)
+    (λ w u grown. grows_grows n0 n2 n3 i w x whole u b grown)
 
 -- ---- behind a name
 
@@ -72,8 +72,8 @@ module _ (depth end at : ℕ) (v : Vec ℕ) (s : List ℕ) (room : length s ≤ 
       let p = put_name n0 n1 first at v kept in
       let h = rw same at (g (Name at v.items) p.shows) in
       finds_as (Puts n0 n2) (λ turns. expression_from (unary_at turns depth) turns (place end s) (Name at v.items)) (λ turns. after_name (unary_at turns depth) turns at v.items (place end s)) found s s r2 (omega arith)
-        (λ turns. none_is depth turns at (place end s) v.items s k.1)
-        (finds_weaker (Grows (Name at v.items) n1 n2) (Puts n0 n2) (λ turns. expression_from (unary_at turns depth) turns (place end s) (Name at v.items)) found s r2 (λ i t grown. puts_grows n0 n1 n2 first i (Name at v.items) t p grown) h)
+      (λ turns. none_is depth turns at (place end s) v.items s k.1)
+      (finds_weaker (Grows (Name at v.items) n1 n2) (Puts n0 n2) (λ turns. expression_from (unary_at turns depth) turns (place end s) (Name at v.items)) found s r2 (λ i t grown. puts_grows n0 n1 n2 first i (Name at v.items) t p grown) h)
 
   pub after_equal : (first equals : ℕ) (found : Result ℕ Stop) (r1 r2 r3 : List ℕ) (n0 n1 n2 : List Node) → takes_at 61 s ≡ (Some true, r1) → takes_at 61 r1 ≡ (Some true, r2) → equals ≡ place end s → Kept n0 n1 first (NameNode at v)
       → ((x : Tree) → Shows n1 first x → Finds (Grows x n1 n2) (λ turns. equal_from (unary_at turns depth) turns equals (place end r2) x) found r2 r3)
@@ -86,8 +86,8 @@ module _ (depth end at : ℕ) (v : Vec ℕ) (s : List ℕ) (room : length s ≤ 
       let p = put_name n0 n1 first at v kept in
       let h = rw here at (g (Name at v.items) p.shows) in
       finds_as (Puts n0 n2) (λ turns. equal_from (unary_at turns depth) turns (place end s) (place end r2) (Name at v.items)) (λ turns. after_name (unary_at turns depth) turns at v.items (place end s)) found r2 s r3 (omega arith)
-        (λ turns. equal_is depth turns at (place end s) (place end r1) (place end r2) v.items s r1 r2 k1 k2 (omega arith) (omega arith))
-        (finds_weaker (Grows (Name at v.items) n1 n2) (Puts n0 n2) (λ turns. equal_from (unary_at turns depth) turns (place end s) (place end r2) (Name at v.items)) found r2 r3 (λ i t grown. puts_grows n0 n1 n2 first i (Name at v.items) t p grown) h)
+      (λ turns. equal_is depth turns at (place end s) (place end r1) (place end r2) v.items s r1 r2 k1 k2 (omega arith) (omega arith))
+      (finds_weaker (Grows (Name at v.items) n1 n2) (Puts n0 n2) (λ turns. equal_from (unary_at turns depth) turns (place end s) (place end r2) (Name at v.items)) found r2 r3 (λ i t grown. puts_grows n0 n1 n2 first i (Name at v.items) t p grown) h)
 
   module _ (r1 r0 : List ℕ) (e : takes_at 61 s ≡ (Some true, r1)) (f : takes_at 61 r1 ≡ (Some false, r0)) where
     value_is : (turns : ℕ) → after_name (unary_at turns depth) turns at v.items (place end s) s ≡ bind (expression_at (unary_at turns depth) turns (place end r0)) (λ x. done (Assigned at v.items x)) r0
@@ -121,11 +121,11 @@ module _ (depth end at : ℕ) (v : Vec ℕ) (s : List ℕ) (room : length s ≤ 
         → Finds (Puts n0 n2) (λ turns. after_name (unary_at turns depth) turns at v.items (place end s)) found s r2
     value_found value found r2 n0 n1 n2 h k m =
         finds_kept n1 n2 (AssignedNode at v value) (Puts n0 n2) (λ turns. after_name (unary_at turns depth) turns at v.items (place end s)) found s r2 (Assigned at v.items h.0) k m
-          (λ i kept. put_assigned n0 n1 n2 i at value v h.0 h.1 kept)
-          (λ turns lt.
-            let l = length_after in
-            let f2 = h.2 turns (omega (arith, l)) in
-            value_is turns ∙ rw f2 refl)
+        (λ i kept. put_assigned n0 n1 n2 i at value v h.0 h.1 kept)
+        (λ turns lt.
+        let l = length_after in
+        let f2 = h.2 turns (omega (arith, l)) in
+        value_is turns ∙ rw f2 refl)
 
 -- ---- names and calls that begin a statement
 
@@ -147,7 +147,7 @@ module _ (depth end : ℕ) (s r1 : List ℕ) (room : length s ≤ end) where
   pub named_stops : (Shown : ℕ → Tree → Type 0) (stop : Stop) → FindsName (Err stop) s r1 → Finds Shown (λ turns. named_at depth turns (place end s)) (Err stop) s r1
   named_stops Shown stop h =
       stops_then Shown Shown (λ turns at2. then_blanks (word_of depth turns at2)) (λ turns. after_word (unary_at turns depth) turns) (place end s) stop s r1
-        (stops_blanks Shown (λ turns. word_of depth turns (place end s)) stop s r1 (word_stops depth end s r1 room Shown stop h))
+      (stops_blanks Shown (λ turns. word_of depth turns (place end s)) stop s r1 (word_stops depth end s r1 room Shown stop h))
 
   pub named_alone : (Shown : ℕ → Tree → Type 0) (at : ℕ) (v : Vec ℕ) (found : Result ℕ Stop) (r2 r3 : List ℕ) → length r1 ≤ length s → length r2 ≤ length r1 → at ≡ place end s → FindsName (Ok v) s r1 → Calls depth v.items None r1
       → (w : List ℕ) × (blanks_at r1 ≡ (Some w, r2))
@@ -155,10 +155,10 @@ module _ (depth end : ℕ) (s r1 : List ℕ) (room : length s ≤ end) where
   named_alone Shown at v found r2 r3 shrinks shrinks2 here h no_call (w, b) g =
       let g2 = rw here at g in
       finds_as Shown (λ turns. after_name (unary_at turns depth) turns (place end s) v.items (place end r2)) (λ turns. named_at depth turns (place end s)) found r2 s r3 (omega arith)
-        (λ turns.
-          let e = word_is (nests depth) (expression_at (nested_at turns depth) turns) (place end s) (place end r1) s r1 v.items h (omega arith) ∙ no_call (expression_at (nested_at turns depth) turns) (place end s) (place end r1) in
-          let d : place end s + (length s - length r2) ≡ place end r2 = omega arith in
-          rw (e, b, d) refl) g2
+      (λ turns.
+      let e = word_is (nests depth) (expression_at (nested_at turns depth) turns) (place end s) (place end r1) s r1 v.items h (omega arith) ∙ no_call (expression_at (nested_at turns depth) turns) (place end s) (place end r1) in
+      let d : place end s + (length s - length r2) ≡ place end r2 = omega arith in
+      rw (e, b, d) refl) g2
 
   pub named_call_stops : (Shown Told : ℕ → Tree → Type 0) (at end1 : ℕ) (v : Vec ℕ) (f : Function) (stop : Stop) (r2 : List ℕ) → length r1 ≤ length s → at ≡ place end s → end1 ≡ end → FindsName (Ok v) s r1 → Calls depth v.items (Some f) r1
       → ((i : ℕ) (t : Tree) → Shown i t → Told i t)
@@ -168,8 +168,8 @@ module _ (depth end : ℕ) (s r1 : List ℕ) (room : length s ≤ end) where
       let g1 = subst (λ (p : ℕ). Finds Shown (λ turns. arguments_at (expression_at (nested_at turns depth) turns) p f (place end1 r1) (arity f)) (Err stop) r1 r2) here g in
       let g2 = subst (λ (e : ℕ). Finds Shown (λ turns. arguments_at (expression_at (nested_at turns depth) turns) (place end s) f (place e r1) (arity f)) (Err stop) r1 r2) same g1 in
       finds_weaker Shown Told (λ turns. named_at depth turns (place end s)) (Err stop) s r2 weaker
-        (stops_then Shown Shown (λ turns at2. then_blanks (word_of depth turns at2)) (λ turns. after_word (unary_at turns depth) turns) (place end s) stop s r2
-          (stops_blanks Shown (λ turns. word_of depth turns (place end s)) stop s r2 (word_calls depth end s r1 room Shown v f (place end s) (Err stop) r2 shrinks refl h calls g2)))
+      (stops_then Shown Shown (λ turns at2. then_blanks (word_of depth turns at2)) (λ turns. after_word (unary_at turns depth) turns) (place end s) stop s r2
+      (stops_blanks Shown (λ turns. word_of depth turns (place end s)) stop s r2 (word_calls depth end s r1 room Shown v f (place end s) (Err stop) r2 shrinks refl h calls g2)))
 
   pub named_call : (at : ℕ) (v : Vec ℕ) (f : Function) (call : ℕ) (found : Result ℕ Stop) (r2 r3 r4 : List ℕ) (n0 n1 n2 : List Node) → length r1 ≤ length s → length r2 ≤ length r1 → length r3 ≤ length r2 → FindsName (Ok v) s r1 → Calls depth v.items (Some f) r1
       → Finds (PutsCall n0 n1) (λ turns. arguments_at (expression_at (nested_at turns depth) turns) (place end s) f (place end r1) (arity f)) (Ok call) r1 r2
@@ -181,9 +181,9 @@ module _ (depth end : ℕ) (s r1 : List ℕ) (room : length s ≤ end) where
       let first = finds_blanks (PutsCall n0 n1) (λ turns. word_of depth turns (place end s)) call s r2 r3 behind word in
       let rest = more first.0 first.1.puts.shows in
       finds_then (PutsCall n0 n1) (Grows first.0 n1 n2) (Puts n0 n2) (λ turns at2. then_blanks (word_of depth turns at2)) (λ turns. after_word (unary_at turns depth) turns) end call found s r3 r4 room (omega arith) first
-        (finds_as (Grows first.0 n1 n2) (λ turns. expression_from (unary_at turns depth) turns (place end r3) first.0) (λ turns. after_word (unary_at turns depth) turns (place end r3) first.0) found r3 r3 r4 (omega arith)
-          (λ turns. after_call (unary_at turns depth) turns (place end r3) first.0 r3 first.1.no_name) rest)
-        (λ i t grown. puts_grows n0 n1 n2 call i first.0 t first.1.puts grown)
+      (finds_as (Grows first.0 n1 n2) (λ turns. expression_from (unary_at turns depth) turns (place end r3) first.0) (λ turns. after_word (unary_at turns depth) turns (place end r3) first.0) found r3 r3 r4 (omega arith)
+      (λ turns. after_call (unary_at turns depth) turns (place end r3) first.0 r3 first.1.no_name) rest)
+      (λ i t grown. puts_grows n0 n1 n2 call i first.0 t first.1.puts grown)
 
 -- ---- statements
 
@@ -193,15 +193,15 @@ module _ (depth d end : ℕ) (nest : depth ≡ suc d) (s r1 : List ℕ) (room : 
   unfolding statement_at
   statement_named Shown found r2 (w, b) h g =
       finds_as Shown (λ turns. named_at depth turns (place end r1)) (λ turns. statement_at d turns (place end s)) found r1 s r2 shrinks
-        (λ turns.
-          let m : place end s + (length s - length r1) ≡ place end r1 = omega arith in
-          rw (nest, b, m) (head_true is_letter (named_at (suc d) turns (place end r1)) (expr_at (suc d) turns (place end r1)) r1 h)) g
+      (λ turns.
+      let m : place end s + (length s - length r1) ≡ place end r1 = omega arith in
+      rw (nest, b, m) (head_true is_letter (named_at (suc d) turns (place end r1)) (expr_at (suc d) turns (place end r1)) r1 h)) g
 
   pub statement_other : (Shown : ℕ → Tree → Type 0) (found : Result ℕ Stop) (r2 : List ℕ) → (w : List ℕ) × (blanks_at s ≡ (Some w, r1)) → HeadIs is_letter r1 false
       → Finds Shown (λ turns. expr_at depth turns (place end r1)) found r1 r2 → Finds Shown (λ turns. statement_at d turns (place end s)) found s r2
   unfolding statement_at
   statement_other Shown found r2 (w, b) h g =
       finds_as Shown (λ turns. expr_at depth turns (place end r1)) (λ turns. statement_at d turns (place end s)) found r1 s r2 shrinks
-        (λ turns.
-          let m : place end s + (length s - length r1) ≡ place end r1 = omega arith in
-          rw (nest, b, m) (head_false is_letter (named_at (suc d) turns (place end r1)) (expr_at (suc d) turns (place end r1)) r1 h)) g
+      (λ turns.
+      let m : place end s + (length s - length r1) ≡ place end r1 = omega arith in
+      rw (nest, b, m) (head_false is_letter (named_at (suc d) turns (place end r1)) (expr_at (suc d) turns (place end r1)) r1 h)) g

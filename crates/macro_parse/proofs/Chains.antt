@@ -25,12 +25,16 @@ module _ (level : Level) (depth : ℕ) where
   step_found end end1 at i left right o s r1 r2 n0 n1 n2 next room shrinks same here h kept x shown =
       let short = next.2 in
       let d1 : place end s + (length s - length r1) ≡ place end r1 = omega arith in
-      let d2 : place end r1 + (length r1 - length r2) ≡ place end r2 = omega arith in
-      (Binary (place end s) o x h.0, rw here at (put_binary n0 n1 n2 i at left right o x h.0 shown h.1 kept), omega arith, λ turns k lt.
-          let e = h.2 turns (omega arith) in
-          let f = rw same at e in
-          next.1 (bind_at (place end s) (operator_of level) (λ at2 o2. bind_at at2 (operand_of level (unary_at turns depth) turns) (λ at3 y. k at3 (Binary (place end s) o2 x y)))) (done x)
-          ∙ rw (next.0 (place end s), d1, f, d2) refl)
+      let d2 : place end r1 + (length r1 - length r2) ≡ place end r2 = omega arith in (
+        Binary (place end s) o x h.0,
+        rw here at (put_binary n0 n1 n2 i at left right o x h.0 shown h.1 kept),
+        omega arith,
+        λ turns k lt.
+            let e = h.2 turns (omega arith) in
+            let f = rw same at e in
+            next.1 (bind_at (place end s) (operator_of level) (λ at2 o2. bind_at at2 (operand_of level (unary_at turns depth) turns) (λ at3 y. k at3 (Binary (place end s) o2 x y)))) (done x)
+            ∙ rw (next.0 (place end s), d1, f, d2) refl,
+      )
 
   -- an operator was read, and its operand stops
   pub step_stops : (end end1 : ℕ) (stop : Stop) (o : Operator) (s r1 r2 : List ℕ) (n0 n1 n2 : List Node) → IsNext level s (Found o) r1 → length s ≤ end → end1 ≡ end

@@ -44,12 +44,15 @@ pub finds_then : {V W T U : Type 0} (Shown : V → T → Type 0) (Second Whole :
     → length s ≤ end → length r1 ≤ length s → (h : Finds Shown (λ turns. read turns (place end s)) (Ok v) s r1)
     → Finds Second (λ turns. k turns (place end r1) h.0) found r1 r2 → ((w : W) (u : U) → Second w u → Whole w u)
     → Finds Whole (λ turns. bind_at (place end s) (read turns) (k turns)) found s r2
-finds_then Shown Second Whole read k end v (Ok w) s r1 r2 room shrinks h g join =
-    (g.0, join w g.0 g.1, λ turns lt.
-        let d : place end s + (length s - length r1) ≡ place end r1 = omega arith in
-        let e = h.2 turns lt in
-        let f = g.2 turns (omega arith) in
-        rw (e, d) f)
+finds_then Shown Second Whole read k end v (Ok w) s r1 r2 room shrinks h g join = (
+  g.0,
+  join w g.0 g.1,
+  λ turns lt.
+      let d : place end s + (length s - length r1) ≡ place end r1 = omega arith in
+      let e = h.2 turns lt in
+      let f = g.2 turns (omega arith) in
+      rw (e, d) f,
+)
 finds_then Shown Second Whole read k end v (Err Off) s r1 r2 room shrinks h g join = λ turns lt.
     let d : place end s + (length s - length r1) ≡ place end r1 = omega arith in
     let e = h.2 turns lt in

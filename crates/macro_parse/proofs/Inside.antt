@@ -46,7 +46,7 @@ pub unary_finds : (Shown : ℕ → Tree → Type 0) (depth end : ℕ) (found : R
     → Finds Shown (λ turns. inner_of depth turns (place end r1)) found r1 r2 → Finds Shown (λ turns. unary_at turns depth (place end s)) found s r2
 unary_finds Shown depth end found s r1 r2 room shrinks (w, e) h =
     finds_as Shown (λ turns. inner_of depth turns (place end r1)) (λ turns. unary_at turns depth (place end s)) found r1 s r2 shrinks
-      (λ turns. let d : place end s + (length s - length r1) ≡ place end r1 = omega arith in unary_blanks turns depth (place end s) s w r1 e ∙ rw d refl) h
+    (λ turns. let d : place end s + (length s - length r1) ≡ place end r1 = omega arith in unary_blanks turns depth (place end s) s w r1 e ∙ rw d refl) h
 
 inner_passes : (depth at : ℕ) (s r : List ℕ) (unary expr : ℕ → Read Tree) → Prefixes depth s None r → inner_at (nests depth) unary expr at s ≡ then_blanks (atom_at (nests depth) expr at) s
 unfolding inner_at
@@ -59,8 +59,8 @@ module _ (Shown : ℕ → Tree → Type 0) (depth end : ℕ) where
       let e = none.0 in
       let here = rw e at h in
       finds_as Shown (λ turns. then_blanks (atom_of depth turns (place end s))) (λ turns. inner_of depth turns (place end s)) (Ok v) s s r3 (omega arith)
-        (λ turns. inner_passes depth (place end s) s r1 (nested_at turns depth) (expression_at (nested_at turns depth) turns) none)
-        (finds_blanks Shown (λ turns. atom_of depth turns (place end s)) v s r2 r3 behind here)
+      (λ turns. inner_passes depth (place end s) s r1 (nested_at turns depth) (expression_at (nested_at turns depth) turns) none)
+      (finds_blanks Shown (λ turns. atom_of depth turns (place end s)) v s r2 r3 behind here)
 
   pub inner_atom_stops : (stop : Stop) (s r1 r2 : List ℕ) → Prefixes depth s None r1
       → Finds Shown (λ turns. atom_of depth turns (place end r1)) (Err stop) r1 r2 → Finds Shown (λ turns. inner_of depth turns (place end s)) (Err stop) s r2
@@ -68,8 +68,8 @@ module _ (Shown : ℕ → Tree → Type 0) (depth end : ℕ) where
       let e = none.0 in
       let here = rw e at h in
       finds_as Shown (λ turns. then_blanks (atom_of depth turns (place end s))) (λ turns. inner_of depth turns (place end s)) (Err Off) s s r2 (omega arith)
-        (λ turns. inner_passes depth (place end s) s r1 (nested_at turns depth) (expression_at (nested_at turns depth) turns) none)
-        (stops_blanks Shown (λ turns. atom_of depth turns (place end s)) Off s r2 here)
+      (λ turns. inner_passes depth (place end s) s r1 (nested_at turns depth) (expression_at (nested_at turns depth) turns) none)
+      (stops_blanks Shown (λ turns. atom_of depth turns (place end s)) Off s r2 here)
   inner_atom_stops Memory s r1 r2 none h = tt
 
 inner_minus : (turns depth d at1 at2 : ℕ) (s r : List ℕ) → depth ≡ suc d → s ≡ 45 ∷ r → at1 + 1 ≡ at2 → inner_of depth turns at1 s ≡ bind (unary_at turns d at2) (λ u. done (Negated at1 u)) r
@@ -99,22 +99,22 @@ module _ (depth end : ℕ) (s r1 r2 : List ℕ) (room : length s ≤ end) where
       → Finds (Puts n0 n2) (λ turns. inner_of depth turns (place end s)) found s r2
   negated_found n0 n1 n2 at of found (lt, e) here h k m =
       finds_kept n1 n2 (NegatedNode at of) (Puts n0 n2) (λ turns. inner_of depth turns (place end s)) found s r2 (Negated (place end s) h.0) k m
-        (λ i kept. rw here at (put_negated n0 n1 n2 i at of h.0 h.1 kept))
-        (λ turns more.
-          let len : length s ≡ suc (length r1) = rw e refl in
-          let f = h.2 turns (omega arith) in
-          inner_minus turns depth (depth - 1) (place end s) (place end r1) s r1 (omega arith) e (omega arith) ∙ rw f refl)
+      (λ i kept. rw here at (put_negated n0 n1 n2 i at of h.0 h.1 kept))
+      (λ turns more.
+      let len : length s ≡ suc (length r1) = rw e refl in
+      let f = h.2 turns (omega arith) in
+      inner_minus turns depth (depth - 1) (place end s) (place end r1) s r1 (omega arith) e (omega arith) ∙ rw f refl)
 
   pub inverted_found : (n0 n1 n2 : List Node) (at of : ℕ) (found : Result ℕ Stop) → Prefixes depth s (Some Not) r1 → at ≡ place end s
       → Finds (Puts n0 n1) (λ turns. unary_at turns (depth - 1) (place end r1)) (Ok of) r1 r2 → IfOk found (λ i. Kept n1 n2 i (InvertedNode at of)) → IfErr found (λ stop. stop ≡ Memory)
       → Finds (Puts n0 n2) (λ turns. inner_of depth turns (place end s)) found s r2
   inverted_found n0 n1 n2 at of found (lt, e) here h k m =
       finds_kept n1 n2 (InvertedNode at of) (Puts n0 n2) (λ turns. inner_of depth turns (place end s)) found s r2 (Inverted (place end s) h.0) k m
-        (λ i kept. rw here at (put_inverted n0 n1 n2 i at of h.0 h.1 kept))
-        (λ turns more.
-          let len : length s ≡ suc (length r1) = rw e refl in
-          let f = h.2 turns (omega arith) in
-          inner_not turns depth (depth - 1) (place end s) (place end r1) s r1 (omega arith) e (omega arith) ∙ rw f refl)
+      (λ i kept. rw here at (put_inverted n0 n1 n2 i at of h.0 h.1 kept))
+      (λ turns more.
+      let len : length s ≡ suc (length r1) = rw e refl in
+      let f = h.2 turns (omega arith) in
+      inner_not turns depth (depth - 1) (place end s) (place end r1) s r1 (omega arith) e (omega arith) ∙ rw f refl)
 
 -- ---- atoms
 
@@ -166,16 +166,16 @@ module _ {W U : Type 0} (Whole : W → U → Type 0) (k : ℕ → ℕ → Tree �
   argument_finds i found r2 (inl (t, e, shrinks, h)) g =
       let len : length s ≡ suc (length t) = rw e refl in
       finds_as Whole (λ turns. bind_at (place end t) (expr_at depth turns) (k turns)) (λ turns. argument_at (expr_at depth turns) separator (place end s) (k turns)) found t s r2 (omega arith)
-        (λ turns. argument_is (expr_at depth turns) separator (place end s) (place end t) s t (k turns) e (omega arith))
-        (finds_then (Puts n0 n1) Whole Whole (λ turns. expr_at depth turns) k end i found t r1 r2 (omega arith) shrinks h (g h.0 h.1) (λ w u z. z))
+      (λ turns. argument_is (expr_at depth turns) separator (place end s) (place end t) s t (k turns) e (omega arith))
+      (finds_then (Puts n0 n1) Whole Whole (λ turns. expr_at depth turns) k end i found t r1 r2 (omega arith) shrinks h (g h.0 h.1) (λ w u z. z))
   argument_finds i found r2 (inr (bad, e)) g = absurd cc
 
   pub argument_stops : (stop : Stop) → Argues separator depth end n0 n1 (Err stop) s r1 → Finds Whole (λ turns. argument_at (expr_at depth turns) separator (place end s) (k turns)) (Err stop) s r1
   argument_stops stop (inl (t, e, shrinks, h)) =
       let len : length s ≡ suc (length t) = rw e refl in
       finds_as Whole (λ turns. bind_at (place end t) (expr_at depth turns) (k turns)) (λ turns. argument_at (expr_at depth turns) separator (place end s) (k turns)) (Err stop) t s r1 (omega arith)
-        (λ turns. argument_is (expr_at depth turns) separator (place end s) (place end t) s t (k turns) e (omega arith))
-        (stops_then (Puts n0 n1) Whole (λ turns. expr_at depth turns) k (place end t) stop t r1 h)
+      (λ turns. argument_is (expr_at depth turns) separator (place end s) (place end t) s t (k turns) e (omega arith))
+      (stops_then (Puts n0 n1) Whole (λ turns. expr_at depth turns) k (place end t) stop t r1 h)
   argument_stops Off (inr (bad, e)) = λ turns lt. argument_none (expr_at depth turns) separator (place end s) s r1 (k turns) e
   argument_stops Memory (inr (bad, e)) = tt
 

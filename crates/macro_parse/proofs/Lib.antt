@@ -22,3 +22,4 @@ pub mod WholeMacros
 pub mod RollsFound
 pub mod RollsWhole
 pub mod PiecesFound
+pub mod MacrosFound

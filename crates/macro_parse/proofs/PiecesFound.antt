@@ -146,11 +146,14 @@ module _ (d end at : ℕ) (v : Vec ℕ) (s r : List ℕ) (ps0 ps1 : List FlatPie
     pub plain_then_roll : {U : Type 0} (u : U) → RollGives {U = U} d end ps1 ps2 n0 n1 (Ok u) r r2 → TurnGives d end ps0 ps2 n0 n1 (Ok true) s r2
     plain_then_roll u (t, (more, e, adds), told) =
         let a = Plain (place end s) v.items in
-        let joined = adds_join n0 n0 n1 (FlatPlain at v ∷ []) more (a ∷ []) (t ∷ []) (adds_one n0 n0 (FlatPlain at v) a plain_adds) adds in
-        (a ∷ (t ∷ []), (FlatPlain at v ∷ more, rw (e, put) (append_assoc ps0 (FlatPlain at v ∷ []) more), joined), λ turns n lt.
-          let k = told turns (omega arith) in
-          let m : place end r + (length r - length r2) ≡ place end r2 = omega arith in
-          turn_is turns n ∙ (roll_not_end d turns (place end r) r (a ∷ []) (with_both d turns n a) g ∙ rw (k, m) (carry_two a t (pieces_at d turns n (place end r2) r2).0 (pieces_at d turns n (place end r2) r2).1)))
+        let joined = adds_join n0 n0 n1 (FlatPlain at v ∷ []) more (a ∷ []) (t ∷ []) (adds_one n0 n0 (FlatPlain at v) a plain_adds) adds in (
+          a ∷ (t ∷ []),
+          (FlatPlain at v ∷ more, rw (e, put) (append_assoc ps0 (FlatPlain at v ∷ []) more), joined),
+          λ turns n lt.
+              let k = told turns (omega arith) in
+              let m : place end r + (length r - length r2) ≡ place end r2 = omega arith in
+              turn_is turns n ∙ (roll_not_end d turns (place end r) r (a ∷ []) (with_both d turns n a) g ∙ rw (k, m) (carry_two a t (pieces_at d turns n (place end r2) r2).0 (pieces_at d turns n (place end r2) r2).1)),
+        )
 
     pub plain_then_stops : (stop : Stop) → RollGives {U = Unit {0}} d end ps1 ps2 n0 n1 (Err stop) r r2 → TurnGives d end ps0 ps2 n0 n1 (Err stop) s r2
     plain_then_stops Off told = λ turns n lt.

@@ -86,11 +86,14 @@ master_is d turns at (b ∷ t) f = rw f refl
 pub master_found : (d end at b : ℕ) (s t r : List ℕ) (n0 : List Node) → s ≡ b ∷ t → at ≡ place end s → b ≡ 103 → takes_at 115 t ≡ (Some false, r) → Finds (Adds ShowsAddress AddressFits n0 n0) (λ turns. address_word_at d turns (place end s)) (Ok (FlatMaster at)) s r
 master_found d end at b s t r n0 e here same h =
     let k = left 115 t r h in
-    let rest = k.0 in
-    (Master (place end s), still ShowsAddress AddressFits n0 (FlatMaster at) (Master (place end s)) (rw here refl), λ turns lt.
-      let m = master_is d turns (place end s) t k.1 in
-      let whole : s ≡ 103 ∷ t = rw same at e in
-      rw rest (subst (λ (w : List ℕ). address_word_at d turns (place end s) w ≡ (Some (Master (place end s)), t)) (sym whole) m))
+    let rest = k.0 in (
+      Master (place end s),
+      still ShowsAddress AddressFits n0 (FlatMaster at) (Master (place end s)) (rw here refl),
+      λ turns lt.
+          let m = master_is d turns (place end s) t k.1 in
+          let whole : s ≡ 103 ∷ t = rw same at e in
+          rw rest (subst (λ (w : List ℕ). address_word_at d turns (place end s) w ≡ (Some (Master (place end s)), t)) (sym whole) m),
+    )
 
 whisper_is : (d turns at1 at2 b : ℕ) (s t : List ℕ) → s ≡ b ∷ t → b ≡ 119 → at1 + 1 ≡ at2 → address_word_at d turns at1 s ≡ bracketed_at d turns (Whisper at1) at2 t
 unfolding address_word_at
@@ -99,11 +102,14 @@ whisper_is d turns at1 at2 b s t e same p = let m : at1 + (length (119 ∷ t) - 
 module _ (depth d end b : ℕ) (s t r : List ℕ) (n0 n1 : List Node) (nest : depth ≡ suc d) (room : length s ≤ end) (e : s ≡ b ∷ t) (w : b ≡ 119) where
   pub whisper_found : (at seat : ℕ) → at ≡ place end s → Finds (Puts n0 n1) (λ turns. group_at (expr_at depth turns) (place end t)) (Ok seat) t r
       → Finds (Adds ShowsAddress AddressFits n0 n1) (λ turns. address_word_at d turns (place end s)) (Ok (FlatWhisper at seat)) s r
-  whisper_found at seat here h =
-      (Whisper (place end s) h.0, record { shows = (seat, rw here refl, h.1.shows); keeps = h.1.keeps; fits = h.1.fits }, λ turns lt.
+  whisper_found at seat here h = (
+    Whisper (place end s) h.0,
+    record { shows = (seat, rw here refl, h.1.shows); keeps = h.1.keeps; fits = h.1.fits },
+    λ turns lt.
         let len : length s ≡ suc (length t) = rw e refl in
         let g = rw nest at (h.2 turns (omega arith)) in
-        whisper_is d turns (place end s) (place end t) b s t e w (omega arith) ∙ bracket_maps (Whisper (place end s)) (expr_at (suc d) turns) (place end t) t r (Some h.0) g)
+        whisper_is d turns (place end s) (place end t) b s t e w (omega arith) ∙ bracket_maps (Whisper (place end s)) (expr_at (suc d) turns) (place end t) t r (Some h.0) g,
+  )
 
   pub whisper_stops : (Shown : FlatAddress → Address → Type 0) (stop : Stop) → Finds (Puts n0 n1) (λ turns. group_at (expr_at depth turns) (place end t)) (Err stop) t r → Finds Shown (λ turns. address_word_at d turns (place end s)) (Err stop) s r
   whisper_stops Shown Off h = λ turns lt.
@@ -168,17 +174,23 @@ module _ (d end : ℕ) (s r1 : List ℕ) (Shown : FlatBranch → Branch → Type
 module _ (depth d end : ℕ) (s t r : List ℕ) (n0 n1 : List Node) (nest : depth ≡ suc d) (room : length s ≤ end) (shrinks : length t ≤ length s) where
   pub if_found : (at j : ℕ) → at ≡ place end s → HeadIs (nat_eq 105) s true → bytes_at if_bytes s ≡ (Some [], t) → Finds (Puts n0 n1) (λ turns. group_at (expr_at depth turns) (place end t)) (Ok j) t r
       → Finds (Adds ShowsBranch BranchFits n0 n1) (λ turns. branch_word_at d turns (place end s)) (Ok (FlatIf at j)) s r
-  if_found at j here head e h =
-      (If (place end s) h.0, record { shows = (j, rw here refl, h.1.shows); keeps = h.1.keeps; fits = h.1.fits }, λ turns lt.
+  if_found at j here head e h = (
+    If (place end s) h.0,
+    record { shows = (j, rw here refl, h.1.shows); keeps = h.1.keeps; fits = h.1.fits },
+    λ turns lt.
         let g = rw nest at (h.2 turns (omega arith)) in
-        if_is d turns (place end s) (place end t) s t head e (omega arith) ∙ bracket_maps (If (place end s)) (expr_at (suc d) turns) (place end t) t r (Some h.0) g)
+        if_is d turns (place end s) (place end t) s t head e (omega arith) ∙ bracket_maps (If (place end s)) (expr_at (suc d) turns) (place end t) t r (Some h.0) g,
+  )
 
   pub count_found : (at j : ℕ) → at ≡ place end s → HeadIs (nat_eq 105) s false → bytes_at count_bytes s ≡ (Some [], t) → Finds (Puts n0 n1) (λ turns. group_at (expr_at depth turns) (place end t)) (Ok j) t r
       → Finds (Adds ShowsBranch BranchFits n0 n1) (λ turns. branch_word_at d turns (place end s)) (Ok (FlatCount at j)) s r
-  count_found at j here head e h =
-      (Count (place end s) h.0, record { shows = (j, rw here refl, h.1.shows); keeps = h.1.keeps; fits = h.1.fits }, λ turns lt.
+  count_found at j here head e h = (
+    Count (place end s) h.0,
+    record { shows = (j, rw here refl, h.1.shows); keeps = h.1.keeps; fits = h.1.fits },
+    λ turns lt.
         let g = rw nest at (h.2 turns (omega arith)) in
-        count_is d turns (place end s) (place end t) s t head e (omega arith) ∙ bracket_maps (Count (place end s)) (expr_at (suc d) turns) (place end t) t r (Some h.0) g)
+        count_is d turns (place end s) (place end t) s t head e (omega arith) ∙ bracket_maps (Count (place end s)) (expr_at (suc d) turns) (place end t) t r (Some h.0) g,
+  )
 
   module _ (Shown : FlatBranch → Branch → Type 0) where
     pub if_stops : (stop : Stop) → HeadIs (nat_eq 105) s true → bytes_at if_bytes s ≡ (Some [], t) → Finds (Puts n0 n1) (λ turns. group_at (expr_at depth turns) (place end t)) (Err stop) t r → Finds Shown (λ turns. branch_word_at d turns (place end s)) (Err stop) s r
@@ -197,16 +209,22 @@ module _ (depth d end : ℕ) (s t r : List ℕ) (n0 n1 : List Node) (nest : dept
 
 module _ (d at : ℕ) (s r : List ℕ) (n0 n1 : List Node) where
   pub first_branch : (b : FlatBranch) → HeadIs is_branch_letter s true → Finds (Adds ShowsBranch BranchFits n0 n1) (λ turns. branch_word_at d turns at) (Ok b) s r → Finds (Adds ShowsFirst FirstFits n0 n1) (λ turns. first_word_at d turns at) (Ok (FirstOnWhat b)) s r
-  first_branch b head h =
-      (OnWhat h.0, record { shows = (b, refl, h.1.shows); keeps = h.1.keeps; fits = h.1.fits }, λ turns lt.
+  first_branch b head h = (
+    OnWhat h.0,
+    record { shows = (b, refl, h.1.shows); keeps = h.1.keeps; fits = h.1.fits },
+    λ turns lt.
         let e = h.2 turns lt in
-        head_true is_branch_letter (bind (branch_word_at d turns at) (λ y. done (OnWhat y))) (bind (address_word_at d turns at) (λ x. done (ForWhom x))) s head ∙ rw e refl)
+        head_true is_branch_letter (bind (branch_word_at d turns at) (λ y. done (OnWhat y))) (bind (address_word_at d turns at) (λ x. done (ForWhom x))) s head ∙ rw e refl,
+  )
 
   pub first_address : (a : FlatAddress) → HeadIs is_branch_letter s false → Finds (Adds ShowsAddress AddressFits n0 n1) (λ turns. address_word_at d turns at) (Ok a) s r → Finds (Adds ShowsFirst FirstFits n0 n1) (λ turns. first_word_at d turns at) (Ok (FirstForWhom a)) s r
-  first_address a head h =
-      (ForWhom h.0, record { shows = (a, refl, h.1.shows); keeps = h.1.keeps; fits = h.1.fits }, λ turns lt.
+  first_address a head h = (
+    ForWhom h.0,
+    record { shows = (a, refl, h.1.shows); keeps = h.1.keeps; fits = h.1.fits },
+    λ turns lt.
         let e = h.2 turns lt in
-        head_false is_branch_letter (bind (branch_word_at d turns at) (λ y. done (OnWhat y))) (bind (address_word_at d turns at) (λ x. done (ForWhom x))) s head ∙ rw e refl)
+        head_false is_branch_letter (bind (branch_word_at d turns at) (λ y. done (OnWhat y))) (bind (address_word_at d turns at) (λ x. done (ForWhom x))) s head ∙ rw e refl,
+  )
 
   pub first_branch_stops : (Shown : First → FirstOption → Type 0) (stop : Stop) → HeadIs is_branch_letter s true → Finds (Adds ShowsBranch BranchFits n0 n1) (λ turns. branch_word_at d turns at) (Err stop) s r → Finds Shown (λ turns. first_word_at d turns at) (Err stop) s r
   first_branch_stops Shown Off head h = λ turns lt.
@@ -224,13 +242,16 @@ module _ (d at : ℕ) (s r : List ℕ) (n0 n1 : List Node) where
 
 module _ {V T : Type 0} (Shown : V → T → Type 0) (word : ℕ → ℕ → Read T) (end : ℕ) (s r1 r2 : List ℕ) (room : length s ≤ end) (shrinks : length r1 ≤ length s) (before : (w : List ℕ) × (blanks_at s ≡ (Some w, r1))) where
   pub between_found : (v : V) (r3 : List ℕ) → (w : List ℕ) × (blanks_at r2 ≡ (Some w, r3)) → Finds Shown (λ turns. word turns (place end r1)) (Ok v) r1 r2 → Finds Shown (λ turns. between_at (word turns) (place end s)) (Ok v) s r3
-  between_found v r3 behind h =
-      (h.0, h.1, λ turns lt.
+  between_found v r3 behind h = (
+    h.0,
+    h.1,
+    λ turns lt.
         let b1 = before.1 in
         let b2 = behind.1 in
         let m : place end s + (length s - length r1) ≡ place end r1 = omega arith in
         let e = h.2 turns (omega arith) in
-        rw (b1, m, e, b2) refl)
+        rw (b1, m, e, b2) refl,
+  )
 
   pub between_stops : (stop : Stop) → Finds Shown (λ turns. word turns (place end r1)) (Err stop) r1 r2 → Finds Shown (λ turns. between_at (word turns) (place end s)) (Err stop) s r2
   between_stops Off h = λ turns lt.

@@ -57,7 +57,7 @@ module _ {W U : Type 0} (Whole : W → U → Type 0) (k : ℕ → ℕ → Read U
       let len : length s ≡ suc (length r1) = rw e refl in
       let m : place end s + (length (byte ∷ r1) - length r1) ≡ place end r1 = omega arith in
       finds_as Whole (λ turns. k turns (place end r1)) (λ turns. bind_at (place end s) (λ _. item (nat_eq byte)) (λ at2 _. k turns at2)) found r1 s r2 (omega arith)
-        (λ turns. subst (λ (w : List ℕ). bind_at (place end s) (λ _. item (nat_eq byte)) (λ at2 _. k turns at2) w ≡ k turns (place end r1) r1) (sym e) (rw (q, m) refl)) h
+      (λ turns. subst (λ (w : List ℕ). bind_at (place end s) (λ _. item (nat_eq byte)) (λ at2 _. k turns at2) w ≡ k turns (place end r1) r1) (sym e) (rw (q, m) refl)) h
 
   pub stops_item : (stop : Stop) → Expects {U = Unit {0}} byte (Err stop) s r1 → Finds Whole (λ turns. bind_at (place end s) (λ _. item (nat_eq byte)) (λ at2 _. k turns at2)) (Err stop) s r1
   stops_item Off e = λ turns lt. rw e refl
@@ -87,9 +87,12 @@ module _ (d end : ℕ) (s r1 : List ℕ) (n0 n1 : List Node) (room : length s �
       let k = left 44 r1 r0 e in
       let rest = k.0 in
       let own = p.shows in
-      let same : own.0 ≡ a = cc in
-      (Addressed x, record { shows = (own.0, rw same refl, own.2); keeps = p.keeps; fits = p.fits }, λ turns lt.
-        rw rest (options_is (ForWhom x) turns (h turns lt) ∙ head_free (nat_eq 44) (bind_at (place end r1) (λ _. item (nat_eq 44)) (λ at2 _. second_option d turns (ForWhom x) at2)) (Addressed x) r1 k.1))
+      let same : own.0 ≡ a = cc in (
+        Addressed x,
+        record { shows = (own.0, rw same refl, own.2); keeps = p.keeps; fits = p.fits },
+        λ turns lt.
+            rw rest (options_is (ForWhom x) turns (h turns lt) ∙ head_free (nat_eq 44) (bind_at (place end r1) (λ _. item (nat_eq 44)) (λ at2 _. second_option d turns (ForWhom x) at2)) (Addressed x) r1 k.1),
+      )
   address_alone_by r0 a (OnWhat y) p h e = let own = p.shows in let bad = own.1 in absurd cc
 
   branch_alone_by : (r0 : List ℕ) (b : FlatBranch) (x : FirstOption) → Adds ShowsFirst FirstFits n0 n1 (FirstOnWhat b) x → ((turns : ℕ) → length s < turns → first_of_options d turns (place end s) s ≡ (Some x, r1)) → takes_at 44 r1 ≡ (Some false, r0)
@@ -98,9 +101,12 @@ module _ (d end : ℕ) (s r1 : List ℕ) (n0 n1 : List Node) (room : length s �
       let k = left 44 r1 r0 e in
       let rest = k.0 in
       let own = p.shows in
-      let same : own.0 ≡ b = cc in
-      (Branched y, record { shows = (own.0, rw same refl, own.2); keeps = p.keeps; fits = p.fits }, λ turns lt.
-        rw rest (options_is (OnWhat y) turns (h turns lt) ∙ head_free (nat_eq 44) (bind_at (place end r1) (λ _. item (nat_eq 44)) (λ at2 _. second_option d turns (OnWhat y) at2)) (Branched y) r1 k.1))
+      let same : own.0 ≡ b = cc in (
+        Branched y,
+        record { shows = (own.0, rw same refl, own.2); keeps = p.keeps; fits = p.fits },
+        λ turns lt.
+            rw rest (options_is (OnWhat y) turns (h turns lt) ∙ head_free (nat_eq 44) (bind_at (place end r1) (λ _. item (nat_eq 44)) (λ at2 _. second_option d turns (OnWhat y) at2)) (Branched y) r1 k.1),
+      )
   branch_alone_by r0 b (ForWhom x) p h e = let own = p.shows in let bad = own.1 in absurd cc
 
   pub address_alone : (r0 : List ℕ) (a : FlatAddress) → Finds (Adds ShowsFirst FirstFits n0 n1) (λ turns. first_of_options d turns (place end s)) (Ok (FirstForWhom a)) s r1 → takes_at 44 r1 ≡ (Some false, r0)
@@ -129,22 +135,28 @@ module _ (d end : ℕ) (s r1 : List ℕ) (n0 n1 : List Node) (room : length s �
         → Finds (Adds ShowsBranch BranchFits n1 n2) (λ turns. between_at (branch_word_at d turns) (place end r2)) (Ok b) r2 r3 → Finds (Adds ShowsOptions OptionsFit n0 n2) (λ turns. options_at d turns (place end s)) (Ok (FlatAddressFirst a b)) s r3
     address_then_by a b (ForWhom x) p h g =
         let own = p.shows in
-        let same : own.0 ≡ a = cc in
-        (AddressFirst x g.0, record { shows = (own.0, b, rw same refl, address_kept n1 n2 own.0 x g.1.keeps own.2, g.1.shows); keeps = keeps_then n0 n1 n2 p.keeps g.1.keeps; fits = λ f u. g.1.fits (p.fits f u.0) u.1 }, λ turns lt.
-          let short = shorter in
-          let e = g.2 turns (omega (arith, short)) in
-          second_is (ForWhom x) turns (h turns lt) ∙ rw e refl)
+        let same : own.0 ≡ a = cc in (
+          AddressFirst x g.0,
+          record { shows = (own.0, b, rw same refl, address_kept n1 n2 own.0 x g.1.keeps own.2, g.1.shows); keeps = keeps_then n0 n1 n2 p.keeps g.1.keeps; fits = λ f u. g.1.fits (p.fits f u.0) u.1 },
+          λ turns lt.
+              let short = shorter in
+              let e = g.2 turns (omega (arith, short)) in
+              second_is (ForWhom x) turns (h turns lt) ∙ rw e refl,
+        )
     address_then_by a b (OnWhat y) p h g = let own = p.shows in let bad = own.1 in absurd cc
 
     branch_then_by : (b : FlatBranch) (a : FlatAddress) (x : FirstOption) → Adds ShowsFirst FirstFits n0 n1 (FirstOnWhat b) x → ((turns : ℕ) → length s < turns → first_of_options d turns (place end s) s ≡ (Some x, r1))
         → Finds (Adds ShowsAddress AddressFits n1 n2) (λ turns. between_at (address_word_at d turns) (place end r2)) (Ok a) r2 r3 → Finds (Adds ShowsOptions OptionsFit n0 n2) (λ turns. options_at d turns (place end s)) (Ok (FlatBranchFirst b a)) s r3
     branch_then_by b a (OnWhat y) p h g =
         let own = p.shows in
-        let same : own.0 ≡ b = cc in
-        (BranchFirst y g.0, record { shows = (own.0, a, rw same refl, branch_kept n1 n2 own.0 y g.1.keeps own.2, g.1.shows); keeps = keeps_then n0 n1 n2 p.keeps g.1.keeps; fits = λ f u. g.1.fits (p.fits f u.0) u.1 }, λ turns lt.
-          let short = shorter in
-          let e = g.2 turns (omega (arith, short)) in
-          second_is (OnWhat y) turns (h turns lt) ∙ rw e refl)
+        let same : own.0 ≡ b = cc in (
+          BranchFirst y g.0,
+          record { shows = (own.0, a, rw same refl, branch_kept n1 n2 own.0 y g.1.keeps own.2, g.1.shows); keeps = keeps_then n0 n1 n2 p.keeps g.1.keeps; fits = λ f u. g.1.fits (p.fits f u.0) u.1 },
+          λ turns lt.
+              let short = shorter in
+              let e = g.2 turns (omega (arith, short)) in
+              second_is (OnWhat y) turns (h turns lt) ∙ rw e refl,
+        )
     branch_then_by b a (ForWhom x) p h g = let own = p.shows in let bad = own.1 in absurd cc
 
     pub address_then : (a : FlatAddress) (b : FlatBranch) → Finds (Adds ShowsFirst FirstFits n0 n1) (λ turns. first_of_options d turns (place end s)) (Ok (FirstForWhom a)) s r1
@@ -185,10 +197,13 @@ module _ (d end : ℕ) (s r1 : List ℕ) (n0 n1 : List Node) (room : length s �
 
 module _ (d end at first : ℕ) (q : FlatOptions) (o : Options) (x : Tree) (s : List ℕ) (n0 : List Node) (room : length s ≤ end) (own : ShowsOptions n0 q o) (shown : Shows n0 first x) where
   pub end_none : (r : List ℕ) → s ≡ 93 ∷ r → Finds (AddsRoll o x n0 n0) (λ turns. roll_end d turns at o (place end s) x) (Ok (FlatRoll at q first None)) s r
-  end_none r e =
-      (Roll at o x None, record { adds = record { shows = (q, first, refl, own, shown); keeps = keeps_itself n0; fits = λ f u. f }; parts = λ u. u }, λ turns lt.
+  end_none r e = (
+    Roll at o x None,
+    record { adds = record { shows = (q, first, refl, own, shown); keeps = keeps_itself n0; fits = λ f u. f }; parts = λ u. u },
+    λ turns lt.
         let no_second = and_false (has_if o) in
-        subst (λ (w : List ℕ). roll_end d turns at o (place end s) x w ≡ (Some (Roll at o x None), r)) (sym e) (rw no_second refl))
+        subst (λ (w : List ℕ). roll_end d turns at o (place end s) x w ≡ (Some (Roll at o x None), r)) (sym e) (rw no_second refl),
+  )
 
   module _ (second : ℕ) (r1 r2 r3 : List ℕ) (n1 : List Node) (may : has_if o ≡ true) (e : s ≡ 59 ∷ r1) (shrinks : length r2 ≤ length r1)
       (h : Finds (Puts n0 n1) (λ turns. statement_at d turns (place end r1)) (Ok second) r1 r2) where
@@ -200,11 +215,14 @@ module _ (d end at first : ℕ) (q : FlatOptions) (o : Options) (x : Tree) (s : 
         subst (λ (w : List ℕ). roll_end d turns at o (place end s) x w ≡ letter_at 93 (Roll at o x (Some h.0)) r2) (sym e) (rw (may, m1, f) refl)
 
     pub end_some : r2 ≡ 93 ∷ r3 → Finds (AddsRoll o x n0 n1) (λ turns. roll_end d turns at o (place end s) x) (Ok (FlatRoll at q first (Some second))) s r3
-    end_some g =
-        (Roll at o x (Some h.0), record {
-          adds = record { shows = (q, first, second, refl, options_kept n0 n1 q o h.1.keeps own, shows_kept n0 n1 first x h.1.keeps shown, h.1.shows); keeps = h.1.keeps; fits = λ f u. h.1.fits f u.2 };
-          parts = λ u. (u.0, u.1);
-        }, λ turns lt. some_is turns lt ∙ rw g refl)
+    end_some g = (
+      Roll at o x (Some h.0),
+      record {
+        adds = record { shows = (q, first, second, refl, options_kept n0 n1 q o h.1.keeps own, shows_kept n0 n1 first x h.1.keeps shown, h.1.shows); keeps = h.1.keeps; fits = λ f u. h.1.fits f u.2 };
+        parts = λ u. (u.0, u.1);
+      },
+      λ turns lt. some_is turns lt ∙ rw g refl,
+    )
 
     pub end_open : (Shown : FlatPiece → Piece → Type 0) (stop : Stop) → Expects {U = Unit {0}} 93 (Err stop) r2 r3 → Finds Shown (λ turns. roll_end d turns at o (place end s) x) (Err stop) s r3
     end_open Shown Off g = λ turns lt. some_is turns lt ∙ rw g refl
@@ -235,7 +253,7 @@ module _ (d end at : ℕ) (r1 r2 : List ℕ) (n0 n1 : List Node) (room : length 
     pub colon_stops : (Whole : FlatPiece → Piece → Type 0) (stop : Stop) (r3 : List ℕ) → Expects {U = Unit {0}} 58 (Err stop) r2 r3 → Finds Whole (λ turns. inside_roll d at turns (place end r1)) (Err stop) r1 r3
     colon_stops Whole stop r3 e =
         finds_then (Adds ShowsOptions OptionsFit n0 n1) Whole Whole (λ turns. options_at d turns) (λ turns. after_options d at turns) end q (Err stop) r1 r2 r3 room shrinks h
-          (stops_item Whole (λ turns at4. bind_at at4 (statement_at d turns) (roll_end d turns at h.0)) 58 end r2 r3 (omega arith) stop e) (λ w u z. z)
+        (stops_item Whole (λ turns at4. bind_at at4 (statement_at d turns) (roll_end d turns at h.0)) 58 end r2 r3 (omega arith) stop e) (λ w u z. z)
 
     module _ (r3 r4 : List ℕ) (n2 : List Node) (colon : r2 ≡ 58 ∷ r3) (shrinks2 : length r4 ≤ length r3) where
       room3 : length r3 ≤ end
@@ -244,8 +262,8 @@ module _ (d end at : ℕ) (r1 r2 : List ℕ) (n0 n1 : List Node) (room : length 
       pub statement_stops : (Whole : FlatPiece → Piece → Type 0) (stop : Stop) → Finds (Puts n1 n2) (λ turns. statement_at d turns (place end r3)) (Err stop) r3 r4 → Finds Whole (λ turns. inside_roll d at turns (place end r1)) (Err stop) r1 r4
       statement_stops Whole stop g =
           finds_then (Adds ShowsOptions OptionsFit n0 n1) Whole Whole (λ turns. options_at d turns) (λ turns. after_options d at turns) end q (Err stop) r1 r2 r4 room shrinks h
-            (finds_item Whole (λ turns at4. bind_at at4 (statement_at d turns) (roll_end d turns at h.0)) 58 end r2 r3 (omega arith) (Err stop) r4 colon
-              (stops_then (Puts n1 n2) Whole (λ turns. statement_at d turns) (λ turns. roll_end d turns at h.0) (place end r3) stop r3 r4 g)) (λ w u z. z)
+          (finds_item Whole (λ turns at4. bind_at at4 (statement_at d turns) (roll_end d turns at h.0)) 58 end r2 r3 (omega arith) (Err stop) r4 colon
+          (stops_then (Puts n1 n2) Whole (λ turns. statement_at d turns) (λ turns. roll_end d turns at h.0) (place end r3) stop r3 r4 g)) (λ w u z. z)
 
       pub roll_found : (first : ℕ) (found : Result FlatPiece Stop) (r5 : List ℕ) (n3 : List Node) → Finds (Puts n1 n2) (λ turns. statement_at d turns (place end r3)) (Ok first) r3 r4
           → ((o : Options) (x : Tree) → ShowsOptions n2 q o → Shows n2 first x → Finds (AddsRoll o x n2 n3) (λ turns. roll_end d turns at o (place end r4) x) found r4 r5)
@@ -255,10 +273,10 @@ module _ (d end at : ℕ) (r1 r2 : List ℕ) (n0 n1 : List Node) (room : length 
           let more = last h.0 g.0 own g.1.shows in
           let room4 = room3 in
           finds_then (Adds ShowsOptions OptionsFit n0 n1) (AddsRoll h.0 g.0 n2 n3) (Adds ShowsPiece PieceFits n0 n3) (λ turns. options_at d turns) (λ turns. after_options d at turns) end q found r1 r2 r5 room shrinks h
-            (finds_item (AddsRoll h.0 g.0 n2 n3) (λ turns at4. bind_at at4 (statement_at d turns) (roll_end d turns at h.0)) 58 end r2 r3 (omega arith) found r5 colon
-              (finds_then (Puts n1 n2) (AddsRoll h.0 g.0 n2 n3) (AddsRoll h.0 g.0 n2 n3) (λ turns. statement_at d turns) (λ turns. roll_end d turns at h.0) end first found r3 r4 r5 (omega (arith, room4)) shrinks2 g more (λ w u z. z)))
-            (λ w u a. record {
-              shows = a.adds.shows;
-              keeps = keeps_then n0 n2 n3 (keeps_then n0 n1 n2 h.1.keeps g.1.keeps) a.adds.keeps;
-              fits = λ f z. let p = a.parts z in a.adds.fits (g.1.fits (h.1.fits f p.0) p.1) z;
-            })
+          (finds_item (AddsRoll h.0 g.0 n2 n3) (λ turns at4. bind_at at4 (statement_at d turns) (roll_end d turns at h.0)) 58 end r2 r3 (omega arith) found r5 colon
+          (finds_then (Puts n1 n2) (AddsRoll h.0 g.0 n2 n3) (AddsRoll h.0 g.0 n2 n3) (λ turns. statement_at d turns) (λ turns. roll_end d turns at h.0) end first found r3 r4 r5 (omega (arith, room4)) shrinks2 g more (λ w u z. z)))
+          (λ w u a. record {
+            shows = a.adds.shows;
+            keeps = keeps_then n0 n2 n3 (keeps_then n0 n1 n2 h.1.keeps g.1.keeps) a.adds.keeps;
+            fits = λ f z. let p = a.parts z in a.adds.fits (g.1.fits (h.1.fits f p.0) p.1) z;
+          })

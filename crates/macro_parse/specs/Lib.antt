@@ -7,3 +7,4 @@ pub mod Levels
 pub mod Limits
 pub mod FlatPieces
 pub mod Turns
+pub mod Faults

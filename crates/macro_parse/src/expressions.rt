@@ -137,7 +137,15 @@ impl Reader<'_> {
             Next::Found(operator) => operator,
         };
         let right = self.operand(level, depth)?;
-        let whole = keep(&mut self.nodes, Node::Binary { at, operator, left, right })?;
+        let whole = keep(
+            &mut self.nodes,
+            Node::Binary {
+                at,
+                operator,
+                left,
+                right,
+            },
+        )?;
         Ok(Some(whole))
     }
 
@@ -299,7 +307,12 @@ impl Reader<'_> {
 
     /// The arguments of a function between their parentheses.
     #[cycle(chain)]
-    pub(crate) fn arguments(&mut self, depth: u32, at: u32, function: Function) -> Result<usize, Stop>
+    pub(crate) fn arguments(
+        &mut self,
+        depth: u32,
+        at: u32,
+        function: Function,
+    ) -> Result<usize, Stop>
         requires place { length self.old.cursor.rest.now ≤ self.old.end }
         requires nests { 0 < arity function → 0 < depth }
         ensures value { Finds (PutsCall self.old.nodes.items self.new.nodes.items) (λ turns. arguments_at (expression_at (nested_at turns depth) turns) at function (place self.old.end self.old.cursor.rest.now) (arity function)) result self.old.cursor.rest.now self.new.cursor.rest.now }
@@ -334,6 +347,13 @@ impl Reader<'_> {
         if !self.cursor.takes(b')') {
             return Err(Stop::Off);
         }
-        keep(&mut self.nodes, Node::Call { at, function, arguments })
+        keep(
+            &mut self.nodes,
+            Node::Call {
+                at,
+                function,
+                arguments,
+            },
+        )
     }
 }

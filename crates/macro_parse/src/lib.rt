@@ -11,6 +11,11 @@ mod pieces;
 mod reader;
 mod rolls;
 mod statements;
+mod texts;
 
 pub use laws::one_reading;
 pub use nodes::{Address, Arguments, Branch, Function, Node, Operator, Options, Piece};
+pub use texts::{Macro, MacroParseFault, read_macro};
+
+#[cfg(test)]
+mod tests;

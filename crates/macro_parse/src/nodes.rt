@@ -132,7 +132,10 @@ pub enum Options {
 #[derive(Debug, Drop)]
 pub enum Piece {
     /// Plain text with its escapes undone, as long as no roll comes.
-    Plain { at: u32, text: Vec<u8> },
+    Plain {
+        at: u32,
+        text: Vec<u8>,
+    },
     /// A roll: its options, the node of its statement, and that of the second one where there is one.
     Roll {
         at: u32,

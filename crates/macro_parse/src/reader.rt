@@ -74,5 +74,9 @@ pub(crate) fn expect(cursor: &mut Cursor<'_>, wanted: u8) -> Result<(), Stop>
     ensures shorter { OnOk result (length cursor.new.rest.now < length cursor.old.rest.now) }
     ensures shrinks { length cursor.new.rest.now ≤ length cursor.old.rest.now }
 {
-    if cursor.takes(wanted) { Ok(()) } else { Err(Stop::Off) }
+    if cursor.takes(wanted) {
+        Ok(())
+    } else {
+        Err(Stop::Off)
+    }
 }

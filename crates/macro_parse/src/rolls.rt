@@ -207,7 +207,13 @@ impl Reader<'_> {
     }
 
     /// What stands behind a roll's first statement.
-    fn roll_end(&mut self, depth: u32, at: u32, options: Options, first: usize) -> Result<Piece, Stop>
+    fn roll_end(
+        &mut self,
+        depth: u32,
+        at: u32,
+        options: Options,
+        first: usize,
+    ) -> Result<Piece, Stop>
         requires nests { 0 < depth }
         requires place { length self.old.cursor.rest.now ≤ self.old.end }
         ensures value { (o : TheOptions) (x : Tree) → ShowsOptions self.old.nodes.items options o → Shows self.old.nodes.items first x
@@ -219,10 +225,20 @@ impl Reader<'_> {
             expect(&mut self.cursor, b';')?;
             let second = self.statement(depth)?;
             expect(&mut self.cursor, b']')?;
-            return Ok(Piece::Roll { at, options, first, second: Some(second) });
+            return Ok(Piece::Roll {
+                at,
+                options,
+                first,
+                second: Some(second),
+            });
         }
         expect(&mut self.cursor, b']')?;
-        Ok(Piece::Roll { at, options, first, second: None })
+        Ok(Piece::Roll {
+            at,
+            options,
+            first,
+            second: None,
+        })
     }
 
     /// A roll in which so many may nest.

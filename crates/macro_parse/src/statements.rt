@@ -73,7 +73,15 @@ impl Reader<'_> {
     {
         let right = self.chain(Level::Sum, depth)?;
         let operator = Operator::Equal;
-        let whole = keep(&mut self.nodes, Node::Binary { at, operator, left, right })?;
+        let whole = keep(
+            &mut self.nodes,
+            Node::Binary {
+                at,
+                operator,
+                left,
+                right,
+            },
+        )?;
         self.ands_from(depth, whole)
     }
 

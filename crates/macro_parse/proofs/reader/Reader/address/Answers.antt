@@ -34,7 +34,7 @@ returns-else-takes-clause-value c =
 pub returns-in_err-seat-in-119-clause-value : goal.returns-in_err-seat-in-119-clause-value
 returns-in_err-seat-in-119-clause-value c =
     finds_residual (Adds ShowsAddress AddressFits c.args.self.now.nodes.items c.group.new.self.nodes.items) (λ turns. address_word_at (c.args.depth - 1) turns (place c.args.self.now.end c.args.self.now.cursor.rest.now)) c.from_residual.result c.in_err-seat-in-119.field-0.0 c.args.self.now.cursor.rest.now c.group.new.self.cursor.rest.now c.from_residual.ensures.1
-      (whisper_stops c.args.depth (c.args.depth - 1) c.args.self.now.end c.in-Some.first.now c.args.self.now.cursor.rest.now c.in-Some.rest.now c.group.new.self.cursor.rest.now c.args.self.now.nodes.items c.group.new.self.nodes.items (omega (arith, c.requires.nests)) c.requires.place c.in-Some.ensures.cases.0 c.in-119.is (Adds ShowsAddress AddressFits c.args.self.now.nodes.items c.group.new.self.nodes.items) c.in_err-seat-in-119.field-0.0 c.in_err-seat-in-119.ensures.value)
+    (whisper_stops c.args.depth (c.args.depth - 1) c.args.self.now.end c.in-Some.first.now c.args.self.now.cursor.rest.now c.in-Some.rest.now c.group.new.self.cursor.rest.now c.args.self.now.nodes.items c.group.new.self.nodes.items (omega (arith, c.requires.nests)) c.requires.place c.in-Some.ensures.cases.0 c.in-119.is (Adds ShowsAddress AddressFits c.args.self.now.nodes.items c.group.new.self.nodes.items) c.in_err-seat-in-119.field-0.0 c.in_err-seat-in-119.ensures.value)
 
 pub returns-in_ok-seat-in-119-clause-value : goal.returns-in_ok-seat-in-119-clause-value
 returns-in_ok-seat-in-119-clause-value c =

@@ -16,7 +16,7 @@ returns-then-takes-clause-value c =
 pub returns-in_err-value-clause-value : goal.returns-in_err-value-clause-value
 returns-in_err-value-clause-value c =
     finds_residual (Puts c.args.self.now.nodes.items c.chain.new.self.nodes.items) (λ turns. after_name (unary_at turns c.args.depth) turns c.args.at c.args.name.items (place c.args.self.now.end c.args.self.now.cursor.rest.now)) c.from_residual-in_err-value.result c.in_err-value.field-0.0 c.args.self.now.cursor.rest.now c.chain.new.self.cursor.rest.now c.from_residual-in_err-value.ensures.1
-      (value_stops c.args.depth c.args.self.now.end c.args.at c.args.name c.args.self.now.cursor.rest.now c.requires c.takes.new.self.rest.now c.takes-2.new.self.rest.now c.if-not-takes.ensures.value c.if-takes.ensures.value (Puts c.args.self.now.nodes.items c.chain.new.self.nodes.items) c.in_err-value.field-0.0 c.chain.new.self.cursor.rest.now c.args.self.now.nodes.items c.chain.new.self.nodes.items c.in_err-value.ensures.value)
+    (value_stops c.args.depth c.args.self.now.end c.args.at c.args.name c.args.self.now.cursor.rest.now c.requires c.takes.new.self.rest.now c.takes-2.new.self.rest.now c.if-not-takes.ensures.value c.if-takes.ensures.value (Puts c.args.self.now.nodes.items c.chain.new.self.nodes.items) c.in_err-value.field-0.0 c.chain.new.self.cursor.rest.now c.args.self.now.nodes.items c.chain.new.self.nodes.items c.in_err-value.ensures.value)
 
 pub returns-clause-value : goal.returns-clause-value
 returns-clause-value c =

@@ -27,7 +27,7 @@ returns-in-Some-Number-clause-value c =
     let n = c.in-Some-Number.value in
     let e = rw c.in-Some-Number.field-0-is at (c.in-Some-Number.ensures (place c.args.self.now.end c.args.self.now.cursor.rest.now)) in
     finds_kept old new (NumberNode at n) (Puts old new) (λ _. number_or_dice_at (place c.args.self.now.end c.args.self.now.cursor.rest.now)) c.keep.result c.args.self.now.cursor.rest.now c.number_or_dice.new.cursor.rest.now (Number at n)
-        c.keep.ensures.kept c.keep.ensures.memory (λ i k. put_number old new i at n k) (λ turns lt. rw c.at-at.ensures e)
+    c.keep.ensures.kept c.keep.ensures.memory (λ i k. put_number old new i at n k) (λ turns lt. rw c.at-at.ensures e)
 
 pub returns-in-Some-Dice-clause-value : goal.returns-in-Some-Dice-clause-value
 returns-in-Some-Dice-clause-value c =
@@ -37,4 +37,4 @@ returns-in-Some-Dice-clause-value c =
     let g = c.in-Some-Dice.group in
     let e = rw c.in-Some-Dice.field-0-is at (c.in-Some-Dice.ensures (place c.args.self.now.end c.args.self.now.cursor.rest.now)) in
     finds_kept old new (DiceNode at g) (Puts old new) (λ _. number_or_dice_at (place c.args.self.now.end c.args.self.now.cursor.rest.now)) c.keep-in-Some-Dice.result c.args.self.now.cursor.rest.now c.number_or_dice.new.cursor.rest.now (Dice at g)
-        c.keep-in-Some-Dice.ensures.kept c.keep-in-Some-Dice.ensures.memory (λ i k. put_dice old new i at g k) (λ turns lt. rw c.at-at.ensures e)
+    c.keep-in-Some-Dice.ensures.kept c.keep-in-Some-Dice.ensures.memory (λ i k. put_dice old new i at g k) (λ turns lt. rw c.at-at.ensures e)

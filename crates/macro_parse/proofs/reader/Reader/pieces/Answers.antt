@@ -13,7 +13,7 @@ returns-in_err-turn-clause-value c =
     let i = c.loop-pieces.invariant.told in
     let g = subst (λ (e : ℕ). TurnGives (c.args.depth - 1) e c.loop-pieces.pieces.items c.turn.new.pieces.items c.loop-pieces.self.nodes.items c.turn.new.self.nodes.items (Err c.in_err-turn.field-0.0) c.loop-pieces.self.cursor.rest.now c.turn.new.self.cursor.rest.now) c.loop-pieces.invariant.end c.in_err-turn.ensures.value in
     pieces_residual (c.args.depth - 1) c.args.self.now.end c.args.self.now.nodes.items c.turn.new.self.nodes.items c.from_residual.result c.in_err-turn.field-0.0 c.args.self.now.cursor.rest.now c.turn.new.self.cursor.rest.now c.from_residual.ensures.1
-      (turns_stop (c.args.depth - 1) c.args.self.now.end c.args.self.now.cursor.rest.now c.loop-pieces.self.cursor.rest.now c.turn.new.self.cursor.rest.now i.0 c.loop-pieces.pieces.items c.turn.new.pieces.items c.args.self.now.nodes.items c.loop-pieces.self.nodes.items c.turn.new.self.nodes.items c.in_err-turn.field-0.0 i.2 g)
+    (turns_stop (c.args.depth - 1) c.args.self.now.end c.args.self.now.cursor.rest.now c.loop-pieces.self.cursor.rest.now c.turn.new.self.cursor.rest.now i.0 c.loop-pieces.pieces.items c.turn.new.pieces.items c.args.self.now.nodes.items c.loop-pieces.self.nodes.items c.turn.new.self.nodes.items c.in_err-turn.field-0.0 i.2 g)
 
 pub loop-pieces-preserved : goal.loop-pieces-preserved
 loop-pieces-preserved c =

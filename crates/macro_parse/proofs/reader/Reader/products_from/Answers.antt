@@ -9,4 +9,4 @@ pub returns-clause-value : goal.returns-clause-value
 returns-clause-value c =
     λ x shown.
     grows_then_grows (λ turns. λ at. more_of Product (unary_at turns c.args.depth) turns at x) (λ turns. sums_from (unary_at turns c.args.depth) turns) c.args.self.now.end c.more.new.self.end c.in_ok-product.product c.sums_from.result c.args.self.now.cursor.rest.now c.more.new.self.cursor.rest.now c.sums_from.new.self.cursor.rest.now c.args.self.now.nodes.items c.more.new.self.nodes.items c.sums_from.new.self.nodes.items x
-        c.requires c.more.ensures.shrinks c.more.ensures.end (c.in_ok-product.ensures.value x shown) c.sums_from.ensures.value
+    c.requires c.more.ensures.shrinks c.more.ensures.end (c.in_ok-product.ensures.value x shown) c.sums_from.ensures.value

@@ -15,4 +15,4 @@ returns-clause-value c =
     let v = c.in-Some.text in
     let e = rw c.in-Some.is at c.in-Ok.ensures.value (place c.args.self.now.end c.args.self.now.cursor.rest.now) in
     finds_kept old new (QuotedNode at v) (Puts old new) (λ _. quoted_at (place c.args.self.now.end c.args.self.now.cursor.rest.now)) c.keep.result c.args.self.now.cursor.rest.now c.quoted.new.cursor.rest.now (Quoted at v.items)
-        c.keep.ensures.kept c.keep.ensures.memory (λ i k. put_quoted old new i at v k) (λ turns lt. rw c.at-at.ensures e)
+    c.keep.ensures.kept c.keep.ensures.memory (λ i k. put_quoted old new i at v k) (λ turns lt. rw c.at-at.ensures e)
