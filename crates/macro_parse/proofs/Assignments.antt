@@ -15,7 +15,7 @@ use Rattle.macro_parse.proofs.Names.{TheBlanks, reads_blanks}
 use Rattle.macro_parse.proofs.LevelWords.{some_sum, reads_expression, some_expression}
 use Rattle.macro_parse.proofs.Calls.{ThenAt, reads_then_at, IsWord, reads_word}
 use Rattle.macro_parse.proofs.Unaries.{WithBlanks, reads_then_blanks, reads_unary, some_unary, reads_expr, some_expr}
-use Rattle.macro_parse.proofs.Statements.{AndsFrom, SumFrom, ProductFrom, UnaryFrom, EqualFrom, ands_end, unary_end, reads_expression_from, reads_equal_from, place_front, unary_join, first_unary}
+use Rattle.macro_parse.proofs.FirstUnary.{AndsFrom, SumFrom, ProductFrom, UnaryFrom, EqualFrom, ands_end, unary_end, reads_expression_from, reads_equal_from, place_front, unary_join, first_unary}
 
 module _ (unary : ℕ → Read Tree) (Unary : Grammar Tree) (reads_one : (at : ℕ) (s : List ℕ) → Reads (unary at) (Unary at) s) (some_one : Inhabited Unary) (turns : ℕ) where
   -- behind "=": the right side of an assignment, or another "=" and the rest of a comparison

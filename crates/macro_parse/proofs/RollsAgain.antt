@@ -13,7 +13,7 @@ use Rattle.macro_parse.proofs.Names.{blanks_back}
 use Rattle.macro_parse.proofs.Unaries.{blanks_free, and_false}
 use Rattle.macro_parse.proofs.LevelWords.{is_expression}
 use Rattle.macro_parse.proofs.StatementsAgain.{statement_again, head_pass}
-use Rattle.macro_parse.proofs.Options.{item_then_again, bracket_again, bytes_again, FirstWord}
+use Rattle.macro_parse.proofs.OptionWords.{item_then_again, bracket_again, bytes_again, FirstWord}
 
 module _ (depth turns : ℕ) where
   address_again : (at : ℕ) (a r : List ℕ) (x : Address) → IsAddressWord (suc depth) at a x → Free (nat_eq 115) r → length a < turns → address_word_at depth turns at (a ++ r) ≡ (Some x, r)

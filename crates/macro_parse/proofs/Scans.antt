@@ -85,7 +85,7 @@ nine_digits_small s r n e le =
 
 -- ---- names
 
-carry_front : (b : ℕ) (o : Option (List ℕ)) (r : List ℕ) → carry (λ bs. done (b ∷ bs)) o r ≡ with_bytes (b ∷ []) (got o r)
+pub carry_front : (b : ℕ) (o : Option (List ℕ)) (r : List ℕ) → carry (λ bs. done (b ∷ bs)) o r ≡ with_bytes (b ∷ []) (got o r)
 carry_front b None r = refl
 carry_front b (Some x) r = refl
 
@@ -120,7 +120,7 @@ many_stop test zero [] r e = let rest = (same_pair {A = ℕ} None None [] r e).1
 many_stop test (suc most) [] r e = let rest = (same_pair {A = ℕ} None None [] r e).1 in rw rest refl
 many_stop test most (c ∷ s) r e = many_stop_by test most c s r (test c) refl e
 
-front_twice : (xs ys : List ℕ) (o : Option (List ℕ)) → in_front xs (in_front ys o) ≡ in_front (xs ++ ys) o
+pub front_twice : (xs ys : List ℕ) (o : Option (List ℕ)) → in_front xs (in_front ys o) ≡ in_front (xs ++ ys) o
 front_twice xs ys None = refl
 front_twice xs ys (Some zs) = ap Some (sym (append_assoc xs ys zs))
 
@@ -161,7 +161,7 @@ pub quote_opens : (s r : List ℕ) → takes_at 34 s ≡ (Some true, r) → Insi
 unfolding quoted_at
 quote_opens s r e at = let k = took 34 s r e in rw k (carry_quoted at (inside_at false r).0 (inside_at false r).1)
 
-item_none : (wanted : ℕ) (s : List ℕ) → Free (nat_eq wanted) s → item (nat_eq wanted) s ≡ (None, s)
+pub item_none : (wanted : ℕ) (s : List ℕ) → Free (nat_eq wanted) s → item (nat_eq wanted) s ≡ (None, s)
 item_none wanted [] f = refl
 item_none wanted (b ∷ s) f = rw f refl
 

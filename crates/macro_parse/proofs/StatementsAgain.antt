@@ -18,7 +18,7 @@ use Rattle.macro_parse.proofs.Operators.{product_begins, sum_begins, and_begins,
 use Rattle.macro_parse.proofs.LevelWords.{sum_again, is_inner, is_term, is_side, is_conjunct, is_expression, free_left, free_right}
 use Rattle.macro_parse.proofs.Calls.{name_again, call_again}
 use Rattle.macro_parse.proofs.Unaries.{unary_again, unary_no_equals, expr_again, start_no_blank, blanks_free, name_start, number_start, WithBlanks, call_start}
-use Rattle.macro_parse.proofs.Statements.{OrsFrom, AndsFrom, SumFrom, ProductFrom, UnaryFrom, EqualFrom, place_front, unary_join, first_unary, unary_from_again, unary_from_free, steps_free, ands_again, sums_free}
+use Rattle.macro_parse.proofs.FirstUnary.{OrsFrom, AndsFrom, SumFrom, ProductFrom, UnaryFrom, EqualFrom, place_front, unary_join, first_unary, unary_from_again, unary_from_free, steps_free, ands_again, sums_free}
 
 pub head_pass : {A : Type 0} (test : ℕ → Bool) (p q : Read A) (s : List ℕ) → Free test s → on_head test p q s ≡ q s
 head_pass test p q [] h = refl

@@ -4,3 +4,7 @@ pub mod Readers
 pub mod Found
 pub mod Flat
 pub mod Levels
+pub mod Limits
+pub mod FlatPieces
+pub mod Turns
+pub mod Faults

@@ -41,7 +41,8 @@ pub(crate) fn number_or_dice(cursor: &mut Cursor<'_>) -> Option<Numeral>
 
 /// Takes the next byte, if it is a letter from a to z.
 fn letter(cursor: &mut Cursor<'_>) -> Option<u8>
-    ensures { item is_letter cursor.old.rest.now ≡ (result, cursor.new.rest.now) }
+    ensures value { item is_letter cursor.old.rest.now ≡ (result, cursor.new.rest.now) }
+    ensures shrinks { length cursor.new.rest.now ≤ length cursor.old.rest.now }
 {
     let (first, rest) = cursor.rest.split_first()?;
     if !first.is_ascii_lowercase() {
@@ -53,7 +54,8 @@ fn letter(cursor: &mut Cursor<'_>) -> Option<u8>
 
 /// Takes the next byte, if it may stand in a name.
 fn name_byte(cursor: &mut Cursor<'_>) -> Option<u8>
-    ensures { item is_name_byte cursor.old.rest.now ≡ (result, cursor.new.rest.now) }
+    ensures value { item is_name_byte cursor.old.rest.now ≡ (result, cursor.new.rest.now) }
+    ensures shrinks { length cursor.new.rest.now ≤ length cursor.old.rest.now }
 {
     let (first, rest) = cursor.rest.split_first()?;
     if !(first.is_ascii_lowercase() || first.is_ascii_digit() || *first == b'_') {
@@ -65,7 +67,8 @@ fn name_byte(cursor: &mut Cursor<'_>) -> Option<u8>
 
 /// The name that comes next, of at most 24 bytes.
 pub(crate) fn name(alloc: Global, cursor: &mut Cursor<'_>) -> Result<Option<Vec<u8>>, AllocError>
-    ensures { IfOk result (λ found. name_at cursor.old.rest.now ≡ (bytes_of found, cursor.new.rest.now)) }
+    ensures value { IfOk result (λ found. name_at cursor.old.rest.now ≡ (bytes_of found, cursor.new.rest.now)) }
+    ensures shrinks { length cursor.new.rest.now ≤ length cursor.old.rest.now }
 {
     let Some(first) = letter(cursor) else {
         return Ok(None);
@@ -85,6 +88,7 @@ pub(crate) fn name(alloc: Global, cursor: &mut Cursor<'_>) -> Result<Option<Vec<
 fn quoted_byte(cursor: &mut Cursor<'_>) -> Option<Option<u8>>
     ensures step { InsideStep cursor.old.rest.now result cursor.new.rest.now }
     ensures shorter { IfSome result (λ _. length cursor.new.rest.now < length cursor.old.rest.now) }
+    ensures shrinks { length cursor.new.rest.now ≤ length cursor.old.rest.now }
 {
     let (first, rest) = cursor.rest.split_first()?;
     if *first == b'"' {
@@ -106,7 +110,8 @@ fn quoted_byte(cursor: &mut Cursor<'_>) -> Option<Option<u8>>
 
 /// The quoted text that comes next, with its escapes undone.
 pub(crate) fn quoted(alloc: Global, cursor: &mut Cursor<'_>) -> Result<Option<Vec<u8>>, AllocError>
-    ensures { IfOk result (λ found. (at : ℕ) → quoted_at at cursor.old.rest.now ≡ (quoted_tree at found, cursor.new.rest.now)) }
+    ensures value { IfOk result (λ found. (at : ℕ) → quoted_at at cursor.old.rest.now ≡ (quoted_tree at found, cursor.new.rest.now)) }
+    ensures shrinks { length cursor.new.rest.now ≤ length cursor.old.rest.now }
 {
     if !cursor.takes(b'"') {
         return Ok(None);

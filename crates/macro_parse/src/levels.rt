@@ -6,16 +6,17 @@ ghost use Rattle.macro_parse.specs.Levels.{IsNext};
 use crate::nodes::Operator;
 use reading::Cursor;
 
-/// A level of an expression that is a chain of operators.
+/// A level of an expression: what stands between operators of one strength. All but `Compare` are chains.
 #[derive(Clone, Copy, Debug, PartialEq, Eq)]
 pub(crate) enum Level {
     Or,
     And,
+    Compare,
     Sum,
     Product,
 }
 
-/// What comes next in a chain.
+/// What comes next behind an operand.
 #[derive(Clone, Copy, Debug, PartialEq, Eq)]
 pub(crate) enum Next {
     /// No operator of the level.
@@ -27,7 +28,8 @@ pub(crate) enum Next {
 }
 
 fn or_operator(cursor: &mut Cursor<'_>) -> Next
-    ensures { IsNext Level.Or cursor.old.rest.now result cursor.new.rest.now }
+    ensures value { IsNext Level.Or cursor.old.rest.now result cursor.new.rest.now }
+    ensures shrinks { length cursor.new.rest.now ≤ length cursor.old.rest.now }
 {
     if !cursor.takes(b'|') {
         return Next::Nothing;
@@ -39,7 +41,8 @@ fn or_operator(cursor: &mut Cursor<'_>) -> Next
 }
 
 fn and_operator(cursor: &mut Cursor<'_>) -> Next
-    ensures { IsNext Level.And cursor.old.rest.now result cursor.new.rest.now }
+    ensures value { IsNext Level.And cursor.old.rest.now result cursor.new.rest.now }
+    ensures shrinks { length cursor.new.rest.now ≤ length cursor.old.rest.now }
 {
     if !cursor.takes(b'&') {
         return Next::Nothing;
@@ -50,8 +53,38 @@ fn and_operator(cursor: &mut Cursor<'_>) -> Next
     Next::Found(Operator::And)
 }
 
+/// The longer of two operators is read, so `<=` is no `<`.
+#[tactic(auto, unfolding(crate::specs::Readers::compare_operator_at))]
+fn compare_operator(cursor: &mut Cursor<'_>) -> Next
+    ensures value { IsNext Level.Compare cursor.old.rest.now result cursor.new.rest.now }
+    ensures shrinks { length cursor.new.rest.now ≤ length cursor.old.rest.now }
+{
+    let Some((first, rest)) = cursor.rest.split_first() else {
+        return Next::Nothing;
+    };
+    let first = *first;
+    if first != b'=' && first != b'!' && first != b'<' && first != b'>' {
+        return Next::Nothing;
+    }
+    cursor.rest = rest;
+    if cursor.takes(b'=') {
+        return Next::Found(match first {
+            b'=' => Operator::Equal,
+            b'!' => Operator::NotEqual,
+            b'<' => Operator::LessOrEqual,
+            _ => Operator::GreaterOrEqual,
+        });
+    }
+    match first {
+        b'<' => Next::Found(Operator::Less),
+        b'>' => Next::Found(Operator::Greater),
+        _ => Next::Fails,
+    }
+}
+
 fn sum_operator(cursor: &mut Cursor<'_>) -> Next
-    ensures { IsNext Level.Sum cursor.old.rest.now result cursor.new.rest.now }
+    ensures value { IsNext Level.Sum cursor.old.rest.now result cursor.new.rest.now }
+    ensures shrinks { length cursor.new.rest.now ≤ length cursor.old.rest.now }
 {
     let Some((first, rest)) = cursor.rest.split_first() else {
         return Next::Nothing;
@@ -66,7 +99,8 @@ fn sum_operator(cursor: &mut Cursor<'_>) -> Next
 }
 
 fn product_operator(cursor: &mut Cursor<'_>) -> Next
-    ensures { IsNext Level.Product cursor.old.rest.now result cursor.new.rest.now }
+    ensures value { IsNext Level.Product cursor.old.rest.now result cursor.new.rest.now }
+    ensures shrinks { length cursor.new.rest.now ≤ length cursor.old.rest.now }
 {
     let Some((first, rest)) = cursor.rest.split_first() else {
         return Next::Nothing;
@@ -83,11 +117,13 @@ fn product_operator(cursor: &mut Cursor<'_>) -> Next
 
 /// The operator of a level that comes next.
 pub(crate) fn operator(cursor: &mut Cursor<'_>, level: Level) -> Next
-    ensures { IsNext level cursor.old.rest.now result cursor.new.rest.now }
+    ensures value { IsNext level cursor.old.rest.now result cursor.new.rest.now }
+    ensures shrinks { length cursor.new.rest.now ≤ length cursor.old.rest.now }
 {
     match level {
         Level::Or => or_operator(cursor),
         Level::And => and_operator(cursor),
+        Level::Compare => compare_operator(cursor),
         Level::Sum => sum_operator(cursor),
         Level::Product => product_operator(cursor),
     }

@@ -92,3 +92,55 @@ pub enum Node {
         value: usize,
     },
 }
+
+/// Whom a roll is for. `at` is the first byte of its word.
+#[derive(Clone, Copy, Debug, PartialEq, Eq)]
+pub enum Address {
+    /// `r`: those that the macro is run to.
+    Receivers { at: u32 },
+    /// `h`: nobody.
+    Hidden { at: u32 },
+    /// `g`: the master of the game.
+    Master { at: u32 },
+    /// `s`: the one that runs the macro.
+    Runner { at: u32 },
+    /// `gs`: the master and the runner.
+    Both { at: u32 },
+    /// `w(..)`: the seat that is the value of a node.
+    Whisper { at: u32, seat: usize },
+}
+
+/// What a roll's statements hang on. `at` is the first byte of its word.
+#[derive(Clone, Copy, Debug, PartialEq, Eq)]
+pub enum Branch {
+    /// `if(..)`: the first statement counts where the node's value isn't 0, else the second.
+    If { at: u32, condition: usize },
+    /// `count(..)`: the statement is evaluated so many times.
+    Count { at: u32, times: usize },
+}
+
+/// The options of a roll, in the order in which they stand.
+#[derive(Clone, Copy, Debug, PartialEq, Eq)]
+pub enum Options {
+    Addressed(Address),
+    Branched(Branch),
+    AddressFirst(Address, Branch),
+    BranchFirst(Branch, Address),
+}
+
+/// A piece of a macro. `at` is its first byte.
+#[derive(Debug, Drop)]
+pub enum Piece {
+    /// Plain text with its escapes undone, as long as no roll comes.
+    Plain {
+        at: u32,
+        text: Vec<u8>,
+    },
+    /// A roll: its options, the node of its statement, and that of the second one where there is one.
+    Roll {
+        at: u32,
+        options: Options,
+        first: usize,
+        second: Option<usize>,
+    },
+}

@@ -1,4 +1,4 @@
-use Rattle.macro_parse.proofs.Pieces.{one_macro}
+use Rattle.macro_parse.proofs.WholeMacros.{one_macro}
 use Rattle.macro_parse.proofs.laws.one_reading.Goals as goal
 
 pub returns : goal.returns

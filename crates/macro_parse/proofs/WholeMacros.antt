@@ -15,7 +15,7 @@ use Rattle.macro_parse.specs.Readers.{roll_at, plain_text, at_end, unless_end, p
 use Rattle.macro_parse.proofs.Names.{reads_cons}
 use Rattle.macro_parse.proofs.Leaves.{reads_front, front_fate, reads_refused}
 use Rattle.macro_parse.proofs.Calls.{ThenAt, reads_then_at}
-use Rattle.macro_parse.proofs.Options.{reads_roll}
+use Rattle.macro_parse.proofs.OptionWords.{reads_roll}
 use Rattle.macro_parse.proofs.StatementsAgain.{head_pass}
 use Rattle.macro_parse.proofs.RollsAgain.{roll_again}
 

@@ -1,0 +1,12 @@
+use Rattle.macro_parse.specs.declared.levels.Level.TheVariants.{Or, And, Compare, Sum, Product}
+use Rattle.macro_parse.specs.Readers.{unary_at, sum_at, compared_with, expression_from, equal_from, after_name, expression_at, statement_at}
+use Rattle.macro_parse.specs.Flat.{Puts, PutsCall, Grows, place}
+use Rattle.macro_parse.specs.Levels.{more_of, ands_from, compares_from, sums_from, named_at}
+use Rattle.macro_parse.proofs.Finding.{grows_then_grows, stops_then, finds_residual}
+use Rattle.macro_parse.proofs.reader.Reader.ands_from.Goals as goal
+
+pub returns-clause-value : goal.returns-clause-value
+returns-clause-value c =
+    λ x shown.
+    grows_then_grows (λ turns. λ at. more_of And (unary_at turns c.args.depth) turns at x) (λ turns. more_of Or (unary_at turns c.args.depth) turns) c.args.self.now.end c.more.new.self.end c.in_ok-conjunction.conjunction c.more-2.result c.args.self.now.cursor.rest.now c.more.new.self.cursor.rest.now c.more-2.new.self.cursor.rest.now c.args.self.now.nodes.items c.more.new.self.nodes.items c.more-2.new.self.nodes.items x
+    c.requires c.more.ensures.shrinks c.more.ensures.end (c.in_ok-conjunction.ensures.value x shown) c.more-2.ensures.value

@@ -1,0 +1,18 @@
+use Rattle.std.proofs.Common.{Some}
+use Rattle.macro_parse.specs.declared.nodes.Node.TheVariants.{Quoted as QuotedNode}
+use Rattle.macro_parse.specs.Tree.{Quoted}
+use Rattle.macro_parse.specs.Readers.{quoted_at}
+use Rattle.macro_parse.specs.Flat.{Puts, place}
+use Rattle.macro_parse.proofs.FlatTrees.{put_quoted}
+use Rattle.macro_parse.proofs.Finding.{finds_kept}
+use Rattle.macro_parse.proofs.reader.Reader.text.Goals as goal
+
+pub returns-clause-value : goal.returns-clause-value
+returns-clause-value c =
+    let old = c.args.self.now.nodes.items in
+    let new = c.keep.new.nodes.items in
+    let at = c.at-at.result in
+    let v = c.in-Some.text in
+    let e = rw c.in-Some.is at c.in-Ok.ensures.value (place c.args.self.now.end c.args.self.now.cursor.rest.now) in
+    finds_kept old new (QuotedNode at v) (Puts old new) (λ _. quoted_at (place c.args.self.now.end c.args.self.now.cursor.rest.now)) c.keep.result c.args.self.now.cursor.rest.now c.quoted.new.cursor.rest.now (Quoted at v.items)
+    c.keep.ensures.kept c.keep.ensures.memory (λ i k. put_quoted old new i at v k) (λ turns lt. rw c.at-at.ensures e)

@@ -1,0 +1,100 @@
+//! Whole macro texts.
+
+ghost use Rattle.std.specs.Prelude.{◌≡◌, ◌↔◌, IsTrue, IfOk, IfErr};
+ghost use Rattle.macro_parse.specs.Flat.{NodeFits, NodesFit};
+ghost use Rattle.macro_parse.specs.Faults.{IsReadFrom, IsFaultOf};
+
+use crate::nodes::{Node, Piece};
+use crate::reader::{Reader, Stop};
+use reading::Cursor;
+use std::alloc::Global;
+
+/// Pieces over one list of nodes. Contracts see it as the trees that its nodes stand for.
+#[derive(Debug, Drop)]
+pub struct Macro {
+    pieces: Vec<Piece>,
+    nodes: Vec<Node>,
+}
+
+impl Macro {
+    /// The pieces in their order.
+    pub fn pieces(&self) -> &[Piece]
+        ensures { result.now ≡ self.now.pieces.items }
+    {
+        self.pieces.as_slice()
+    }
+
+    /// The nodes that the pieces and other nodes name by their indices. A node stands behind its parts.
+    pub fn nodes(&self) -> &[Node]
+        ensures { result.now ≡ self.now.nodes.items }
+    {
+        self.nodes.as_slice()
+    }
+}
+
+/// Why a text isn't read as a macro.
+#[derive(Clone, Copy, Debug, PartialEq, Eq)]
+pub enum MacroParseFault {
+    /// The text is off the grammar. `at` counts the bytes of its longest front that begins some text of the grammar.
+    MacroSyntax { at: u32 },
+    /// The text is of the grammar, and has dice off their limits.
+    DiceLimit,
+    /// Want of memory, or a text whose places are past 32 bits.
+    Memory,
+}
+
+/// How many parentheses, calls, `-` and `!` an atom may stand in.
+const DEPTH: u32 = 32;
+
+/// Whether a node has no dice off the limits.
+fn fits(node: &Node) -> bool
+    ensures { IsTrue result ↔ NodeFits node.now }
+{
+    match node {
+        Node::Dice { group, .. } => {
+            1 <= group.count && group.count <= 100 && 1 <= group.sides && group.sides <= 1000
+        }
+        _ => true,
+    }
+}
+
+fn all_fit(nodes: &[Node]) -> bool
+    ensures { IsTrue result ↔ NodesFit nodes.now }
+{
+    nodes.iter().all(fits)
+}
+
+/// Reads a macro text. It is refused exactly where it is off the grammar or has dice off their limits, and where memory
+/// wants.
+pub fn read_macro(alloc: Global, text: &str) -> Result<Macro, MacroParseFault>
+    // What is read shows what the text spells, within the limits.
+    ensures read { IfOk result (IsReadFrom text.now) }
+    ensures fault { IfErr result (IsFaultOf text.now) }
+{
+    let bytes = text.as_bytes();
+    let Ok(end) = u32::try_from(bytes.len()) else {
+        return Err(MacroParseFault::Memory);
+    };
+    let mut reader = Reader {
+        end,
+        cursor: Cursor { rest: bytes },
+        nodes: Vec::new(alloc),
+    };
+    let pieces = match reader.pieces(DEPTH) {
+        Ok(pieces) => pieces,
+        Err(Stop::Off) => {
+            let at = reader.at();
+            return Err(MacroParseFault::MacroSyntax { at });
+        }
+        Err(Stop::Memory) => return Err(MacroParseFault::Memory),
+    };
+    if !all_fit(&reader.nodes) {
+        return Err(MacroParseFault::DiceLimit);
+    }
+    let Reader {
+        nodes,
+        end: _,
+        cursor: _,
+    } = reader;
+    Ok(Macro { pieces, nodes })
+}
