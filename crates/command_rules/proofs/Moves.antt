@@ -19,14 +19,13 @@ use Rattle.command_json.specs.declared.command.Command.TheVariants.{Move}
 use Rattle.world.specs.Scene.{Scene}
 use Rattle.world.specs.Rules.{size_of, fits, fits_on, belongs, IsScene}
 use Rattle.player_view.specs.View.{acts_on, has_map}
-use Rattle.player_view.specs.Asked.{Asked, Mine, Known, asked_of, mine_of, known_of}
-use Rattle.command_rules.specs.declared.refusal.Refusal.{Refusal}
+use Rattle.player_view.specs.Asked.{Known, asked_of, mine_of, known_of}
 use Rattle.command_rules.specs.declared.refusal.Refusal.TheVariants.{OffMap, BadPath}
 use Rattle.command_rules.specs.Places.{coordinate, fits_at, cell_at, are_king_steps}
 use Rattle.command_rules.specs.Rules.{move_rule, path_rule, rule_of}
 use Rattle.command_rules.specs.Effects.{own_token, cell_after}
 use Rattle.command_rules.specs.Allowed.{IsAllowed, MayMove}
-use Rattle.command_rules.proofs.Unique.{found_passes, found_of_all, find_one}
+use Rattle.command_rules.proofs.Unique.{found_of_all, find_one}
 use Rattle.command_rules.proofs.PlaceLemmas.{column, row}
 
 -- ---- the one token and the one map

@@ -3,7 +3,6 @@ use Rattle.std.specs.Prelude.{◌≡◌, ℕ, true, List, None, Some, ℤ}
 use Rattle.std.specs.List.{list_all}
 use Rattle.names.specs.declared.token_id.TokenId.{TokenId}
 use Rattle.cells.specs.Cells.{Extent}
-use Rattle.maps.specs.Maps.{map_of}
 use Rattle.tokens.specs.declared.token.Token.{Token}
 use Rattle.command_json.specs.declared.command.Command.{Command}
 use Rattle.world.specs.Scene.{Scene}
