@@ -1,19 +1,18 @@
 -- Statements by what stands behind their first name, as the code reads them.
-use Rattle.std.proofs.Common.{◌≡◌, ℕ, suc, ◌+◌, ◌-◌, ◌<◌, ◌≤◌, Bool, true, false, List, [], ◌∷◌, length, Option, Some, None, Ok, Err, refl, sym, subst, ◌∙◌, arith}
+use Rattle.std.proofs.Common.{◌≡◌, ℕ, suc, ◌+◌, ◌-◌, ◌<◌, ◌≤◌, Bool, true, false, List, [], ◌∷◌, length, Some, None, Ok, Err, refl, subst, ◌∙◌, arith}
 use Rattle.std.specs.Prelude.{Result, IfOk, IfErr, nat_eq}
 use Rattle.std.specs.Global.{Vec}
 use Rattle.reading.specs.Reading.{Read, done, bind, on_head}
-use Rattle.reading.specs.Placed.{bind_at}
 use Rattle.reading.proofs.Pairs.{Free}
 use Rattle.macro_parse.specs.declared.nodes.Node.{Node}
 use Rattle.macro_parse.specs.declared.nodes.Node.TheVariants.{Name as NameNode, Binary as BinaryNode, Assigned as AssignedNode}
-use Rattle.macro_parse.specs.declared.nodes.Operator.TheVariants.{Equal}
-use Rattle.macro_parse.specs.declared.nodes.Function.{Function}
+use Rattle.macro_grammar.specs.declared.words.Operator.TheVariants.{Equal}
+use Rattle.macro_grammar.specs.declared.words.Function.{Function}
 use Rattle.macro_parse.specs.declared.reader.Stop.{Stop}
 use Rattle.macro_parse.specs.declared.reader.Stop.TheVariants.{Off, Memory}
-use Rattle.macro_parse.specs.Tree.{Tree, Number, Dice, Quoted, Name, Call0, Call1, Call2, Call3, Negated, Inverted, Binary, Assigned}
-use Rattle.macro_parse.specs.Grammar.{arity}
-use Rattle.macro_parse.specs.Readers.{blanks_at, is_letter, arguments_at, then_blanks, sum_at, expression_at, expression_from, equal_from, after_name, after_word, statement_at, unary_at, expr_at}
+use Rattle.macro_grammar.specs.Tree.{Tree, Number, Dice, Quoted, Name, Call0, Call1, Call2, Call3, Negated, Inverted, Binary, Assigned}
+use Rattle.macro_grammar.specs.Grammar.{arity}
+use Rattle.macro_grammar.specs.Readers.{blanks_at, is_letter, arguments_at, then_blanks, sum_at, expression_at, expression_from, equal_from, after_name, after_word, statement_at, unary_at, expr_at}
 use Rattle.macro_parse.specs.Flat.{Shows, Kept, Puts, PutsCall, Grows, IsNoName, Finds, place}
 use Rattle.macro_parse.specs.Levels.{nests, nested_at, ands_from, named_at, HeadIs}
 use Rattle.macro_parse.specs.Found.{FindsName, Calls}

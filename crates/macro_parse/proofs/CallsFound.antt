@@ -1,18 +1,18 @@
 -- Names and calls, as the code reads them.
-use Rattle.std.proofs.Common.{◌≡◌, ℕ, zero, suc, ◌+◌, ◌-◌, ◌<◌, ◌≤◌, Bool, true, false, List, [], ◌∷◌, length, Option, Some, None, Ok, Err, refl, sym, subst, ◌∙◌, arith}
+use Rattle.std.proofs.Common.{◌≡◌, ℕ, zero, suc, ◌+◌, ◌-◌, ◌≤◌, Bool, true, false, List, length, Some, None, Ok, Err, refl, subst, ◌∙◌, arith}
 use Rattle.std.specs.Prelude.{Result, IfOk, IfErr, nat_eq}
 use Rattle.std.specs.Global.{Vec}
-use Rattle.reading.specs.Reading.{Read, done, bind, item}
+use Rattle.reading.specs.Reading.{Read, bind, item}
 use Rattle.macro_parse.specs.declared.nodes.Node.{Node}
 use Rattle.macro_parse.specs.declared.nodes.Node.TheVariants.{Name as NameNode, Call as CallNode}
-use Rattle.macro_parse.specs.declared.nodes.Function.{Function}
+use Rattle.macro_grammar.specs.declared.words.Function.{Function}
 use Rattle.macro_parse.specs.declared.nodes.Arguments.{Arguments}
 use Rattle.macro_parse.specs.declared.nodes.Arguments.TheVariants.{Nothing, One, Two, Three}
 use Rattle.macro_parse.specs.declared.reader.Stop.{Stop}
 use Rattle.macro_parse.specs.declared.reader.Stop.TheVariants.{Off, Memory}
-use Rattle.macro_parse.specs.Tree.{Tree, Name, Call0, Call1, Call2, Call3}
-use Rattle.macro_parse.specs.Grammar.{arity}
-use Rattle.macro_parse.specs.Readers.{name_at, function_of, argument_at, closed, arguments_at, called_at, word_at, expression_at, expr_at}
+use Rattle.macro_grammar.specs.Tree.{Tree, Name, Call0, Call1, Call2, Call3}
+use Rattle.macro_grammar.specs.Grammar.{arity}
+use Rattle.macro_grammar.specs.Readers.{name_at, function_of, argument_at, closed, arguments_at, called_at, word_at, expression_at, expr_at}
 use Rattle.macro_parse.specs.Flat.{Kept, Puts, IsNoName, PutsCall, Finds, place}
 use Rattle.macro_parse.specs.Levels.{nests, nested_at}
 use Rattle.macro_parse.specs.Found.{FindsName, Argues, Calls, Closes}

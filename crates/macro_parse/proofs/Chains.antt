@@ -1,20 +1,20 @@
 -- Operators with their operands, as the code reads them.
-use Rattle.std.proofs.Common.{◌≡◌, ℕ, ◌+◌, ◌-◌, ◌<◌, ◌≤◌, List, length, Option, Some, None, Ok, Err, refl, sym, ◌∙◌, arith}
+use Rattle.std.proofs.Common.{◌≡◌, ℕ, ◌+◌, ◌-◌, ◌≤◌, List, length, Option, Some, None, Ok, Err, refl, ◌∙◌, arith}
 use Rattle.std.specs.Prelude.{Result, IsErrAnd}
-use Rattle.reading.specs.Reading.{Read, done}
+use Rattle.reading.specs.Reading.{done}
 use Rattle.reading.specs.Placed.{bind_at}
 use Rattle.macro_parse.specs.declared.nodes.Node.{Node}
 use Rattle.macro_parse.specs.declared.nodes.Node.TheVariants.{Binary as BinaryNode}
-use Rattle.macro_parse.specs.declared.nodes.Operator.{Operator}
+use Rattle.macro_grammar.specs.declared.words.Operator.{Operator}
 use Rattle.macro_parse.specs.declared.levels.Level.{Level}
 use Rattle.macro_parse.specs.declared.levels.Level.TheVariants.{Compare}
-use Rattle.macro_parse.specs.declared.levels.Next.TheVariants.{Nothing, Fails, Found}
+use Rattle.macro_parse.specs.declared.levels.Next.TheVariants.{Found}
 use Rattle.macro_parse.specs.declared.reader.Stop.{Stop}
 use Rattle.macro_parse.specs.declared.reader.Stop.TheVariants.{Off, Memory}
-use Rattle.macro_parse.specs.Tree.{Tree, Binary}
-use Rattle.macro_parse.specs.Readers.{unary_at, sum_at, compared_with}
+use Rattle.macro_grammar.specs.Tree.{Tree, Binary}
+use Rattle.macro_grammar.specs.Readers.{unary_at, sum_at, compared_with}
 use Rattle.macro_parse.specs.Flat.{Shows, Kept, Puts, Grows, Finds, place}
-use Rattle.macro_parse.specs.Levels.{operator_of, operand_of, once_at, Steps, IsNext}
+use Rattle.macro_parse.specs.Levels.{operator_of, operand_of, Steps, IsNext}
 use Rattle.macro_parse.proofs.FlatTrees.{put_binary, grows_itself}
 
 module _ (level : Level) (depth : ℕ) where

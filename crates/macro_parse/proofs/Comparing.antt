@@ -1,11 +1,11 @@
 -- Comparisons by their first byte, and by the "=" behind it.
-use Rattle.std.proofs.Common.{◌≡◌, ℕ, ◌+◌, ◌<◌, true, false, List, [], ◌∷◌, length, Some, None, refl, arith}
+use Rattle.std.proofs.Common.{◌≡◌, ℕ, true, false, List, [], ◌∷◌, Some, refl, arith}
 use Rattle.std.specs.Prelude.{nat_eq}
 use Rattle.reading.proofs.Pairs.{Free}
-use Rattle.macro_parse.specs.declared.nodes.Operator.TheVariants.{LessOrEqual, GreaterOrEqual, Less, Greater}
+use Rattle.macro_grammar.specs.declared.words.Operator.TheVariants.{LessOrEqual, GreaterOrEqual, Less, Greater}
 use Rattle.macro_parse.specs.declared.levels.Level.TheVariants.{Compare}
 use Rattle.macro_parse.specs.declared.levels.Next.TheVariants.{Found}
-use Rattle.macro_parse.specs.Readers.{compare_operator_at}
+use Rattle.macro_grammar.specs.Readers.{compare_operator_at}
 use Rattle.macro_parse.specs.Levels.{IsNext}
 use Rattle.macro_parse.proofs.Scans.{takes_at, took, left}
 

@@ -1,16 +1,16 @@
 -- What is found, put together from what its parts found.
-use Rattle.std.proofs.Common.{◌≡◌, ℕ, ◌+◌, ◌-◌, ◌<◌, ◌≤◌, List, [], ◌∷◌, ◌++◌, length, Option, Some, None, Ok, Err, refl, sym, ap, ◌∙◌, arith}
+use Rattle.std.proofs.Common.{◌≡◌, ℕ, ◌+◌, ◌-◌, ◌<◌, ◌≤◌, List, length, Option, Some, Ok, Err, refl, sym, ap, ◌∙◌, arith}
 use Rattle.std.specs.Prelude.{Result, IfOk, IfErr, IsErrAnd}
 use Rattle.std.proofs.lemmas.List.{length-append}
-use Rattle.reading.specs.Reading.{Read, done}
+use Rattle.reading.specs.Reading.{Read}
 use Rattle.reading.specs.Placed.{bind_at}
 use Rattle.reading.proofs.Laws.{Reads}
 use Rattle.reading.proofs.Pairs.{same_pair}
 use Rattle.macro_parse.specs.declared.nodes.Node.{Node}
 use Rattle.macro_parse.specs.declared.reader.Stop.{Stop}
 use Rattle.macro_parse.specs.declared.reader.Stop.TheVariants.{Off, Memory}
-use Rattle.macro_parse.specs.Tree.{Tree}
-use Rattle.macro_parse.specs.Readers.{blanks_at, then_blanks}
+use Rattle.macro_grammar.specs.Tree.{Tree}
+use Rattle.macro_grammar.specs.Readers.{blanks_at, then_blanks}
 use Rattle.macro_parse.specs.Flat.{Kept, Shows, Puts, Grows, Finds, place}
 use Rattle.macro_parse.proofs.FlatTrees.{puts_grows, grows_grows}
 

@@ -1,16 +1,15 @@
 -- What stands in a list of nodes still stands there when nodes are put behind it.
-use Rattle.std.proofs.Common.{◌≡◌, ℕ, zero, suc, ◌<◌, ◌≤◌, List, [], ◌∷◌, ◌++◌, length, Some, refl, sym, append_assoc, append-nil, arith}
-use Rattle.std.specs.Prelude.{All, slice_get}
+use Rattle.std.proofs.Common.{◌≡◌, ℕ, zero, suc, ◌<◌, List, [], ◌∷◌, ◌++◌, length, Some, refl, sym, append_assoc, append-nil, arith}
+use Rattle.std.specs.Prelude.{slice_get}
 use Rattle.std.specs.Global.{Vec}
 use Rattle.std.proofs.lemmas.List.Elements.{All-append}
 use Rattle.dice_parse.specs.declared.parts.Group.{Group}
 use Rattle.macro_parse.specs.declared.nodes.Node.{Node}
 use Rattle.macro_parse.specs.declared.nodes.Node.TheVariants.{Number as NumberNode, Dice as DiceNode, Quoted as QuotedNode, Name as NameNode, Call as CallNode, Negated as NegatedNode, Inverted as InvertedNode, Binary as BinaryNode, Assigned as AssignedNode}
 use Rattle.macro_parse.specs.declared.nodes.Arguments.TheVariants.{Nothing, One, Two, Three}
-use Rattle.macro_parse.specs.declared.nodes.Operator.{Operator}
-use Rattle.macro_parse.specs.declared.nodes.Function.{Function}
-use Rattle.macro_parse.specs.Tree.{Tree, Number, Dice, Quoted, Name, Call0, Call1, Call2, Call3, Negated, Inverted, Binary, Assigned}
-use Rattle.macro_parse.specs.Grammar.{DiceFit}
+use Rattle.macro_grammar.specs.declared.words.Operator.{Operator}
+use Rattle.macro_grammar.specs.declared.words.Function.{Function}
+use Rattle.macro_grammar.specs.Tree.{Tree, Number, Dice, Quoted, Name, Call0, Call1, Call2, Call3, Negated, Inverted, Binary, Assigned}
 use Rattle.macro_parse.specs.Flat.{Shows, Keeps, Kept, NodeFits, NodesFit, Puts, Grows}
 
 get_in : (xs : List Node) (i : ℕ) (x : Node) → slice_get xs i ≡ Some x → i < length xs

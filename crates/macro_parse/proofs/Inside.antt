@@ -1,30 +1,25 @@
 -- Unaries and atoms, as the code reads them.
-use Rattle.std.proofs.Common.{◌≡◌, ℕ, zero, suc, ◌+◌, ◌-◌, ◌<◌, ◌≤◌, ◌⊎◌, inl, inr, Bool, true, false, ◌&&◌, List, [], ◌∷◌, length, Option, Some, None, Ok, Err, refl, sym, ◌∙◌, arith}
+use Rattle.std.proofs.Common.{◌≡◌, ℕ, zero, suc, ◌+◌, ◌-◌, ◌<◌, ◌≤◌, ◌⊎◌, inl, inr, Bool, true, false, ◌&&◌, List, [], ◌∷◌, length, Some, None, Ok, Err, refl, ◌∙◌, arith}
 use Rattle.std.specs.Prelude.{Result, IfOk, IfErr, nat_eq}
 use Rattle.std.proofs.lemmas.Bool.Decides.{nat_tests}
-use Rattle.std.specs.Global.{Vec}
 use Rattle.reading.specs.Reading.{Read, done, bind, item}
 use Rattle.reading.specs.Placed.{bind_at}
 use Rattle.reading.specs.Number.{is_digit}
 use Rattle.macro_parse.specs.declared.nodes.Node.{Node}
-use Rattle.macro_parse.specs.declared.nodes.Node.TheVariants.{Name as NameNode, Call as CallNode, Negated as NegatedNode, Inverted as InvertedNode}
-use Rattle.macro_parse.specs.declared.nodes.Function.{Function}
-use Rattle.macro_parse.specs.declared.nodes.Arguments.{Arguments}
-use Rattle.macro_parse.specs.declared.nodes.Arguments.TheVariants.{Nothing, One, Two, Three}
+use Rattle.macro_parse.specs.declared.nodes.Node.TheVariants.{Negated as NegatedNode, Inverted as InvertedNode}
 use Rattle.macro_parse.specs.declared.reader.Stop.{Stop}
 use Rattle.macro_parse.specs.declared.reader.Stop.TheVariants.{Off, Memory}
 use Rattle.macro_parse.specs.declared.expressions.Sign.{Sign}
 use Rattle.macro_parse.specs.declared.expressions.Sign.TheVariants.{Minus, Not}
-use Rattle.macro_parse.specs.Tree.{Tree, Name, Call0, Call1, Call2, Call3, Negated, Inverted}
-use Rattle.macro_parse.specs.Grammar.{arity}
-use Rattle.macro_parse.specs.Readers.{blanks_at, name_at, function_of, number_or_dice_at, quoted_at, argument_at, closed, arguments_at, called_at, word_at, group_at, atom_at, then_blanks, prefixed_at, inner_at, expression_at, unary_at, expr_at}
-use Rattle.macro_parse.specs.Flat.{Shows, Kept, Puts, Finds, place}
+use Rattle.macro_grammar.specs.Tree.{Tree, Negated, Inverted}
+use Rattle.macro_grammar.specs.Readers.{blanks_at, name_at, number_or_dice_at, quoted_at, argument_at, closed, word_at, group_at, atom_at, then_blanks, prefixed_at, inner_at, expression_at, unary_at, expr_at}
+use Rattle.macro_parse.specs.Flat.{Kept, Puts, Finds, place}
 use Rattle.macro_parse.specs.Levels.{nests, nested_at}
-use Rattle.macro_parse.specs.Found.{FindsName, Prefixes, Argues, Calls, Closes}
-use Rattle.macro_parse.proofs.FlatTrees.{put_name, put_negated, put_inverted, put_call0, put_call1, put_call2, put_call3}
+use Rattle.macro_parse.specs.Found.{Prefixes, Argues}
+use Rattle.macro_parse.proofs.FlatTrees.{put_negated, put_inverted}
 use Rattle.macro_parse.proofs.Finding.{finds_kept, finds_as, finds_then, stops_then, finds_blanks, stops_blanks}
 use Rattle.macro_parse.proofs.Scans.{takes_at, took, left, item_none}
-use Rattle.macro_parse.proofs.OptionWords.{same_byte}
+use Rattle.macro_grammar.proofs.OptionWords.{same_byte}
 
 -- ---- unaries
 

@@ -1,5 +1,5 @@
 -- A chain of operators is read step by step, and what is read so far stands to the left of what comes.
-use Rattle.std.proofs.Common.{◌≡◌, ℕ, suc, ◌+◌, ◌-◌, ◌<◌, ◌≤◌, List, length, Option, Some, None, Ok, Err, refl, sym, ◌∙◌, arith}
+use Rattle.std.proofs.Common.{◌≡◌, ℕ, suc, ◌+◌, ◌-◌, ◌<◌, ◌≤◌, List, length, Option, Some, Err, refl, ◌∙◌, arith}
 use Rattle.reading.specs.Reading.{Read}
 use Rattle.reading.specs.Placed.{more_at}
 use Rattle.macro_parse.specs.declared.nodes.Node.{Node}
@@ -7,11 +7,10 @@ use Rattle.macro_parse.specs.declared.levels.Level.{Level}
 use Rattle.macro_parse.specs.declared.levels.Level.TheVariants.{Or, And, Compare, Sum, Product}
 use Rattle.macro_parse.specs.declared.reader.Stop.{Stop}
 use Rattle.macro_parse.specs.declared.reader.Stop.TheVariants.{Off, Memory}
-use Rattle.macro_parse.specs.Tree.{Tree, Binary}
-use Rattle.macro_parse.specs.Readers.{unary_at}
-use Rattle.macro_parse.specs.Flat.{Shows, Grows, Finds, place}
+use Rattle.macro_grammar.specs.Tree.{Tree, Binary}
+use Rattle.macro_grammar.specs.Readers.{unary_at}
+use Rattle.macro_parse.specs.Flat.{Grows, Finds, place}
 use Rattle.macro_parse.specs.Levels.{test_of, operator_of, operand_of, more_of, once_at, Steps}
-use Rattle.macro_parse.proofs.FlatTrees.{grows_itself, grows_grows}
 
 -- how strong the operators of a level are
 abbrev pub rank : Level → ℕ

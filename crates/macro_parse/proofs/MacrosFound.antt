@@ -1,6 +1,6 @@
 -- Whole texts, as the code reads them.
-use Rattle.std.proofs.Common.{◌≡◌, ℕ, zero, suc, ◌+◌, ◌-◌, ◌<◌, ◌≤◌, List, [], ◌∷◌, ◌++◌, length, Some, None, Ok, Err, refl, sym, ◌∙◌, arith}
-use Rattle.std.specs.Prelude.{slice_get, slice_index_or}
+use Rattle.std.proofs.Common.{◌≡◌, ℕ, zero, suc, ◌-◌, ◌<◌, List, [], ◌∷◌, length, Some, None, Ok, Err, arith}
+use Rattle.std.specs.Prelude.{slice_get}
 use Rattle.std.specs.Global.{Vec}
 use Rattle.reading.specs.Reading.{IsLongest}
 use Rattle.macro_parse.specs.declared.nodes.Node.{Node}
@@ -10,14 +10,14 @@ use Rattle.macro_parse.specs.declared.nodes.Branch.{Branch as FlatBranch}
 use Rattle.macro_parse.specs.declared.nodes.Options.{Options as FlatOptions}
 use Rattle.macro_parse.specs.declared.nodes.Piece.{Piece as FlatPiece}
 use Rattle.macro_parse.specs.declared.reader.Stop.TheVariants.{Off}
-use Rattle.macro_parse.specs.Tree.{Tree, Number, Dice, Quoted, Name, Call0, Call1, Call2, Call3, Negated, Inverted, Binary, Assigned, Address, Receivers, Hidden, Master, Runner, Both, Whisper, Branch, If, Count, Options, Addressed, Branched, AddressFirst, BranchFirst, Piece, Plain, Roll}
-use Rattle.macro_parse.specs.Grammar.{DiceFit, IsMacro}
-use Rattle.macro_parse.specs.Readers.{macro_at}
-use Rattle.macro_parse.specs.Limits.{AddressFits, BranchFits, OptionsFit, PieceFits, PiecesFit}
+use Rattle.macro_grammar.specs.Tree.{Tree, Number, Dice, Quoted, Name, Call0, Call1, Call2, Call3, Negated, Inverted, Binary, Assigned, Address, Receivers, Hidden, Master, Runner, Both, Whisper, Branch, If, Count, Options, Addressed, Branched, AddressFirst, BranchFirst, Piece, Plain, Roll}
+use Rattle.macro_grammar.specs.Grammar.{DiceFit, IsMacro}
+use Rattle.macro_grammar.specs.Readers.{macro_at}
+use Rattle.macro_grammar.specs.Limits.{AddressFits, BranchFits, OptionsFit, PieceFits, PiecesFit}
 use Rattle.macro_parse.specs.Flat.{Shows, NodeFits, NodesFit, place}
 use Rattle.macro_parse.specs.FlatPieces.{ShowsAddress, ShowsBranch, ShowsOptions, ShowsPiece, ShowsPieces}
 use Rattle.macro_parse.specs.Turns.{FindsPieces}
-use Rattle.macro_parse.proofs.WholeMacros.{macro_found, macro_off, macro_longest}
+use Rattle.macro_grammar.proofs.WholeMacros.{macro_found, macro_off, macro_longest}
 
 -- ---- where all nodes fit, all dice do
 

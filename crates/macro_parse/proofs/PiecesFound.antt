@@ -1,29 +1,28 @@
 -- Pieces, as the code reads them.
-use Rattle.std.proofs.Common.{◌≡◌, ℕ, zero, suc, ◌+◌, ◌-◌, ◌<◌, ◌≤◌, Bool, true, false, List, [], ◌∷◌, ◌++◌, length, Option, Some, None, Ok, Err, refl, sym, ap, subst, ◌∙◌, append_assoc, append-nil, arith}
+use Rattle.std.proofs.Common.{◌≡◌, ℕ, suc, ◌+◌, ◌-◌, ◌<◌, ◌≤◌, Bool, true, false, List, [], ◌∷◌, ◌++◌, length, Option, Some, None, Ok, Err, refl, sym, ap, ◌∙◌, append_assoc, append-nil, arith}
 use Rattle.std.specs.Prelude.{Result, IsErrAnd, nat_eq}
 use Rattle.std.proofs.lemmas.Bool.Decides.{nat_tests}
 use Rattle.std.specs.Global.{Vec}
-use Rattle.reading.specs.Reading.{Read, done, carry, bind, on_head, item}
+use Rattle.reading.specs.Reading.{Read, done, carry, bind, on_head}
 use Rattle.reading.specs.Placed.{bind_at}
 use Rattle.reading.proofs.Pairs.{got}
 use Rattle.macro_parse.specs.declared.nodes.Node.{Node}
 use Rattle.macro_parse.specs.declared.nodes.Piece.{Piece as FlatPiece}
-use Rattle.macro_parse.specs.declared.nodes.Piece.TheVariants.{Plain as FlatPlain, Roll as FlatRoll}
+use Rattle.macro_parse.specs.declared.nodes.Piece.TheVariants.{Plain as FlatPlain}
 use Rattle.macro_parse.specs.declared.reader.Stop.{Stop}
 use Rattle.macro_parse.specs.declared.reader.Stop.TheVariants.{Off, Memory}
-use Rattle.macro_parse.specs.Tree.{Piece, Plain, Roll}
-use Rattle.macro_parse.specs.Readers.{plain_text, roll_at, at_end, unless_end, pieces_at}
-use Rattle.macro_parse.specs.Limits.{PieceFits, PiecesFit}
-use Rattle.macro_parse.specs.Flat.{Keeps, NodesFit, Finds, place}
+use Rattle.macro_grammar.specs.Tree.{Piece, Plain, Roll}
+use Rattle.macro_grammar.specs.Readers.{plain_text, roll_at, at_end, pieces_at}
+use Rattle.macro_grammar.specs.Limits.{PieceFits, PiecesFit}
+use Rattle.macro_parse.specs.Flat.{Keeps, place}
 use Rattle.macro_parse.specs.FlatPieces.{ShowsPiece, ShowsPieces, Adds}
-use Rattle.macro_parse.specs.Found.{in_front, with_bytes}
+use Rattle.macro_parse.specs.Found.{with_bytes}
 use Rattle.macro_parse.specs.Levels.{HeadIs}
-use Rattle.macro_parse.specs.Turns.{PlainStep, FindsPlain, in_front_of, with_pieces, PutsPieces, RollGives, TurnGives, FindsPieces}
+use Rattle.macro_parse.specs.Turns.{PlainStep, FindsPlain, in_front_of, with_pieces, RollGives, TurnGives, FindsPieces}
 use Rattle.macro_parse.proofs.FlatTrees.{shows_kept, keeps_itself, keeps_then}
-use Rattle.macro_parse.specs.Grammar.{is_bracket}
+use Rattle.macro_grammar.specs.Grammar.{is_bracket}
 use Rattle.macro_parse.proofs.Scans.{carry_front, front_twice}
 use Rattle.macro_parse.proofs.Inside.{not_same}
-use Rattle.macro_parse.proofs.AfterNames.{head_true, head_false}
 use Rattle.macro_parse.proofs.RollsWhole.{options_kept}
 
 -- ---- plain text

@@ -1,37 +1,29 @@
 -- Options and rolls, as the code reads them.
-use Rattle.std.proofs.Common.{◌≡◌, ℕ, suc, ◌+◌, ◌-◌, ◌<◌, ◌≤◌, Bool, true, false, ◌&&◌, List, [], ◌∷◌, length, Option, Some, None, Ok, Err, refl, sym, subst, ◌∙◌, arith}
-use Rattle.std.specs.Prelude.{Result, nat_eq}
-use Rattle.reading.specs.Reading.{Read, done, carry, bind, on_head, item}
+use Rattle.std.proofs.Common.{◌≡◌, ℕ, suc, ◌+◌, ◌-◌, ◌≤◌, true, false, List, [], ◌∷◌, length, Option, Some, None, Ok, Err, refl, sym, subst, ◌∙◌, arith}
+use Rattle.std.specs.Prelude.{nat_eq}
+use Rattle.reading.specs.Reading.{Read, done, carry, bind, item}
 use Rattle.reading.specs.Placed.{bind_at}
-use Rattle.reading.proofs.Pairs.{Free, got, head_free}
+use Rattle.reading.proofs.Pairs.{Free, got}
 use Rattle.macro_parse.specs.declared.nodes.Node.{Node}
 use Rattle.macro_parse.specs.declared.nodes.Address.{Address as FlatAddress}
 use Rattle.macro_parse.specs.declared.nodes.Address.TheVariants.{Receivers as FlatReceivers, Hidden as FlatHidden, Master as FlatMaster, Runner as FlatRunner, Both as FlatBoth, Whisper as FlatWhisper}
 use Rattle.macro_parse.specs.declared.nodes.Branch.{Branch as FlatBranch}
 use Rattle.macro_parse.specs.declared.nodes.Branch.TheVariants.{If as FlatIf, Count as FlatCount}
-use Rattle.macro_parse.specs.declared.nodes.Options.{Options as FlatOptions}
-use Rattle.macro_parse.specs.declared.nodes.Options.TheVariants.{Addressed as FlatAddressed, Branched as FlatBranched, AddressFirst as FlatAddressFirst, BranchFirst as FlatBranchFirst}
-use Rattle.macro_parse.specs.declared.nodes.Piece.{Piece as FlatPiece}
-use Rattle.macro_parse.specs.declared.nodes.Piece.TheVariants.{Roll as FlatRoll}
 use Rattle.macro_parse.specs.declared.reader.Stop.{Stop}
 use Rattle.macro_parse.specs.declared.reader.Stop.TheVariants.{Off, Memory}
 use Rattle.macro_parse.specs.declared.rolls.First.{First}
 use Rattle.macro_parse.specs.declared.rolls.First.TheVariants.{ForWhom as FirstForWhom, OnWhat as FirstOnWhat}
-use Rattle.macro_parse.specs.Tree.{Tree, Address, Receivers, Hidden, Master, Runner, Both, Whisper, Branch, If, Count, Options, Addressed, Branched, AddressFirst, BranchFirst, Piece, Roll, FirstOption, ForWhom, OnWhat}
-use Rattle.macro_parse.specs.Grammar.{DiceFit, has_if}
-use Rattle.macro_parse.specs.Readers.{blanks_at, closed, argument_at, group_at, expr_at, statement_at, bracketed_at, bytes_at, address_word_at, branch_word_at, is_branch_letter, first_word_at, between_at, second_option, alone, options_at, letter_at, roll_end, roll_at}
-use Rattle.macro_parse.specs.Limits.{AddressFits, BranchFits, FirstFits, OptionsFit, PieceFits}
-use Rattle.macro_parse.specs.Flat.{Shows, Keeps, NodesFit, Puts, Finds, place}
-use Rattle.macro_parse.specs.FlatPieces.{ShowsAddress, ShowsBranch, ShowsFirst, ShowsOptions, ShowsPiece, Adds, AddsRoll}
+use Rattle.macro_grammar.specs.Tree.{Tree, Address, Receivers, Hidden, Master, Runner, Both, Whisper, Branch, If, Count, FirstOption, ForWhom, OnWhat}
+use Rattle.macro_grammar.specs.Readers.{blanks_at, closed, argument_at, group_at, expr_at, bracketed_at, bytes_at, address_word_at, branch_word_at, is_branch_letter, first_word_at, between_at}
+use Rattle.macro_grammar.specs.Limits.{AddressFits, BranchFits, FirstFits}
+use Rattle.macro_parse.specs.Flat.{Puts, Finds, place}
+use Rattle.macro_parse.specs.FlatPieces.{ShowsAddress, ShowsBranch, ShowsFirst, Adds}
 use Rattle.macro_parse.specs.Levels.{HeadIs}
-use Rattle.macro_parse.specs.Found.{Expects, Spells}
-use Rattle.macro_parse.proofs.FlatTrees.{shows_kept, keeps_itself, keeps_then}
-use Rattle.macro_parse.proofs.Finding.{finds_as, finds_then, stops_then}
-use Rattle.macro_parse.proofs.Scans.{takes_at, took, left, item_none}
+use Rattle.macro_parse.specs.Found.{Spells}
+use Rattle.macro_parse.proofs.FlatTrees.{keeps_itself}
+use Rattle.macro_parse.proofs.Scans.{takes_at, took, left}
 use Rattle.macro_parse.proofs.Inside.{not_same}
 use Rattle.macro_parse.proofs.AfterNames.{head_true, head_false}
-use Rattle.macro_parse.proofs.Unaries.{and_false}
-use Rattle.macro_parse.proofs.OptionWords.{same_byte}
 
 pub still : {V T : Type 0} (Shown : List Node → V → T → Type 0) (Fits : T → Type 0) (nodes : List Node) (v : V) (t : T) → Shown nodes v t → Adds Shown Fits nodes nodes v t
 still Shown Fits nodes v t h = record { shows = h; keeps = keeps_itself nodes; fits = λ f u. f }

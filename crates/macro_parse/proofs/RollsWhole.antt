@@ -1,9 +1,9 @@
 -- Options together, and rolls, as the code reads them.
-use Rattle.std.proofs.Common.{◌≡◌, ℕ, suc, ◌+◌, ◌-◌, ◌<◌, ◌≤◌, Bool, true, false, ◌&&◌, List, [], ◌∷◌, length, Option, Some, None, Ok, Err, refl, sym, subst, ◌∙◌, arith}
+use Rattle.std.proofs.Common.{◌≡◌, ℕ, suc, ◌+◌, ◌-◌, ◌<◌, ◌≤◌, true, false, List, ◌∷◌, length, Some, None, Ok, Err, refl, sym, subst, ◌∙◌, arith}
 use Rattle.std.specs.Prelude.{Result, nat_eq}
-use Rattle.reading.specs.Reading.{Read, done, bind, on_head, item}
+use Rattle.reading.specs.Reading.{Read, done, on_head, item}
 use Rattle.reading.specs.Placed.{bind_at}
-use Rattle.reading.proofs.Pairs.{Free, head_free}
+use Rattle.reading.proofs.Pairs.{head_free}
 use Rattle.macro_parse.specs.declared.nodes.Node.{Node}
 use Rattle.macro_parse.specs.declared.nodes.Address.{Address as FlatAddress}
 use Rattle.macro_parse.specs.declared.nodes.Branch.{Branch as FlatBranch}
@@ -15,18 +15,18 @@ use Rattle.macro_parse.specs.declared.reader.Stop.{Stop}
 use Rattle.macro_parse.specs.declared.reader.Stop.TheVariants.{Off, Memory}
 use Rattle.macro_parse.specs.declared.rolls.First.{First}
 use Rattle.macro_parse.specs.declared.rolls.First.TheVariants.{ForWhom as FirstForWhom, OnWhat as FirstOnWhat}
-use Rattle.macro_parse.specs.Tree.{Tree, Address, Receivers, Hidden, Master, Runner, Both, Whisper, Branch, If, Count, Options, Addressed, Branched, AddressFirst, BranchFirst, Piece, Roll, FirstOption, ForWhom, OnWhat}
-use Rattle.macro_parse.specs.Grammar.{DiceFit, has_if}
-use Rattle.macro_parse.specs.Readers.{statement_at, address_word_at, branch_word_at, first_word_at, between_at, second_option, alone, options_at, letter_at, roll_end, roll_at}
-use Rattle.macro_parse.specs.Limits.{AddressFits, BranchFits, FirstFits, OptionsFit, PieceFits}
-use Rattle.macro_parse.specs.Flat.{Shows, Keeps, NodesFit, Puts, Finds, place}
+use Rattle.macro_grammar.specs.Tree.{Tree, Address, Receivers, Hidden, Master, Runner, Both, Whisper, Branch, If, Count, Options, Addressed, Branched, AddressFirst, BranchFirst, Piece, Roll, FirstOption, ForWhom, OnWhat}
+use Rattle.macro_grammar.specs.Grammar.{has_if}
+use Rattle.macro_grammar.specs.Readers.{statement_at, address_word_at, branch_word_at, first_word_at, between_at, second_option, alone, options_at, letter_at, roll_end, roll_at}
+use Rattle.macro_grammar.specs.Limits.{AddressFits, BranchFits, FirstFits, OptionsFit, PieceFits}
+use Rattle.macro_parse.specs.Flat.{Shows, Keeps, Puts, Finds, place}
 use Rattle.macro_parse.specs.FlatPieces.{ShowsAddress, ShowsBranch, ShowsFirst, ShowsOptions, ShowsPiece, Adds, AddsRoll}
 use Rattle.macro_parse.specs.Found.{Expects}
 use Rattle.macro_parse.proofs.FlatTrees.{shows_kept, keeps_itself, keeps_then}
 use Rattle.macro_parse.proofs.Finding.{finds_as, finds_then, stops_then}
 use Rattle.macro_parse.proofs.Scans.{takes_at, took, left}
-use Rattle.macro_parse.proofs.Unaries.{and_false}
-use Rattle.macro_parse.proofs.OptionWords.{same_byte}
+use Rattle.macro_grammar.proofs.Unaries.{and_false}
+use Rattle.macro_grammar.proofs.OptionWords.{same_byte}
 
 -- ---- what stood in the old nodes still stands
 

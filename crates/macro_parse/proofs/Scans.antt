@@ -10,8 +10,8 @@ use Rattle.reading.proofs.Laws.{Fate}
 use Rattle.reading.proofs.Number.{reads_number}
 use Rattle.reading.proofs.Pairs.{got, none_some_pair, same_pair, eq_means, Free}
 use Rattle.reading.specs.Placed.{many_at}
-use Rattle.macro_parse.specs.Readers.{is_blank, blanks_at, is_letter, is_name_byte, name_at, inside_at, quoted_at}
-use Rattle.macro_parse.specs.Tree.{Tree, Quoted}
+use Rattle.macro_grammar.specs.Readers.{is_blank, blanks_at, is_letter, is_name_byte, name_at, inside_at, quoted_at}
+use Rattle.macro_grammar.specs.Tree.{Tree, Quoted}
 use Rattle.macro_parse.specs.Found.{in_front, with_bytes}
 
 abbrev pub Skips : List ℕ → List ℕ → Type 0

@@ -2,12 +2,12 @@
 -- grammar, with dice off their limits.
 use Rattle.std.specs.Prelude.{ℕ, List}
 use Rattle.reading.specs.Reading.{IsLongest}
-use Rattle.macro_parse.specs.declared.texts.Macro.{Macro}
+use Rattle.macro_parse.specs.declared.macros.Macro.{Macro}
 use Rattle.macro_parse.specs.declared.texts.MacroParseFault.{MacroParseFault}
 use Rattle.macro_parse.specs.declared.texts.MacroParseFault.TheVariants.{MacroSyntax, DiceLimit, Memory}
-use Rattle.macro_parse.specs.Tree.{Piece}
-use Rattle.macro_parse.specs.Grammar.{IsMacro}
-use Rattle.macro_parse.specs.Limits.{PiecesFit}
+use Rattle.macro_grammar.specs.Tree.{Piece}
+use Rattle.macro_grammar.specs.Grammar.{IsMacro}
+use Rattle.macro_grammar.specs.Limits.{PiecesFit}
 use Rattle.macro_parse.specs.FlatPieces.{ShowsPieces}
 
 -- a text spells pieces in which 32 may nest

@@ -1,5 +1,5 @@
 -- Trees as they stand in a list of nodes.
-use Rattle.std.specs.Prelude.{◌≡◌, ℕ, ◌<◌, ◌-◌, List, [], ◌∷◌, ◌++◌, length, Option, Some, None, Result, Ok, Err, All, slice_get}
+use Rattle.std.specs.Prelude.{◌≡◌, ℕ, ◌<◌, ◌-◌, List, [], ◌∷◌, ◌++◌, length, Some, None, Result, Ok, Err, All, slice_get}
 use Rattle.std.specs.Global.{Vec}
 use Rattle.reading.specs.Reading.{Read}
 use Rattle.dice_parse.specs.Grammar.{GroupFits}
@@ -8,8 +8,8 @@ use Rattle.macro_parse.specs.declared.nodes.Node.TheVariants.{Number as NumberNo
 use Rattle.macro_parse.specs.declared.nodes.Arguments.TheVariants.{Nothing, One, Two, Three}
 use Rattle.macro_parse.specs.declared.reader.Stop.{Stop}
 use Rattle.macro_parse.specs.declared.reader.Stop.TheVariants.{Off, Memory}
-use Rattle.macro_parse.specs.Tree.{Tree, Number, Dice, Quoted, Name, Call0, Call1, Call2, Call3, Negated, Inverted, Binary, Assigned}
-use Rattle.macro_parse.specs.Grammar.{DiceFit}
+use Rattle.macro_grammar.specs.Tree.{Tree, Number, Dice, Quoted, Name, Call0, Call1, Call2, Call3, Negated, Inverted, Binary, Assigned}
+use Rattle.macro_grammar.specs.Grammar.{DiceFit}
 
 -- the node at i and those below it stand for the tree; a node stands behind its parts
 abbrev pub Shows : List Node → ℕ → Tree → Type 0

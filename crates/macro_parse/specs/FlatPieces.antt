@@ -12,9 +12,9 @@ use Rattle.macro_parse.specs.declared.nodes.Piece.{Piece as FlatPiece}
 use Rattle.macro_parse.specs.declared.nodes.Piece.TheVariants.{Plain as FlatPlain, Roll as FlatRoll}
 use Rattle.macro_parse.specs.declared.rolls.First.{First}
 use Rattle.macro_parse.specs.declared.rolls.First.TheVariants.{ForWhom as FirstForWhom, OnWhat as FirstOnWhat}
-use Rattle.macro_parse.specs.Tree.{Tree, Address, Receivers, Hidden, Master, Runner, Both, Whisper, Branch, If, Count, Options, Addressed, Branched, AddressFirst, BranchFirst, Piece, Plain, Roll, FirstOption, ForWhom, OnWhat}
-use Rattle.macro_parse.specs.Grammar.{DiceFit}
-use Rattle.macro_parse.specs.Limits.{OptionsFit, PieceFits}
+use Rattle.macro_grammar.specs.Tree.{Tree, Address, Receivers, Hidden, Master, Runner, Both, Whisper, Branch, If, Count, Options, Addressed, Branched, AddressFirst, BranchFirst, Piece, Plain, Roll, FirstOption, ForWhom, OnWhat}
+use Rattle.macro_grammar.specs.Grammar.{DiceFit}
+use Rattle.macro_grammar.specs.Limits.{OptionsFit, PieceFits, PiecesFit}
 use Rattle.macro_parse.specs.Flat.{Shows, Keeps, NodesFit}
 
 abbrev pub ShowsAddress : List Node → FlatAddress → Address → Type 0
@@ -49,6 +49,10 @@ ShowsPieces nodes [] [] = Unit {0}
 ShowsPieces nodes [] (t ∷ ts) = ⊥
 ShowsPieces nodes (p ∷ ps) [] = ⊥
 ShowsPieces nodes (p ∷ ps) (t ∷ ts) = ShowsPiece nodes p t × ShowsPieces nodes ps ts
+
+-- the nodes and pieces stand for some pieces, whose dice are within their limits
+abbrev pub StandForPieces : List Node → List FlatPiece → Type 0
+StandForPieces nodes ps = (ts : List Piece) × ShowsPieces nodes ps ts × PiecesFit ts
 
 -- nodes were put behind the old ones, so that v stands for t; no dice came but t's
 pub record Adds {V T : Type 0} (Shown : List Node → V → T → Type 0) (Fits : T → Type 0) (old new : List Node) (v : V) (t : T) : Type 0 where

@@ -4,19 +4,19 @@ use Rattle.std.specs.Global.{Vec}
 use Rattle.reading.specs.Reading.{Read, on_head, item}
 use Rattle.macro_parse.specs.declared.nodes.Node.{Node}
 use Rattle.macro_parse.specs.declared.nodes.Node.TheVariants.{Call as CallNode}
-use Rattle.macro_parse.specs.declared.nodes.Function.{Function}
+use Rattle.macro_grammar.specs.declared.words.Function.{Function}
 use Rattle.macro_parse.specs.declared.nodes.Arguments.{Arguments}
 use Rattle.macro_parse.specs.declared.reader.Stop.{Stop}
 use Rattle.macro_parse.specs.declared.reader.Stop.TheVariants.{Off, Memory}
 use Rattle.macro_parse.specs.declared.expressions.Sign.{Sign}
 use Rattle.macro_parse.specs.declared.expressions.Sign.TheVariants.{Minus, Not}
-use Rattle.macro_parse.specs.Grammar.{arity}
-use Rattle.macro_parse.specs.Readers.{inside_at, name_at, function_of, called_at, arguments_at, expr_at, bytes_at}
+use Rattle.macro_grammar.specs.Grammar.{arity}
+use Rattle.macro_grammar.specs.Readers.{inside_at, name_at, function_of, called_at, arguments_at, expr_at, bytes_at}
 use Rattle.macro_parse.specs.Flat.{Kept, Puts, Finds, place}
 use Rattle.macro_parse.specs.Levels.{nests}
 use Rattle.macro_parse.specs.declared.atoms.Numeral.{Numeral}
 use Rattle.macro_parse.specs.declared.atoms.Numeral.TheVariants.{Number as ANumber, Dice as SomeDice}
-use Rattle.macro_parse.specs.Tree.{Tree, Number, Dice, Quoted, Name}
+use Rattle.macro_grammar.specs.Tree.{Tree, Number, Dice, Quoted, Name}
 
 abbrev pub numeral_tree : ℕ → Option Numeral → Option Tree
 numeral_tree at None = None

@@ -2,7 +2,7 @@
 use Rattle.std.specs.Prelude.{◌≡◌, ℕ, zero, suc, ◌<◌, Bool, true, false, List, [], ◌∷◌, length, Option, Some, None, Result, Ok, Err, nat_eq}
 use Rattle.reading.specs.Reading.{Read, done, on_head}
 use Rattle.reading.specs.Placed.{bind_at, more_at, chain_at}
-use Rattle.macro_parse.specs.declared.nodes.Operator.{Operator}
+use Rattle.macro_grammar.specs.declared.words.Operator.{Operator}
 use Rattle.macro_parse.specs.declared.levels.Level.{Level}
 use Rattle.macro_parse.specs.declared.levels.Level.TheVariants.{Or, And, Compare, Sum, Product}
 use Rattle.macro_parse.specs.declared.levels.Next.{Next}
@@ -11,8 +11,8 @@ use Rattle.macro_parse.specs.declared.nodes.Node.{Node}
 use Rattle.macro_parse.specs.declared.reader.Stop.{Stop}
 use Rattle.macro_parse.specs.declared.reader.Stop.TheVariants.{Off, Memory}
 use Rattle.macro_parse.specs.Flat.{Grows, place}
-use Rattle.macro_parse.specs.Tree.{Tree, Binary}
-use Rattle.macro_parse.specs.Readers.{is_product, product_operator_at, is_sum, sum_operator_at, is_compare, compare_operator_at, and_operator_at, or_operator_at, product_at, sum_at, compared_at, conjunction_at, compared_with, then_blanks, word_at, expression_at, after_word, nothing_at, unary_at}
+use Rattle.macro_grammar.specs.Tree.{Tree, Binary}
+use Rattle.macro_grammar.specs.Readers.{is_product, product_operator_at, is_sum, sum_operator_at, is_compare, compare_operator_at, and_operator_at, or_operator_at, product_at, sum_at, compared_at, conjunction_at, compared_with, then_blanks, word_at, expression_at, after_word, nothing_at, unary_at}
 
 -- the first byte of an operator of the level
 abbrev pub test_of : Level → ℕ → Bool

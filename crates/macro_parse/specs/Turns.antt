@@ -5,11 +5,11 @@ use Rattle.macro_parse.specs.declared.nodes.Node.{Node}
 use Rattle.macro_parse.specs.declared.nodes.Piece.{Piece as FlatPiece}
 use Rattle.macro_parse.specs.declared.reader.Stop.{Stop}
 use Rattle.macro_parse.specs.declared.reader.Stop.TheVariants.{Off, Memory}
-use Rattle.macro_parse.specs.Tree.{Piece}
-use Rattle.macro_parse.specs.Readers.{plain_text, roll_at, pieces_at}
-use Rattle.macro_parse.specs.Limits.{PieceFits, PiecesFit}
+use Rattle.macro_grammar.specs.Tree.{Piece}
+use Rattle.macro_grammar.specs.Readers.{plain_text, roll_at, pieces_at}
+use Rattle.macro_grammar.specs.Limits.{PiecesFit}
 use Rattle.macro_parse.specs.Flat.{place}
-use Rattle.macro_parse.specs.FlatPieces.{ShowsPiece, ShowsPieces, Adds}
+use Rattle.macro_parse.specs.FlatPieces.{ShowsPieces, Adds}
 use Rattle.macro_parse.specs.Found.{with_bytes}
 
 -- one byte of plain text, or its end

@@ -2,7 +2,7 @@
 
 ghost use Rattle.std.specs.Prelude.{◌≡◌, ◌<◌, ◌≤◌, ◌^◌, ℕ, List, Some, IfOk, IfSome, length};
 ghost use Rattle.reading.specs.Reading.{item};
-ghost use Rattle.macro_parse.specs.Readers.{blanks_at, number_or_dice_at, is_letter, is_name_byte, name_at, quoted_at};
+ghost use Rattle.macro_grammar.specs.Readers.{blanks_at, number_or_dice_at, is_letter, is_name_byte, name_at, quoted_at};
 ghost use Rattle.macro_parse.specs.Found.{numeral_tree, bytes_of, InsideStep, quoted_tree};
 
 use dice_parse::{Group, die};
@@ -25,7 +25,7 @@ pub(crate) fn blanks(cursor: &mut Cursor<'_>)
 }
 
 /// A number, or dice where a `d` stands behind at most nine digits.
-#[tactic(auto, unfolding(crate::specs::Readers::number_or_dice_at))]
+#[tactic(auto, unfolding(macro_grammar::specs::Readers::number_or_dice_at))]
 pub(crate) fn number_or_dice(cursor: &mut Cursor<'_>) -> Option<Numeral>
     ensures { (at : ℕ) → number_or_dice_at at cursor.old.rest.now ≡ (numeral_tree at result, cursor.new.rest.now) }
 {

@@ -5,18 +5,18 @@
 
 ghost use Rattle.std.specs.Prelude.{◌≡◌, ◌≤◌, ◌<◌, ℕ, IfOk, IfSome, length};
 ghost use Rattle.reading.specs.Placed.{bind_at};
-ghost use Rattle.macro_parse.specs.Tree.{Tree};
-ghost use Rattle.macro_parse.specs.Grammar.{arity};
-ghost use Rattle.macro_parse.specs.Readers.{sum_at, compared_with, compared_at, number_or_dice_at, quoted_at, arguments_at, word_at, group_at, atom_at, inner_at, expression_at, unary_at, expr_at};
+ghost use Rattle.macro_grammar.specs.Tree.{Tree};
+ghost use Rattle.macro_grammar.specs.Grammar.{arity};
+ghost use Rattle.macro_grammar.specs.Readers.{sum_at, compared_with, compared_at, number_or_dice_at, quoted_at, arguments_at, word_at, group_at, atom_at, inner_at, expression_at, unary_at, expr_at};
 ghost use Rattle.macro_parse.specs.Flat.{Shows, Puts, PutsCall, Grows, Finds, place};
 ghost use Rattle.macro_parse.specs.Levels.{operand_of, level_at, more_of, Steps, nests, nested_at};
 ghost use Rattle.macro_parse.specs.Found.{FindsName, Prefixes, Argues, Calls, Closes};
 
 use crate::atoms::{Numeral, blanks, name, number_or_dice, quoted};
-use crate::functions::function_of;
 use crate::levels::{Level, Next, operator};
-use crate::nodes::{Arguments, Function, Node};
+use crate::nodes::{Arguments, Node};
 use crate::reader::{Reader, Stop, keep};
+use macro_grammar::{Function, function_of};
 use reading::Cursor;
 
 /// What stands before a unary.

@@ -3,7 +3,7 @@
 ghost use Rattle.std.specs.Prelude.{◌≡◌, ◌≤◌, length};
 ghost use Rattle.macro_parse.specs.Levels.{IsNext};
 
-use crate::nodes::Operator;
+use macro_grammar::Operator;
 use reading::Cursor;
 
 /// A level of an expression: what stands between operators of one strength. All but `Compare` are chains.
@@ -54,7 +54,7 @@ fn and_operator(cursor: &mut Cursor<'_>) -> Next
 }
 
 /// The longer of two operators is read, so `<=` is no `<`.
-#[tactic(auto, unfolding(crate::specs::Readers::compare_operator_at))]
+#[tactic(auto, unfolding(macro_grammar::specs::Readers::compare_operator_at))]
 fn compare_operator(cursor: &mut Cursor<'_>) -> Next
     ensures value { IsNext Level.Compare cursor.old.rest.now result cursor.new.rest.now }
     ensures shrinks { length cursor.new.rest.now ≤ length cursor.old.rest.now }

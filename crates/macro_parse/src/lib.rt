@@ -1,11 +1,13 @@
-//! Macro texts, read by their grammar.
+//! Macro texts, read by their grammar into flat nodes.
+//!
+//! `macro_grammar` has the grammar and its readers on lists. Here each reader is a function that moves a cursor and puts nodes
+//! behind those read before, with a contract that it gives what the reader on lists gives (`Finds` of `specs/Flat`).
 #![tactic(auto)]
 
 mod atoms;
 mod expressions;
-mod functions;
-mod laws;
 mod levels;
+mod macros;
 mod nodes;
 mod pieces;
 mod reader;
@@ -13,9 +15,10 @@ mod rolls;
 mod statements;
 mod texts;
 
-pub use laws::one_reading;
-pub use nodes::{Address, Arguments, Branch, Function, Node, Operator, Options, Piece};
-pub use texts::{Macro, MacroParseFault, read_macro};
+pub use macro_grammar::{Function, Operator, one_reading};
+pub use macros::Macro;
+pub use nodes::{Address, Arguments, Branch, Node, Options, Piece};
+pub use texts::{MacroParseFault, read_macro};
 
 #[cfg(test)]
 mod tests;

@@ -1,42 +1,7 @@
 //! What macros are made of.
 
 use dice_parse::Group;
-
-/// Operators between two values, from the weakest to the strongest.
-#[derive(Clone, Copy, Debug, PartialEq, Eq)]
-pub enum Operator {
-    Or,
-    And,
-    Equal,
-    NotEqual,
-    LessOrEqual,
-    GreaterOrEqual,
-    Less,
-    Greater,
-    Add,
-    Subtract,
-    Multiply,
-    Divide,
-    Remainder,
-}
-
-/// The functions that a macro may call.
-#[derive(Clone, Copy, Debug, PartialEq, Eq)]
-pub enum Function {
-    Prop,
-    Own,
-    Secret,
-    Has,
-    SetProp,
-    SetOwn,
-    Arg,
-    Argc,
-    Min,
-    Max,
-    Abs,
-    Len,
-    Num,
-}
+use macro_grammar::{Function, Operator};
 
 /// The arguments of a call, as indices of nodes.
 #[derive(Clone, Copy, Debug, PartialEq, Eq)]

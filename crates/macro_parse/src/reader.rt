@@ -2,7 +2,7 @@
 
 ghost use Rattle.std.specs.Prelude.{◌≡◌, ◌≤◌, ◌<◌, IfOk, IfErr, OnOk, length, nat_eq};
 ghost use Rattle.macro_parse.specs.Flat.{Kept, place};
-ghost use Rattle.macro_parse.specs.Readers.{is_letter};
+ghost use Rattle.macro_grammar.specs.Readers.{is_letter};
 ghost use Rattle.macro_parse.specs.Levels.{HeadIs};
 ghost use Rattle.macro_parse.specs.Found.{Expects};
 

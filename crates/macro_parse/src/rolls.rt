@@ -2,10 +2,10 @@
 
 ghost use Rattle.std.specs.Prelude.{◌≡◌, ◌≤◌, ◌<◌, ◌-◌, ℕ, OnOk, List, [], ◌∷◌, length};
 ghost use Rattle.macro_parse.specs.declared.nodes.Node.{Node};
-ghost use Rattle.macro_parse.specs.Tree.{Tree, Options as TheOptions};
-ghost use Rattle.macro_parse.specs.Grammar.{has_if};
-ghost use Rattle.macro_parse.specs.Readers.{is_branch_letter, address_word_at, branch_word_at, first_word_at, between_at, options_at, roll_end, roll_at};
-ghost use Rattle.macro_parse.specs.Limits.{AddressFits, BranchFits, FirstFits, OptionsFit, PieceFits};
+ghost use Rattle.macro_grammar.specs.Tree.{Tree, Options as TheOptions};
+ghost use Rattle.macro_grammar.specs.Grammar.{has_if};
+ghost use Rattle.macro_grammar.specs.Readers.{is_branch_letter, address_word_at, branch_word_at, first_word_at, between_at, options_at, roll_end, roll_at};
+ghost use Rattle.macro_grammar.specs.Limits.{AddressFits, BranchFits, FirstFits, OptionsFit, PieceFits};
 ghost use Rattle.macro_parse.specs.Flat.{Shows, Finds, place};
 ghost use Rattle.macro_parse.specs.FlatPieces.{ShowsAddress, ShowsBranch, ShowsFirst, ShowsOptions, ShowsPiece, Adds, AddsRoll};
 ghost use Rattle.macro_parse.specs.Levels.{HeadIs};

@@ -4,15 +4,16 @@
 //! first, and the rest of an expression behind it then.
 
 ghost use Rattle.std.specs.Prelude.{◌≡◌, ◌≤◌, ◌<◌, ◌-◌, ℕ, length};
-ghost use Rattle.macro_parse.specs.Tree.{Tree};
-ghost use Rattle.macro_parse.specs.Readers.{expression_from, equal_from, after_name, statement_at, unary_at};
+ghost use Rattle.macro_grammar.specs.Tree.{Tree};
+ghost use Rattle.macro_grammar.specs.Readers.{expression_from, equal_from, after_name, statement_at, unary_at};
 ghost use Rattle.macro_parse.specs.Flat.{Shows, Puts, Grows, Finds, place};
 ghost use Rattle.macro_parse.specs.Levels.{ands_from, compares_from, sums_from, named_at};
 
 use crate::atoms::blanks;
 use crate::levels::Level;
-use crate::nodes::{Node, Operator};
+use crate::nodes::Node;
 use crate::reader::{Reader, Stop, keep};
+use macro_grammar::Operator;
 
 impl Reader<'_> {
     /// The rest of an expression behind its first comparison.

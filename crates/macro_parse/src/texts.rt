@@ -4,33 +4,11 @@ ghost use Rattle.std.specs.Prelude.{◌≡◌, ◌↔◌, IsTrue, IfOk, IfErr};
 ghost use Rattle.macro_parse.specs.Flat.{NodeFits, NodesFit};
 ghost use Rattle.macro_parse.specs.Faults.{IsReadFrom, IsFaultOf};
 
-use crate::nodes::{Node, Piece};
+use crate::macros::Macro;
+use crate::nodes::Node;
 use crate::reader::{Reader, Stop};
 use reading::Cursor;
 use std::alloc::Global;
-
-/// Pieces over one list of nodes. Contracts see it as the trees that its nodes stand for.
-#[derive(Debug, Drop)]
-pub struct Macro {
-    pieces: Vec<Piece>,
-    nodes: Vec<Node>,
-}
-
-impl Macro {
-    /// The pieces in their order.
-    pub fn pieces(&self) -> &[Piece]
-        ensures { result.now ≡ self.now.pieces.items }
-    {
-        self.pieces.as_slice()
-    }
-
-    /// The nodes that the pieces and other nodes name by their indices. A node stands behind its parts.
-    pub fn nodes(&self) -> &[Node]
-        ensures { result.now ≡ self.now.nodes.items }
-    {
-        self.nodes.as_slice()
-    }
-}
 
 /// Why a text isn't read as a macro.
 #[derive(Clone, Copy, Debug, PartialEq, Eq)]

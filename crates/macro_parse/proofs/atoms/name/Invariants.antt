@@ -1,6 +1,6 @@
 use Rattle.std.proofs.Common.{◌≡◌, ◌≤◌, ◌-◌, length}
 use Rattle.reading.specs.Placed.{many_at}
-use Rattle.macro_parse.specs.Readers.{is_name_byte, name_at}
+use Rattle.macro_grammar.specs.Readers.{is_name_byte, name_at}
 use Rattle.macro_parse.specs.Found.{with_bytes}
 use Rattle.macro_parse.proofs.atoms.name.Given as goal
 

@@ -1,4 +1,4 @@
-use Rattle.std.proofs.Common.{◌≡◌, ◌∷◌, arith}
+use Rattle.std.proofs.Common.{arith}
 use Rattle.macro_parse.proofs.Comparing.{at_most, at_least, below, above}
 use Rattle.macro_parse.proofs.levels.compare_operator.Goals as goal
 

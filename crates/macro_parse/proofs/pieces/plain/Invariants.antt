@@ -1,5 +1,5 @@
 use Rattle.std.proofs.Common.{◌≡◌, ◌≤◌, false, length}
-use Rattle.macro_parse.specs.Readers.{plain_text}
+use Rattle.macro_grammar.specs.Readers.{plain_text}
 use Rattle.macro_parse.specs.Found.{with_bytes}
 use Rattle.macro_parse.proofs.pieces.plain.Given as goal
 

@@ -1,5 +1,5 @@
 use Rattle.std.proofs.Common.{◌≡◌, true, refl, arith}
-use Rattle.macro_parse.specs.Grammar.{is_bracket}
+use Rattle.macro_grammar.specs.Grammar.{is_bracket}
 use Rattle.macro_parse.proofs.PiecesFound.{plain_itself, plain_escaped}
 use Rattle.macro_parse.proofs.pieces.plain_byte.Goals.{else-second-ne91-via-then-second-ne91+then-second-ne93+else-second-ne92, else-second-ne91-via-then-second-ne91+else-second-ne93, else-second-ne91-via-else-second-ne91}
 use Rattle.macro_parse.proofs.pieces.plain_byte.Goals as goal

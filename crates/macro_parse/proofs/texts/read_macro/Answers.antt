@@ -22,3 +22,9 @@ returns-clause-read c =
     let k = text_read 31 c.in-Ok.end c.as_bytes-bytes.result.now c.pieces.new.self.cursor.rest.now c.new.result.items c.pieces.new.self.nodes.items c.in-Ok.ensures.1 c.new.ensures.items c.in-Ok-pieces.pieces c.in-Ok-pieces.ensures.value in
     let fit = rw c.deref.ensures.value at (c.if-not-all_fit.ensures.0 refl) in
     (k.0, rw (← c.as_bytes-bytes.ensures.value) k.1, k.2, pieces_fit c.pieces.new.self.nodes.items c.in-Ok-pieces.pieces.items k.0 fit k.2)
+
+pub invariant_of-result : goal.invariant_of-result
+invariant_of-result c =
+    let k = text_read 31 c.in-Ok.end c.as_bytes-bytes.result.now c.pieces.new.self.cursor.rest.now c.new.result.items c.pieces.new.self.nodes.items c.in-Ok.ensures.1 c.new.ensures.items c.in-Ok-pieces.pieces c.in-Ok-pieces.ensures.value in
+    let fit = rw c.deref.ensures.value at (c.if-not-all_fit.ensures.0 refl) in
+    record { shown = ∣ (k.0, k.2, pieces_fit c.pieces.new.self.nodes.items c.in-Ok-pieces.pieces.items k.0 fit k.2) ∣₁ }

@@ -1,11 +1,11 @@
-use Rattle.std.proofs.Common.{◌≡◌, ◌≤◌, ◌-◌, ℕ, suc, length, Err, refl, sym, subst, ◌∙◌, arith}
-use Rattle.macro_parse.specs.Grammar.{arity}
-use Rattle.macro_parse.specs.Readers.{unary_at, sum_at, compared_with, number_or_dice_at, quoted_at, group_at, expression_at, expr_at}
+use Rattle.std.proofs.Common.{◌≡◌, ◌-◌, ℕ, suc, Err, refl, sym, subst, ◌∙◌, arith}
+use Rattle.macro_grammar.specs.Grammar.{arity}
+use Rattle.macro_grammar.specs.Readers.{unary_at, sum_at, compared_with, number_or_dice_at, quoted_at, group_at, expression_at, expr_at}
 use Rattle.macro_parse.specs.Flat.{Puts, PutsCall, Grows, place}
 use Rattle.macro_parse.specs.Levels.{operand_of, more_of, Steps, nests, nested_at}
-use Rattle.macro_parse.proofs.FlatTrees.{grows_itself, grows_grows}
+use Rattle.macro_parse.proofs.FlatTrees.{grows_grows}
 use Rattle.macro_parse.proofs.Finding.{finds_as, finds_residual, finds_weaker, puts_then_grows}
-use Rattle.macro_parse.proofs.Loops.{so_far_first, so_far_next, so_far_end, so_far_stop}
+use Rattle.macro_parse.proofs.Loops.{so_far_next, so_far_end, so_far_stop}
 use Rattle.macro_parse.proofs.Chains.{step_found, step_stops, step_residual, compare_stops, compare_none, compare_found}
 use Rattle.macro_parse.proofs.Inside.{inner_of, atom_of, word_of, unary_finds, inner_atom, inner_atom_stops, sign_stops, negated_found, inverted_found, atom_digit, atom_quote, atom_group, atom_word, atom_end, no_digit, not_same, no_group, group_closed, group_open, group_stops}
 use Rattle.macro_parse.proofs.CallsFound.{word_stops, word_kept, word_calls, args_of, nothing_open, nothing_closed, first_stops, one_closed, second_stops, two_closed, third_stops, three_closed}

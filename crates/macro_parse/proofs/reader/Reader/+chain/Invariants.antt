@@ -1,5 +1,5 @@
 use Rattle.std.proofs.Common.{◌≡◌, ◌≤◌, ◌+◌, ◌*◌, length}
-use Rattle.macro_parse.specs.Tree.{Tree}
+use Rattle.macro_grammar.specs.Tree.{Tree}
 use Rattle.macro_parse.specs.Flat.{Shows, Grows}
 use Rattle.macro_parse.proofs.Loops.{rank, SoFar}
 use Rattle.macro_parse.proofs.reader.Reader.+chain.Given as goal

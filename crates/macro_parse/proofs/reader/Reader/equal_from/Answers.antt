@@ -1,4 +1,4 @@
-use Rattle.macro_parse.proofs.AfterNames.{equal_found, after_none, after_equal, value_stops, value_found, named_stops, named_alone, named_call_stops, named_call, statement_named, statement_other}
+use Rattle.macro_parse.proofs.AfterNames.{equal_found}
 use Rattle.macro_parse.proofs.reader.Reader.equal_from.Goals as goal
 
 pub returns-clause-value : goal.returns-clause-value

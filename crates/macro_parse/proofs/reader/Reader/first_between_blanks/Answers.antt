@@ -1,10 +1,8 @@
-use Rattle.std.proofs.Common.{◌≡◌, ◌-◌, suc, refl, sym, ◌∙◌, arith}
-use Rattle.macro_parse.specs.Readers.{address_word_at, branch_word_at, first_word_at, between_at}
-use Rattle.macro_parse.specs.Limits.{AddressFits, BranchFits, FirstFits, OptionsFit, PieceFits}
-use Rattle.macro_parse.specs.Flat.{Puts, place}
-use Rattle.macro_parse.specs.FlatPieces.{ShowsAddress, ShowsBranch, ShowsFirst, ShowsOptions, ShowsPiece, Adds}
-use Rattle.macro_parse.proofs.Finding.{finds_residual}
-use Rattle.macro_parse.proofs.RollsFound.{receivers_found, hidden_found, runner_found, both_found, master_found, whisper_found, whisper_stops, address_end, address_off, if_found, count_found, if_stops, count_stops, if_word_stops, count_word_stops, first_branch, first_address, first_branch_stops, first_address_stops, between_found, between_stops}
+use Rattle.std.proofs.Common.{◌-◌}
+use Rattle.macro_grammar.specs.Readers.{first_word_at}
+use Rattle.macro_grammar.specs.Limits.{FirstFits}
+use Rattle.macro_parse.specs.FlatPieces.{ShowsFirst, Adds}
+use Rattle.macro_parse.proofs.RollsFound.{between_found}
 use Rattle.macro_parse.proofs.reader.Reader.first_between_blanks.Goals as goal
 
 pub returns-clause-value : goal.returns-clause-value

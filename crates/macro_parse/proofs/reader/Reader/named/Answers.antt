@@ -1,9 +1,8 @@
-use Rattle.std.proofs.Common.{◌≡◌, ◌-◌, suc, refl, sym, ◌∙◌, arith}
-use Rattle.macro_parse.specs.Readers.{unary_at, sum_at, compared_with, expression_from, equal_from, after_name, expression_at, statement_at}
-use Rattle.macro_parse.specs.Flat.{Puts, PutsCall, Grows, place}
-use Rattle.macro_parse.specs.Levels.{more_of, ands_from, compares_from, sums_from, named_at}
-use Rattle.macro_parse.proofs.Finding.{grows_then_grows, stops_then, finds_residual}
-use Rattle.macro_parse.proofs.AfterNames.{equal_found, after_none, after_equal, value_stops, value_found, named_stops, named_alone, named_call_stops, named_call, statement_named, statement_other}
+use Rattle.std.proofs.Common.{◌∙◌}
+use Rattle.macro_parse.specs.Flat.{Puts, PutsCall, place}
+use Rattle.macro_parse.specs.Levels.{named_at}
+use Rattle.macro_parse.proofs.Finding.{finds_residual}
+use Rattle.macro_parse.proofs.AfterNames.{named_stops, named_alone, named_call_stops, named_call}
 use Rattle.macro_parse.proofs.reader.Reader.named.Goals as goal
 
 pub returns-in_err-name-clause-value : goal.returns-in_err-name-clause-value

@@ -1,13 +1,12 @@
-use Rattle.std.proofs.Common.{Some}
 use Rattle.macro_parse.specs.declared.nodes.Node.TheVariants.{Number as NumberNode, Dice as DiceNode}
-use Rattle.macro_parse.specs.Tree.{Number, Dice}
-use Rattle.macro_parse.specs.Grammar.{IsLeaf}
-use Rattle.macro_parse.specs.Readers.{number_or_dice_at}
+use Rattle.macro_grammar.specs.Tree.{Number, Dice}
+use Rattle.macro_grammar.specs.Grammar.{IsLeaf}
+use Rattle.macro_grammar.specs.Readers.{number_or_dice_at}
 use Rattle.macro_parse.specs.Found.{numeral_tree}
 use Rattle.macro_parse.specs.Flat.{Puts, place}
 use Rattle.macro_parse.proofs.FlatTrees.{put_number, put_dice}
 use Rattle.macro_parse.proofs.Finding.{read_shrinks, finds_kept}
-use Rattle.macro_parse.proofs.Leaves.{reads_number_or_dice}
+use Rattle.macro_grammar.proofs.Leaves.{reads_number_or_dice}
 use Rattle.macro_parse.proofs.reader.Reader.number.Goals as goal
 
 pub returns-in-None-clause-shrinks : goal.returns-in-None-clause-shrinks

@@ -1,6 +1,6 @@
 use Rattle.std.proofs.Common.{◌≡◌, ◌≤◌, ◌-◌, List, length}
-use Rattle.macro_parse.specs.Tree.{Piece}
-use Rattle.macro_parse.specs.Limits.{PiecesFit}
+use Rattle.macro_grammar.specs.Tree.{Piece}
+use Rattle.macro_grammar.specs.Limits.{PiecesFit}
 use Rattle.macro_parse.specs.FlatPieces.{ShowsPieces, Adds}
 use Rattle.macro_parse.proofs.PiecesFound.{TurnsSoFar}
 use Rattle.macro_parse.proofs.reader.Reader.pieces.Given as goal

@@ -1,8 +1,7 @@
-use Rattle.macro_parse.specs.declared.levels.Level.TheVariants.{Or, And, Compare, Sum, Product}
-use Rattle.macro_parse.specs.Readers.{unary_at, sum_at, compared_with, expression_from, equal_from, after_name, expression_at, statement_at}
-use Rattle.macro_parse.specs.Flat.{Puts, PutsCall, Grows, place}
-use Rattle.macro_parse.specs.Levels.{more_of, ands_from, compares_from, sums_from, named_at}
-use Rattle.macro_parse.proofs.Finding.{grows_then_grows, stops_then, finds_residual}
+use Rattle.macro_parse.specs.declared.levels.Level.TheVariants.{Product}
+use Rattle.macro_grammar.specs.Readers.{unary_at}
+use Rattle.macro_parse.specs.Levels.{more_of, sums_from}
+use Rattle.macro_parse.proofs.Finding.{grows_then_grows}
 use Rattle.macro_parse.proofs.reader.Reader.products_from.Goals as goal
 
 pub returns-clause-value : goal.returns-clause-value

@@ -1,7 +1,6 @@
-use Rattle.std.proofs.Common.{Some}
 use Rattle.macro_parse.specs.declared.nodes.Node.TheVariants.{Quoted as QuotedNode}
-use Rattle.macro_parse.specs.Tree.{Quoted}
-use Rattle.macro_parse.specs.Readers.{quoted_at}
+use Rattle.macro_grammar.specs.Tree.{Quoted}
+use Rattle.macro_grammar.specs.Readers.{quoted_at}
 use Rattle.macro_parse.specs.Flat.{Puts, place}
 use Rattle.macro_parse.proofs.FlatTrees.{put_quoted}
 use Rattle.macro_parse.proofs.Finding.{finds_kept}

@@ -1,7 +1,5 @@
-use Rattle.std.proofs.Common.{◌≡◌, ◌-◌, ℕ, List, [], ◌++◌, Err, refl, sym, subst, ◌∙◌, arith}
-use Rattle.macro_parse.specs.Flat.{place}
-use Rattle.macro_parse.specs.Turns.{TurnGives}
-use Rattle.macro_parse.proofs.PiecesFound.{plain_last, plain_then_roll, plain_then_stops, turn_residual, not_empty, is_empty, adds_none, adds_join, turns_first, turns_next, turns_end, turns_stop, pieces_residual}
+use Rattle.std.proofs.Common.{◌-◌}
+use Rattle.macro_parse.proofs.PiecesFound.{plain_last, plain_then_roll, plain_then_stops, turn_residual, not_empty, is_empty}
 use Rattle.macro_parse.proofs.reader.Reader.turn.Goals as goal
 
 pub returns-then-is_empty-2-clause-value : goal.returns-then-is_empty-2-clause-value

@@ -6,14 +6,14 @@ use Rattle.reading.specs.Reading.{Read, done, bind, on_head, item}
 use Rattle.reading.specs.Placed.{Grammar, bind_at}
 use Rattle.reading.proofs.Pairs.{Free, head_free}
 use Rattle.reading.proofs.Placed.{bind_at_is, on_head_at}
-use Rattle.macro_parse.specs.Tree.{Tree, Address, Receivers, Hidden, Master, Runner, Both, Whisper, Branch, If, Count, Options, Addressed, Branched, AddressFirst, BranchFirst, Piece, Plain, Roll, FirstOption, ForWhom, OnWhat}
-use Rattle.macro_parse.specs.Grammar.{IsStatement, IsAddressWord, IsBranchWord, BetweenBlanks, AreOptions, has_if, IsRoll}
-use Rattle.macro_parse.specs.Readers.{is_blank, blanks_at, bracketed_at, letter_at, address_word_at, bytes_at, branch_word_at, between_at, is_branch_letter, first_word_at, second_option, alone, options_at, statement_at, roll_end, roll_at}
-use Rattle.macro_parse.proofs.Names.{blanks_back}
-use Rattle.macro_parse.proofs.Unaries.{blanks_free, and_false}
-use Rattle.macro_parse.proofs.LevelWords.{is_expression}
-use Rattle.macro_parse.proofs.StatementsAgain.{statement_again, head_pass}
-use Rattle.macro_parse.proofs.OptionWords.{item_then_again, bracket_again, bytes_again, FirstWord}
+use Rattle.macro_grammar.specs.Tree.{Tree, Address, Receivers, Hidden, Master, Runner, Both, Whisper, Branch, If, Count, Options, Addressed, Branched, AddressFirst, BranchFirst, Piece, Plain, Roll, FirstOption, ForWhom, OnWhat}
+use Rattle.macro_grammar.specs.Grammar.{IsStatement, IsAddressWord, IsBranchWord, BetweenBlanks, AreOptions, has_if, IsRoll}
+use Rattle.macro_grammar.specs.Readers.{is_blank, blanks_at, bracketed_at, letter_at, address_word_at, bytes_at, branch_word_at, between_at, is_branch_letter, first_word_at, second_option, alone, options_at, statement_at, roll_end, roll_at}
+use Rattle.macro_grammar.proofs.Names.{blanks_back}
+use Rattle.macro_grammar.proofs.Unaries.{blanks_free, and_false}
+use Rattle.macro_grammar.proofs.LevelWords.{is_expression}
+use Rattle.macro_grammar.proofs.StatementsAgain.{statement_again, head_pass}
+use Rattle.macro_grammar.proofs.OptionWords.{item_then_again, bracket_again, bytes_again, FirstWord}
 
 module _ (depth turns : ℕ) where
   address_again : (at : ℕ) (a r : List ℕ) (x : Address) → IsAddressWord (suc depth) at a x → Free (nat_eq 115) r → length a < turns → address_word_at depth turns at (a ++ r) ≡ (Some x, r)

@@ -9,10 +9,10 @@ use Rattle.reading.proofs.Pairs.{eq_means, Free}
 use Rattle.reading.proofs.Laws.{Fate, Reads, Sequence, reads_bind, reads_item, IsItem, SomeItem}
 use Rattle.reading.proofs.Combine.{Wrapped, reads_wrapped}
 use Rattle.reading.proofs.Number.{digit_means}
-use Rattle.macro_parse.specs.declared.nodes.Function.{Function}
-use Rattle.macro_parse.specs.declared.nodes.Function.TheVariants.{Prop, Own, Secret, Has, SetProp, SetOwn, Arg, Argc, Min, Max, Abs, Len, Num}
-use Rattle.macro_parse.specs.Grammar.{AreBlanks, IsLetter, AreNameBytes, IsName, function_name}
-use Rattle.macro_parse.specs.Readers.{is_blank, blanks_at, is_letter, is_name_byte, name_at, same_bytes, function_among, functions, function_of}
+use Rattle.macro_grammar.specs.declared.words.Function.{Function}
+use Rattle.macro_grammar.specs.declared.words.Function.TheVariants.{Prop, Own, Secret, Has, SetProp, SetOwn, Arg, Argc, Min, Max, Abs, Len, Num}
+use Rattle.macro_grammar.specs.Grammar.{AreBlanks, IsLetter, AreNameBytes, IsName, function_name}
+use Rattle.macro_grammar.specs.Readers.{is_blank, blanks_at, is_letter, is_name_byte, name_at, same_bytes, function_among, functions, function_of}
 
 abbrev pub TheBlanks : List ℕ → List ℕ → Type 0
 TheBlanks s x = AreBlanks s × (x ≡ s)

@@ -8,14 +8,14 @@ use Rattle.reading.proofs.Pairs.{eq_means}
 use Rattle.reading.proofs.Laws.{Reads, Sequence, reads_done, reads_bind, reads_as, reads_item, reads_head, IsItem}
 use Rattle.reading.proofs.Combine.{only, IsNothing, Wrapped, reads_wrapped}
 use Rattle.reading.proofs.Placed.{bind_at_is, reads_bind_at, Inhabited}
-use Rattle.macro_parse.specs.Tree.{Tree, Address, Receivers, Hidden, Master, Runner, Both, Whisper, Branch, If, Count, Options, Addressed, AddressFirst, BranchFirst, Piece, Roll, FirstOption, ForWhom, OnWhat}
-use Rattle.macro_parse.specs.Grammar.{IsExpr, IsStatement, IsAddressWord, IsBranchWord, BetweenBlanks, IsAddress, IsBranch, AreOptions, has_if, IsRoll}
-use Rattle.macro_parse.specs.Readers.{blanks_at, expr_at, closed, bracketed_at, letter_at, address_word_at, bytes_at, branch_word_at, between_at, is_branch_letter, first_word_at, second_option, alone, options_at, statement_at, roll_end, roll_at}
-use Rattle.macro_parse.proofs.Names.{TheBlanks, reads_blanks}
-use Rattle.macro_parse.proofs.Leaves.{and_left}
-use Rattle.macro_parse.proofs.Calls.{ThenAt, reads_then_at, Argument, reads_argument, reads_closed, some_closed, closed_is, argument_again}
-use Rattle.macro_parse.proofs.Unaries.{BlanksOf, reads_blanks_of, reads_expr, some_expr, expr_again}
-use Rattle.macro_parse.proofs.Assignments.{reads_statement}
+use Rattle.macro_grammar.specs.Tree.{Tree, Address, Receivers, Hidden, Master, Runner, Both, Whisper, Branch, If, Count, Options, Addressed, AddressFirst, BranchFirst, Piece, Roll, FirstOption, ForWhom, OnWhat}
+use Rattle.macro_grammar.specs.Grammar.{IsExpr, IsStatement, IsAddressWord, IsBranchWord, BetweenBlanks, IsAddress, IsBranch, AreOptions, has_if, IsRoll}
+use Rattle.macro_grammar.specs.Readers.{blanks_at, expr_at, closed, bracketed_at, letter_at, address_word_at, bytes_at, branch_word_at, between_at, is_branch_letter, first_word_at, second_option, alone, options_at, statement_at, roll_end, roll_at}
+use Rattle.macro_grammar.proofs.Names.{TheBlanks, reads_blanks}
+use Rattle.macro_grammar.proofs.Leaves.{and_left}
+use Rattle.macro_grammar.proofs.Calls.{ThenAt, reads_then_at, Argument, reads_argument, reads_closed, some_closed, closed_is, argument_again}
+use Rattle.macro_grammar.proofs.Unaries.{BlanksOf, reads_blanks_of, reads_expr, some_expr, expr_again}
+use Rattle.macro_grammar.proofs.Assignments.{reads_statement}
 
 -- ---- a byte before a word
 

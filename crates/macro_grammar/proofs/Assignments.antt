@@ -7,15 +7,15 @@ use Rattle.reading.proofs.Pairs.{eq_means}
 use Rattle.reading.proofs.Laws.{Reads, reads_as, reads_item, reads_head, IsItem}
 use Rattle.reading.proofs.Combine.{only, Wrapped, reads_wrapped}
 use Rattle.reading.proofs.Placed.{PlacedSequence, reads_bind_at, Inhabited}
-use Rattle.macro_parse.specs.declared.nodes.Operator.TheVariants.{Equal}
-use Rattle.macro_parse.specs.Tree.{Tree, Number, Dice, Quoted, Name, Call0, Call1, Call2, Call3, Negated, Inverted, Binary, Assigned}
-use Rattle.macro_parse.specs.Grammar.{AreBlanks, IsAtom, IsPrefixed, IsUnary, IsSum, IsExpression, IsExpr, IsStatement}
-use Rattle.macro_parse.specs.Readers.{blanks_at, is_letter, expression_at, unary_at, expr_at, word_at, then_blanks, expression_from, equal_from, after_name, after_word, statement_at}
-use Rattle.macro_parse.proofs.Names.{TheBlanks, reads_blanks}
-use Rattle.macro_parse.proofs.LevelWords.{some_sum, reads_expression, some_expression}
-use Rattle.macro_parse.proofs.Calls.{ThenAt, reads_then_at, IsWord, reads_word}
-use Rattle.macro_parse.proofs.Unaries.{WithBlanks, reads_then_blanks, reads_unary, some_unary, reads_expr, some_expr}
-use Rattle.macro_parse.proofs.FirstUnary.{AndsFrom, SumFrom, ProductFrom, UnaryFrom, EqualFrom, ands_end, unary_end, reads_expression_from, reads_equal_from, place_front, unary_join, first_unary}
+use Rattle.macro_grammar.specs.declared.words.Operator.TheVariants.{Equal}
+use Rattle.macro_grammar.specs.Tree.{Tree, Number, Dice, Quoted, Name, Call0, Call1, Call2, Call3, Negated, Inverted, Binary, Assigned}
+use Rattle.macro_grammar.specs.Grammar.{AreBlanks, IsAtom, IsPrefixed, IsUnary, IsSum, IsExpression, IsExpr, IsStatement}
+use Rattle.macro_grammar.specs.Readers.{blanks_at, is_letter, expression_at, unary_at, expr_at, word_at, then_blanks, expression_from, equal_from, after_name, after_word, statement_at}
+use Rattle.macro_grammar.proofs.Names.{TheBlanks, reads_blanks}
+use Rattle.macro_grammar.proofs.LevelWords.{some_sum, reads_expression, some_expression}
+use Rattle.macro_grammar.proofs.Calls.{ThenAt, reads_then_at, IsWord, reads_word}
+use Rattle.macro_grammar.proofs.Unaries.{WithBlanks, reads_then_blanks, reads_unary, some_unary, reads_expr, some_expr}
+use Rattle.macro_grammar.proofs.FirstUnary.{AndsFrom, SumFrom, ProductFrom, UnaryFrom, EqualFrom, ands_end, unary_end, reads_expression_from, reads_equal_from, place_front, unary_join, first_unary}
 
 module _ (unary : ℕ → Read Tree) (Unary : Grammar Tree) (reads_one : (at : ℕ) (s : List ℕ) → Reads (unary at) (Unary at) s) (some_one : Inhabited Unary) (turns : ℕ) where
   -- behind "=": the right side of an assignment, or another "=" and the rest of a comparison

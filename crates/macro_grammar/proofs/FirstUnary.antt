@@ -7,14 +7,14 @@ use Rattle.reading.specs.Placed.{Grammar, bind_at, more_at, Steps, Chain}
 use Rattle.reading.proofs.Pairs.{Free}
 use Rattle.reading.proofs.Laws.{Reads}
 use Rattle.reading.proofs.Placed.{bind_at_is, Inhabited, SomeSteps, reads_more, more_back}
-use Rattle.macro_parse.specs.declared.nodes.Operator.{Operator}
-use Rattle.macro_parse.specs.declared.nodes.Operator.TheVariants.{Equal}
-use Rattle.macro_parse.specs.Tree.{Tree, Binary}
-use Rattle.macro_parse.specs.Grammar.{IsProduct, IsSum, IsCompared, IsConjunction, IsExpression, OrOperator, AndOperator, SumOperator, ProductOperator}
-use Rattle.macro_parse.specs.Readers.{is_product, product_operator_at, is_sum, sum_operator_at, is_compare, and_operator_at, or_operator_at, product_at, sum_at, compared_with, compared_at, conjunction_at, expression_from, equal_from}
-use Rattle.macro_parse.proofs.Operators.{reads_product_operator, reads_sum_operator, reads_and_operator, reads_or_operator, product_back, sum_back, and_back, or_back, product_begins, sum_begins, and_begins, or_begins, compare_begins}
-use Rattle.macro_parse.proofs.LevelWords.{reads_product, some_product, reads_sum, AfterSum, reads_compared_with, reads_compared, some_compared, reads_conjunction, some_conjunction, is_inner, is_factor, is_term, is_side, is_conjunct, is_expression, free_left, free_right, product_again, no_comparison, comparison, compared_again, conjunction_again}
-use Rattle.macro_parse.proofs.Calls.{ThenAt, reads_then_at}
+use Rattle.macro_grammar.specs.declared.words.Operator.{Operator}
+use Rattle.macro_grammar.specs.declared.words.Operator.TheVariants.{Equal}
+use Rattle.macro_grammar.specs.Tree.{Tree, Binary}
+use Rattle.macro_grammar.specs.Grammar.{IsProduct, IsSum, IsCompared, IsConjunction, IsExpression, OrOperator, AndOperator, SumOperator, ProductOperator}
+use Rattle.macro_grammar.specs.Readers.{is_product, product_operator_at, is_sum, sum_operator_at, is_compare, and_operator_at, or_operator_at, product_at, sum_at, compared_with, compared_at, conjunction_at, expression_from, equal_from}
+use Rattle.macro_grammar.proofs.Operators.{reads_product_operator, reads_sum_operator, reads_and_operator, reads_or_operator, product_back, sum_back, and_back, or_back, product_begins, sum_begins, and_begins, or_begins, compare_begins}
+use Rattle.macro_grammar.proofs.LevelWords.{reads_product, some_product, reads_sum, AfterSum, reads_compared_with, reads_compared, some_compared, reads_conjunction, some_conjunction, is_inner, is_factor, is_term, is_side, is_conjunct, is_expression, free_left, free_right, product_again, no_comparison, comparison, compared_again, conjunction_again}
+use Rattle.macro_grammar.proofs.Calls.{ThenAt, reads_then_at}
 
 -- ---- behind the first unary of an expression
 

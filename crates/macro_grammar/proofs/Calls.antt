@@ -8,13 +8,13 @@ use Rattle.reading.proofs.Pairs.{eq_means, Free}
 use Rattle.reading.proofs.Laws.{Reads, reads_done, reads_bind, reads_as, reads_item, reads_head, IsItem}
 use Rattle.reading.proofs.Combine.{only, Wrapped, reads_wrapped}
 use Rattle.reading.proofs.Placed.{bind_at_is, PlacedSequence, reads_bind_at, Inhabited}
-use Rattle.macro_parse.specs.declared.nodes.Function.{Function}
-use Rattle.macro_parse.specs.declared.nodes.Function.TheVariants.{Prop, Own, Secret, Has, SetProp, SetOwn, Arg, Argc, Min, Max, Abs, Len, Num}
-use Rattle.macro_parse.specs.Tree.{Tree, Number, Dice, Quoted, Name, Call0, Call1, Call2, Call3, Negated, Inverted, Binary, Assigned}
-use Rattle.macro_parse.specs.Grammar.{IsName, function_name, arity, IsLeaf, IsCall, argument_place}
-use Rattle.macro_parse.specs.Readers.{is_name_byte, name_at, function_of, argument_at, closed, arguments_at, may_call, called_at, word_at}
-use Rattle.macro_parse.proofs.Names.{letter_means, TheName, reads_name, name_back, function_means, function_named}
-use Rattle.macro_parse.proofs.Leaves.{and_right}
+use Rattle.macro_grammar.specs.declared.words.Function.{Function}
+use Rattle.macro_grammar.specs.declared.words.Function.TheVariants.{Prop, Own, Secret, Has, SetProp, SetOwn, Arg, Argc, Min, Max, Abs, Len, Num}
+use Rattle.macro_grammar.specs.Tree.{Tree, Number, Dice, Quoted, Name, Call0, Call1, Call2, Call3, Negated, Inverted, Binary, Assigned}
+use Rattle.macro_grammar.specs.Grammar.{IsName, function_name, arity, IsLeaf, IsCall, argument_place}
+use Rattle.macro_grammar.specs.Readers.{is_name_byte, name_at, function_of, argument_at, closed, arguments_at, may_call, called_at, word_at}
+use Rattle.macro_grammar.proofs.Names.{letter_means, TheName, reads_name, name_back, function_means, function_named}
+use Rattle.macro_grammar.proofs.Leaves.{and_right}
 
 -- ---- separators and arguments
 

@@ -1,7 +1,7 @@
 -- All dice of a macro's pieces are within their limits.
 use Rattle.std.specs.Prelude.{List, [], ◌∷◌, Some, None}
-use Rattle.macro_parse.specs.Tree.{Address, Receivers, Hidden, Master, Runner, Both, Whisper, Branch, If, Count, Options, Addressed, Branched, AddressFirst, BranchFirst, Piece, Plain, Roll, FirstOption, ForWhom, OnWhat}
-use Rattle.macro_parse.specs.Grammar.{DiceFit}
+use Rattle.macro_grammar.specs.Tree.{Address, Receivers, Hidden, Master, Runner, Both, Whisper, Branch, If, Count, Options, Addressed, Branched, AddressFirst, BranchFirst, Piece, Plain, Roll, FirstOption, ForWhom, OnWhat}
+use Rattle.macro_grammar.specs.Grammar.{DiceFit}
 
 abbrev pub AddressFits : Address → Type 0
 AddressFits (Receivers p) = Unit {0}

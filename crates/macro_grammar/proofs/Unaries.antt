@@ -13,14 +13,14 @@ use Rattle.reading.proofs.Number.{means_digit}
 use Rattle.reading.proofs.Placed.{bind_at_is, PlacedSequence, reads_bind_at, Inhabited}
 use Rattle.dice_parse.specs.declared.parts.Group.{Group}
 use Rattle.dice_parse.specs.Groups.{IsCounted}
-use Rattle.macro_parse.specs.declared.nodes.Function.{Function}
-use Rattle.macro_parse.specs.Tree.{Tree, Number, Dice, Quoted, Name, Call0, Call1, Call2, Call3, Negated, Inverted, Binary, Assigned}
-use Rattle.macro_parse.specs.Grammar.{AreBlanks, IsLetter, IsName, IsLeaf, IsCall, IsGrouped, IsAtom, IsPrefixed, IsAtomBlanks, IsUnaryOf, IsNothing, IsUnary, IsExpression, IsExpr, IsQuoted, function_name}
-use Rattle.macro_parse.specs.Readers.{is_blank, blanks_at, is_letter, is_name_byte, number_or_dice_at, quoted_at, word_at, closed, group_at, atom_at, then_blanks, prefixed_at, inner_at, expression_at, unary_of_at, nothing_at, unary_at, expr_at}
-use Rattle.macro_parse.proofs.Names.{TheBlanks, reads_blanks, blanks_back, letter_test, letter_no_digit}
-use Rattle.macro_parse.proofs.LevelWords.{reads_expression, some_expression, is_inner, is_expression, expression_again, free_left, free_right}
-use Rattle.macro_parse.proofs.Leaves.{and_left, reads_number_or_dice, reads_quoted, number_again, dice_again, quoted_again}
-use Rattle.macro_parse.proofs.Calls.{Argument, reads_argument, reads_closed, some_closed, closed_is, argument_again, reads_word, IsWord, name_again, call_again, name_is}
+use Rattle.macro_grammar.specs.declared.words.Function.{Function}
+use Rattle.macro_grammar.specs.Tree.{Tree, Number, Dice, Quoted, Name, Call0, Call1, Call2, Call3, Negated, Inverted, Binary, Assigned}
+use Rattle.macro_grammar.specs.Grammar.{AreBlanks, IsLetter, IsName, IsLeaf, IsCall, IsGrouped, IsAtom, IsPrefixed, IsAtomBlanks, IsUnaryOf, IsNothing, IsUnary, IsExpression, IsExpr, IsQuoted, function_name}
+use Rattle.macro_grammar.specs.Readers.{is_blank, blanks_at, is_letter, is_name_byte, number_or_dice_at, quoted_at, word_at, closed, group_at, atom_at, then_blanks, prefixed_at, inner_at, expression_at, unary_of_at, nothing_at, unary_at, expr_at}
+use Rattle.macro_grammar.proofs.Names.{TheBlanks, reads_blanks, blanks_back, letter_test, letter_no_digit}
+use Rattle.macro_grammar.proofs.LevelWords.{reads_expression, some_expression, is_inner, is_expression, expression_again, free_left, free_right}
+use Rattle.macro_grammar.proofs.Leaves.{and_left, reads_number_or_dice, reads_quoted, number_again, dice_again, quoted_again}
+use Rattle.macro_grammar.proofs.Calls.{Argument, reads_argument, reads_closed, some_closed, closed_is, argument_again, reads_word, IsWord, name_again, call_again, name_is}
 
 -- ---- blanks behind a value
 

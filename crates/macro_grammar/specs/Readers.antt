@@ -4,12 +4,12 @@ use Rattle.reading.specs.Reading.{Read, done, carry, bind, on_head, item}
 use Rattle.reading.specs.Number.{is_digit, number_at}
 use Rattle.reading.specs.Placed.{bind_at, many_at, more_at, chain_at}
 use Rattle.dice_parse.specs.Readers.{die_at}
-use Rattle.macro_parse.specs.declared.nodes.Operator.{Operator}
-use Rattle.macro_parse.specs.declared.nodes.Operator.TheVariants.{Or, And, Equal, NotEqual, LessOrEqual, GreaterOrEqual, Less, Greater, Add, Subtract, Multiply, Divide, Remainder}
-use Rattle.macro_parse.specs.declared.nodes.Function.{Function}
-use Rattle.macro_parse.specs.declared.nodes.Function.TheVariants.{Prop, Own, Secret, Has, SetProp, SetOwn, Arg, Argc, Min, Max, Abs, Len, Num}
-use Rattle.macro_parse.specs.Tree.{Tree, Number, Dice, Quoted, Name, Call0, Call1, Call2, Call3, Negated, Inverted, Binary, Assigned, Address, Receivers, Hidden, Master, Runner, Both, Whisper, Branch, If, Count, Options, Addressed, Branched, AddressFirst, BranchFirst, Piece, Plain, Roll, FirstOption, ForWhom, OnWhat}
-use Rattle.macro_parse.specs.Grammar.{function_name, arity, is_quote, is_bracket, has_if}
+use Rattle.macro_grammar.specs.declared.words.Operator.{Operator}
+use Rattle.macro_grammar.specs.declared.words.Operator.TheVariants.{Or, And, Equal, NotEqual, LessOrEqual, GreaterOrEqual, Less, Greater, Add, Subtract, Multiply, Divide, Remainder}
+use Rattle.macro_grammar.specs.declared.words.Function.{Function}
+use Rattle.macro_grammar.specs.declared.words.Function.TheVariants.{Prop, Own, Secret, Has, SetProp, SetOwn, Arg, Argc, Min, Max, Abs, Len, Num}
+use Rattle.macro_grammar.specs.Tree.{Tree, Number, Dice, Quoted, Name, Call0, Call1, Call2, Call3, Negated, Inverted, Binary, Assigned, Address, Receivers, Hidden, Master, Runner, Both, Whisper, Branch, If, Count, Options, Addressed, Branched, AddressFirst, BranchFirst, Piece, Plain, Roll, FirstOption, ForWhom, OnWhat}
+use Rattle.macro_grammar.specs.Grammar.{function_name, arity, is_quote, is_bracket, has_if}
 
 -- ---- blanks, names, functions
 

@@ -5,10 +5,10 @@ use Rattle.reading.specs.Reading.{Read, done, bind, on_head, item}
 use Rattle.reading.proofs.Pairs.{eq_means, Free}
 use Rattle.reading.proofs.Laws.{Reads, Sequence, reads_done, reads_bind, reads_as, reads_item, reads_head, IsItem, SomeItem}
 use Rattle.reading.proofs.Combine.{only, Wrapped, reads_wrapped, Then, reads_then}
-use Rattle.macro_parse.specs.declared.nodes.Operator.{Operator}
-use Rattle.macro_parse.specs.declared.nodes.Operator.TheVariants.{Or, And, Equal, NotEqual, LessOrEqual, GreaterOrEqual, Less, Greater, Add, Subtract, Multiply, Divide, Remainder}
-use Rattle.macro_parse.specs.Grammar.{operator_text, OrOperator, AndOperator, IsComparison, CompareOperator, SumOperator, ProductOperator}
-use Rattle.macro_parse.specs.Readers.{is_product, product_operator_at, is_sum, sum_operator_at, is_compare, equals_at, compare_operator_at, and_operator_at, or_operator_at}
+use Rattle.macro_grammar.specs.declared.words.Operator.{Operator}
+use Rattle.macro_grammar.specs.declared.words.Operator.TheVariants.{Or, And, Equal, NotEqual, LessOrEqual, GreaterOrEqual, Less, Greater, Add, Subtract, Multiply, Divide, Remainder}
+use Rattle.macro_grammar.specs.Grammar.{operator_text, OrOperator, AndOperator, IsComparison, CompareOperator, SumOperator, ProductOperator}
+use Rattle.macro_grammar.specs.Readers.{is_product, product_operator_at, is_sum, sum_operator_at, is_compare, equals_at, compare_operator_at, and_operator_at, or_operator_at}
 
 -- ---- "*", "/", "%"
 

@@ -8,17 +8,17 @@ use Rattle.reading.specs.Number.{IsDigit}
 use Rattle.reading.specs.Placed.{Grammar, bind_at, more_at}
 use Rattle.reading.proofs.Pairs.{eq_means, Free, or_left, or_right}
 use Rattle.reading.proofs.Placed.{bind_at_is, on_head_at}
-use Rattle.macro_parse.specs.declared.nodes.Operator.{Operator}
-use Rattle.macro_parse.specs.declared.nodes.Operator.TheVariants.{Equal, NotEqual, LessOrEqual, GreaterOrEqual, Less, Greater}
-use Rattle.macro_parse.specs.Tree.{Tree, Number, Dice, Quoted, Name, Call0, Call1, Call2, Call3, Negated, Inverted, Binary, Assigned}
-use Rattle.macro_parse.specs.Grammar.{AreBlanks, IsLetter, IsName, IsLeaf, IsCall, IsAtom, IsPrefixed, IsUnary, IsSum, IsCompared, IsConjunction, IsExpr, IsAssignment, IsStatement, OrOperator, AndOperator, CompareOperator, SumOperator, ProductOperator, operator_text}
-use Rattle.macro_parse.specs.Readers.{is_blank, blanks_at, is_letter, is_name_byte, is_compare, sum_at, compared_at, conjunction_at, and_operator_at, or_operator_at, expression_at, unary_at, expr_at, word_at, then_blanks, expression_from, equal_from, after_name, after_word, statement_at}
-use Rattle.macro_parse.proofs.Names.{blanks_back, letter_test}
-use Rattle.macro_parse.proofs.Operators.{product_begins, sum_begins, and_begins, or_begins}
-use Rattle.macro_parse.proofs.LevelWords.{sum_again, is_inner, is_term, is_side, is_conjunct, is_expression, free_left, free_right}
-use Rattle.macro_parse.proofs.Calls.{name_again, call_again}
-use Rattle.macro_parse.proofs.Unaries.{unary_again, unary_no_equals, expr_again, start_no_blank, blanks_free, name_start, number_start, WithBlanks, call_start}
-use Rattle.macro_parse.proofs.FirstUnary.{OrsFrom, AndsFrom, SumFrom, ProductFrom, UnaryFrom, EqualFrom, place_front, unary_join, first_unary, unary_from_again, unary_from_free, steps_free, ands_again, sums_free}
+use Rattle.macro_grammar.specs.declared.words.Operator.{Operator}
+use Rattle.macro_grammar.specs.declared.words.Operator.TheVariants.{Equal, NotEqual, LessOrEqual, GreaterOrEqual, Less, Greater}
+use Rattle.macro_grammar.specs.Tree.{Tree, Number, Dice, Quoted, Name, Call0, Call1, Call2, Call3, Negated, Inverted, Binary, Assigned}
+use Rattle.macro_grammar.specs.Grammar.{AreBlanks, IsLetter, IsName, IsLeaf, IsCall, IsAtom, IsPrefixed, IsUnary, IsSum, IsCompared, IsConjunction, IsExpr, IsAssignment, IsStatement, OrOperator, AndOperator, CompareOperator, SumOperator, ProductOperator, operator_text}
+use Rattle.macro_grammar.specs.Readers.{is_blank, blanks_at, is_letter, is_name_byte, is_compare, sum_at, compared_at, conjunction_at, and_operator_at, or_operator_at, expression_at, unary_at, expr_at, word_at, then_blanks, expression_from, equal_from, after_name, after_word, statement_at}
+use Rattle.macro_grammar.proofs.Names.{blanks_back, letter_test}
+use Rattle.macro_grammar.proofs.Operators.{product_begins, sum_begins, and_begins, or_begins}
+use Rattle.macro_grammar.proofs.LevelWords.{sum_again, is_inner, is_term, is_side, is_conjunct, is_expression, free_left, free_right}
+use Rattle.macro_grammar.proofs.Calls.{name_again, call_again}
+use Rattle.macro_grammar.proofs.Unaries.{unary_again, unary_no_equals, expr_again, start_no_blank, blanks_free, name_start, number_start, WithBlanks, call_start}
+use Rattle.macro_grammar.proofs.FirstUnary.{OrsFrom, AndsFrom, SumFrom, ProductFrom, UnaryFrom, EqualFrom, place_front, unary_join, first_unary, unary_from_again, unary_from_free, steps_free, ands_again, sums_free}
 
 pub head_pass : {A : Type 0} (test : ℕ → Bool) (p q : Read A) (s : List ℕ) → Free test s → on_head test p q s ≡ q s
 head_pass test p q [] h = refl

@@ -14,10 +14,10 @@ use Rattle.dice_parse.specs.Groups.{IsCounted}
 use Rattle.dice_parse.specs.Readers.{die_at}
 use Rattle.dice_parse.proofs.Words.{IsDieOf, die_of, reads_die}
 use Rattle.dice_parse.proofs.Back.{is_suffix, die_back}
-use Rattle.macro_parse.specs.Tree.{Tree, Number, Dice, Quoted}
-use Rattle.macro_parse.specs.Grammar.{IsEscaped, is_quote, IsQuoted, IsLeaf}
-use Rattle.macro_parse.specs.Readers.{is_letter, is_name_byte, number_or_dice_at, inside_at, quoted_at}
-use Rattle.macro_parse.proofs.Names.{reads_cons}
+use Rattle.macro_grammar.specs.Tree.{Tree, Number, Dice, Quoted}
+use Rattle.macro_grammar.specs.Grammar.{IsEscaped, is_quote, IsQuoted, IsLeaf}
+use Rattle.macro_grammar.specs.Readers.{is_letter, is_name_byte, number_or_dice_at, inside_at, quoted_at}
+use Rattle.macro_grammar.proofs.Names.{reads_cons}
 
 -- ---- numbers and dice
 

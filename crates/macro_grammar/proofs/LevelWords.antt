@@ -8,11 +8,11 @@ use Rattle.reading.proofs.Pairs.{Free, head_free, or_left, or_right}
 use Rattle.reading.proofs.Laws.{Reads, reads_done, reads_head}
 use Rattle.reading.proofs.Combine.{IsNothing, Wrapped}
 use Rattle.reading.proofs.Placed.{bind_at_is, on_head_at, PlacedSequence, reads_bind_at, Inhabited, reads_chain, some_chain, chain_back}
-use Rattle.macro_parse.specs.declared.nodes.Operator.{Operator}
-use Rattle.macro_parse.specs.Tree.{Tree, Binary}
-use Rattle.macro_parse.specs.Grammar.{OrOperator, AndOperator, CompareOperator, SumOperator, ProductOperator, IsProduct, IsSum, IsCompared, IsConjunction, IsExpression}
-use Rattle.macro_parse.specs.Readers.{is_blank, is_name_byte, is_product, product_operator_at, is_sum, sum_operator_at, is_compare, compare_operator_at, and_operator_at, or_operator_at, product_at, sum_at, compared_with, compared_at, conjunction_at, expression_at}
-use Rattle.macro_parse.proofs.Operators.{reads_product_operator, reads_sum_operator, reads_and_operator, reads_or_operator, reads_compare_operator, product_back, sum_back, and_back, or_back, compare_back, product_begins, sum_begins, and_begins, or_begins, compare_begins}
+use Rattle.macro_grammar.specs.declared.words.Operator.{Operator}
+use Rattle.macro_grammar.specs.Tree.{Tree, Binary}
+use Rattle.macro_grammar.specs.Grammar.{OrOperator, AndOperator, CompareOperator, SumOperator, ProductOperator, IsProduct, IsSum, IsCompared, IsConjunction, IsExpression}
+use Rattle.macro_grammar.specs.Readers.{is_blank, is_name_byte, is_product, product_operator_at, is_sum, sum_operator_at, is_compare, compare_operator_at, and_operator_at, or_operator_at, product_at, sum_at, compared_with, compared_at, conjunction_at, expression_at}
+use Rattle.macro_grammar.proofs.Operators.{reads_product_operator, reads_sum_operator, reads_and_operator, reads_or_operator, reads_compare_operator, product_back, sum_back, and_back, or_back, compare_back, product_begins, sum_begins, and_begins, or_begins, compare_begins}
 
 -- what a bind puts behind a value, wrapped
 pub reads_wrapped_at : {A B : Type 0} (f : A → B) (at : ℕ) (p : ℕ → Read A) (G : Grammar A) (s : List ℕ) → Reads (p at) (G at) s → Reads (bind_at at p (λ at2 x. done (f x))) (Wrapped f (G at)) s

@@ -1,10 +1,10 @@
 //! The functions that a macro may call, by name.
 
 ghost use Rattle.std.specs.Prelude.{◌≡◌, ℕ};
-ghost use Rattle.macro_parse.specs.Grammar.{arity};
-ghost use Rattle.macro_parse.specs.Readers.{function_of};
+ghost use Rattle.macro_grammar.specs.Grammar.{arity};
+ghost use Rattle.macro_grammar.specs.Readers.{function_of};
 
-use crate::nodes::Function;
+use crate::words::Function;
 
 impl Function {
     /// How many arguments it takes.
@@ -27,7 +27,7 @@ impl Function {
 
 /// The function of a name.
 #[tactic(auto, unfolding(crate::specs::Readers::function_of))]
-pub(crate) fn function_of(name: &[u8]) -> Option<Function>
+pub fn function_of(name: &[u8]) -> Option<Function>
     ensures { result ≡ function_of name.now }
 {
     match name {

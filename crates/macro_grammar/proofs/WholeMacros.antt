@@ -9,15 +9,15 @@ use Rattle.reading.proofs.Laws.{Reads, reads_as, reads_head, head_yes, head_no}
 use Rattle.reading.proofs.Combine.{Wrapped, reads_wrapped}
 use Rattle.reading.proofs.Placed.{bind_at_is, on_head_at, reads_bind_at}
 use Rattle.reading.proofs.Longest.{found, off, longest}
-use Rattle.macro_parse.specs.Tree.{Piece, Plain, Roll}
-use Rattle.macro_parse.specs.Grammar.{IsEscaped, is_bracket, IsRoll, NoPlainFirst, Follows, IsMacro}
-use Rattle.macro_parse.specs.Readers.{roll_at, plain_text, at_end, unless_end, pieces_at, macro_at}
-use Rattle.macro_parse.proofs.Names.{reads_cons}
-use Rattle.macro_parse.proofs.Leaves.{reads_front, front_fate, reads_refused}
-use Rattle.macro_parse.proofs.Calls.{ThenAt, reads_then_at}
-use Rattle.macro_parse.proofs.OptionWords.{reads_roll}
-use Rattle.macro_parse.proofs.StatementsAgain.{head_pass}
-use Rattle.macro_parse.proofs.RollsAgain.{roll_again}
+use Rattle.macro_grammar.specs.Tree.{Piece, Plain, Roll}
+use Rattle.macro_grammar.specs.Grammar.{IsEscaped, is_bracket, IsRoll, NoPlainFirst, Follows, IsMacro}
+use Rattle.macro_grammar.specs.Readers.{roll_at, plain_text, at_end, unless_end, pieces_at, macro_at}
+use Rattle.macro_grammar.proofs.Names.{reads_cons}
+use Rattle.macro_grammar.proofs.Leaves.{reads_front, front_fate, reads_refused}
+use Rattle.macro_grammar.proofs.Calls.{ThenAt, reads_then_at}
+use Rattle.macro_grammar.proofs.OptionWords.{reads_roll}
+use Rattle.macro_grammar.proofs.StatementsAgain.{head_pass}
+use Rattle.macro_grammar.proofs.RollsAgain.{roll_again}
 
 -- ---- plain text
 

@@ -1,8 +1,8 @@
 -- What a macro text means, as trees whose nodes know their places.
 use Rattle.std.specs.Prelude.{ℕ, List, Option}
 use Rattle.dice_parse.specs.declared.parts.Group.{Group}
-use Rattle.macro_parse.specs.declared.nodes.Operator.{Operator}
-use Rattle.macro_parse.specs.declared.nodes.Function.{Function}
+use Rattle.macro_grammar.specs.declared.words.Operator.{Operator}
+use Rattle.macro_grammar.specs.declared.words.Function.{Function}
 
 -- an expression or an assignment; at is the node's first byte, or the operator's of a binary one
 pub data Tree : Type 0 where

@@ -1,0 +1,12 @@
+pub mod Names
+pub mod Operators
+pub mod LevelWords
+pub mod Leaves
+pub mod Calls
+pub mod Unaries
+pub mod FirstUnary
+pub mod Assignments
+pub mod StatementsAgain
+pub mod OptionWords
+pub mod RollsAgain
+pub mod WholeMacros
