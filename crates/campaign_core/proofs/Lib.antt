@@ -1,1 +1,4 @@
 pub mod Openings
+pub mod Allowed
+pub mod Nexts
+pub mod Lines

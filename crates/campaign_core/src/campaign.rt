@@ -67,13 +67,14 @@ fn bad_form(alloc: Global) -> OpenFault
     }
 }
 
-fn told(steps: u32, outcome: Outcome) -> Answer
+fn told(steps: u32, mut outcome: Outcome) -> Answer
     ensures { result ≡ answer_of_lem steps outcome }
 {
+    let line = outcome.reply.take();
     Answer {
-        refusal: outcome.refusal,
+        refusal: outcome.refusal.take(),
         taken: steps,
-        line: if outcome.direct { outcome.reply } else { None },
+        line: if outcome.direct { line } else { None },
     }
 }
 

@@ -6,6 +6,7 @@ ghost use Rattle.command_rules.specs.Settle.{IsSettled};
 ghost use Rattle.campaign_law.specs.World.{outcome_of, steps_of, scene_after};
 ghost use Rattle.campaign_law.specs.State.{world_in, state_after};
 ghost use Rattle.campaign_core.specs.Changed.{IsChanged, scene_in};
+ghost use Rattle.campaign_core.specs.Glances.{AreGlances};
 
 use crate::outcome::{Outcome, own_seat};
 use crate::queues::{Glances, next_posts};
@@ -65,7 +66,25 @@ pub(crate) fn posts_after(
     requires changed { IsChanged (world_in state.now) entry.now changed.now }
     ensures { IfOk result (λ posts. record { posts = posts.items; scene = scene_in state.now.scene changed.now } ≡ state_after state.now entry.now) }
 {
-    let glances = match changed {
+    let glances = glances(state, fields, entry, changed);
+    next_posts(alloc, outcome, own_seat(entry), state.posts(), &glances)
+}
+
+/// What is seen before the entry and after it.
+fn glances<'s>(
+    state: &'s State,
+    fields: &'s Fields,
+    entry: &Entry,
+    changed: &'s Option<Changed>,
+) -> Glances<'s>
+    requires fields { HasFields state.now.scene fields.now }
+    requires changed { IsChanged (world_in state.now) entry.now changed.now }
+    ensures glances { AreGlances result }
+    ensures before { result.before.now ≡ state.now.scene }
+    ensures after { result.after.now ≡ scene_in state.now.scene changed.now }
+{
+    let _entry = entry;
+    match changed {
         Some(changed) => Glances {
             before: state.scene(),
             before_fields: fields,
@@ -80,6 +99,5 @@ pub(crate) fn posts_after(
             after_fields: fields,
             same: true,
         },
-    };
-    next_posts(alloc, outcome, own_seat(entry), state.posts(), &glances)
+    }
 }

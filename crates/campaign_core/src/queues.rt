@@ -17,6 +17,9 @@ use view_change::{View, change_line, change_of, fit, full_line};
 use vision::Fields;
 use world::Scene;
 
+/// How many seats a campaign has at most.
+const MOST_SEATS: u8 = 33;
+
 /// The scene before an entry and after it, each with its fields, and whether it is known to be the same.
 #[derive(Drop)]
 pub(crate) struct Glances<'s> {
@@ -65,6 +68,7 @@ fn changed_line(alloc: Global, before: &View, after: &View) -> Result<Option<Lin
 }
 
 /// The change line for the seat, where what it is shown differs.
+#[tactic(auto, using(crate::proofs::Lines::no_line))]
 fn line_of_change(
     alloc: Global,
     seat: SeatNo,
@@ -107,10 +111,15 @@ fn add_view(
 // ---- a seat's post
 
 /// Whether the message reaches the seat.
+#[tactic(auto, using(crate::proofs::Lines::reaches_none))]
 fn is_to(seat: SeatNo, message: &Message) -> bool
     ensures { result ≡ is_to_lem seat message.now }
 {
-    receivers(message.to, message.from, 33).has(seat)
+    let _from = message.from.number();
+    if !message.to.is_within(MOST_SEATS) {
+        return false;
+    }
+    receivers(message.to, message.from, MOST_SEATS).has(seat)
 }
 
 /// The lines of the messages that reach the seat.

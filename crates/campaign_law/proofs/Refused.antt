@@ -17,7 +17,6 @@ use Rattle.player_view.specs.Asked.{Asked}
 use Rattle.command_json.specs.Commands.{command_of}
 use Rattle.world.specs.Scene.{Scene}
 use Rattle.command_rules.specs.Rules.{rule_of}
-use Rattle.command_rules.specs.Settle.{IsSettled}
 use Rattle.campaign_law.specs.Seat.{Seat, settled, taken_to}
 use Rattle.campaign_law.specs.Outcome.{Outcome, refused_direct, refused_line, refusal_of_join, count_if_joined, join_outcome, decided, read_outcome, outcome_at, seat_of}
 use Rattle.campaign_law.specs.World.{World, seat_at, addressed, view_lines, some_to_list, queued_lines, queued_reply, is_present, changed, seat_by, seat_after, replay, scene_after, outcome_of, steps_of, asked_of}

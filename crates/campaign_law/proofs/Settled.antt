@@ -1,7 +1,7 @@
 -- Scenes in which what is seen is exposed.
-use Rattle.std.proofs.Common.{◌≡◌, ℕ, ◌<◌, Bool, true, false, ◌||◌, List, [], ◌∷◌, ◌++◌, map, Some, None, refl, sym, ◌∙◌, ap}
+use Rattle.std.proofs.Common.{◌≡◌, ℕ, Bool, true, false, ◌||◌, List, [], ◌∷◌, map, Some, None, refl, ◌∙◌, ap}
 use Rattle.std.specs.Prelude.{Option}
-use Rattle.cells.specs.Cells.{Cells, has, cells_where}
+use Rattle.cells.specs.Cells.{Cells, has}
 use Rattle.cells.proofs.SetLaws.{has-cells_where, cells_where_same}
 use Rattle.fog_book.specs.declared.exposure.Exposure.{Exposure}
 use Rattle.fog_book.specs.Exposures.{joined}
@@ -13,7 +13,6 @@ use Rattle.command_rules.specs.Effects.{scene_by}
 use Rattle.command_rules.specs.Settle.{with_sight, settled_set, settled, IsSettled}
 use Rattle.campaign_law.specs.Outcome.{seat_of}
 use Rattle.campaign_law.specs.World.{World, scene_after, outcome_of, steps_of, step, replay}
-use Rattle.campaign_law.specs.Law.{IsOpening}
 
 or_twice : (a b : Bool) → ((a || b) || b) ≡ (a || b)
 or_twice true b = refl

@@ -1,5 +1,5 @@
 -- Laws of the lines that show views.
-use Rattle.std.proofs.Common.{◌≡◌, ℕ, Bool, true, false, List, Some, None, refl, sym, ◌∙◌, ap}
+use Rattle.std.proofs.Common.{◌≡◌, Some, None, refl, ap}
 use Rattle.std.specs.Prelude.{Option, option_map}
 use Rattle.view_change.specs.declared.view.View.{View}
 use Rattle.view_change.specs.Change.{change_of}

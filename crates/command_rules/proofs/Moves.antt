@@ -19,14 +19,13 @@ use Rattle.command_json.specs.declared.command.Command.TheVariants.{Move}
 use Rattle.world.specs.Scene.{Scene}
 use Rattle.world.specs.Rules.{size_of, fits, fits_on, belongs, IsScene}
 use Rattle.player_view.specs.View.{acts_on, has_map}
-use Rattle.player_view.specs.Asked.{Asked, Mine, Known, asked_of, mine_of, known_of}
-use Rattle.command_rules.specs.declared.refusal.Refusal.{Refusal}
+use Rattle.player_view.specs.Asked.{Known, asked_of, mine_of, known_of}
 use Rattle.command_rules.specs.declared.refusal.Refusal.TheVariants.{OffMap, BadPath}
 use Rattle.command_rules.specs.Places.{coordinate, fits_at, cell_at, are_king_steps}
 use Rattle.command_rules.specs.Rules.{move_rule, path_rule, rule_of}
 use Rattle.command_rules.specs.Effects.{own_token, cell_after}
 use Rattle.command_rules.specs.Allowed.{IsAllowed, MayMove}
-use Rattle.command_rules.proofs.Unique.{found_passes, found_of_all, find_one}
+use Rattle.command_rules.proofs.Unique.{found_of_all, find_one}
 use Rattle.command_rules.proofs.PlaceLemmas.{column, row}
 
 -- ---- the one token and the one map
@@ -64,14 +63,14 @@ on_map s seat id path t is ordered found (Some m) there h =
       fits = fits_of t path (known_of s seat m) h;
     }
 
-moving : (s : Scene) (seat : ℕ) (id : TokenId) (path : List (ℤ × ℤ)) → IsScene s → maps_in_order s.maps ≡ true → (o : Option Token) → own_token s seat id ≡ o → move_rule (asked_of 0 s seat) seat path (option_map mine_of o) ≡ None → MayMove s seat id path
+moving : (seats : ℕ) (s : Scene) (seat : ℕ) (id : TokenId) (path : List (ℤ × ℤ)) → IsScene s → maps_in_order s.maps ≡ true → (o : Option Token) → own_token s seat id ≡ o → move_rule (asked_of seats s seat) seat path (option_map mine_of o) ≡ None → MayMove s seat id path
 unfolding asked_of
-moving s seat id path is ordered None found h = cc
-moving s seat id path is ordered (Some t) found h = on_map s seat id path t is ordered found (find (λ m. has_map seat m && has_name t.map m) s.maps) refl h
+moving seats s seat id path is ordered None found h = cc
+moving seats s seat id path is ordered (Some t) found h = on_map s seat id path t is ordered found (find (λ m. has_map seat m && has_name t.map m) s.maps) refl h
 
 pub may_move : (s : Scene) (seat : ℕ) (id : TokenId) (path : List (ℤ × ℤ)) → IsScene s → maps_in_order s.maps ≡ true → IsAllowed s seat (Move id path) → MayMove s seat id path
 unfolding asked_of rule_of
-may_move s seat id path is ordered allowed = moving s seat id path is ordered (own_token s seat id) refl (allowed 0 [])
+may_move s seat id path is ordered allowed = moving allowed.seats s seat id path is ordered (own_token s seat id) refl allowed.rule
 
 -- ---- where the token goes
 

@@ -1,14 +1,14 @@
 -- What is seen, set by set of the fog.
-use Rattle.std.proofs.Common.{◌≡◌, ℕ, zero, suc, ◌+◌, ◌<◌, List, [], ◌∷◌, map, length, get_or, Some, None, refl, sym, ◌∙◌, ap, subst, arith}
+use Rattle.std.proofs.Common.{◌≡◌, ℕ, zero, suc, ◌<◌, List, [], ◌∷◌, map, length, get_or, Some, None, refl, sym, ◌∙◌, ap, subst, arith}
 use Rattle.std.specs.Prelude.{Option, option_map, IfSome}
 use Rattle.std.specs.List.{AllByRecursion, AllZip}
-use Rattle.cells.specs.Cells.{Extent, Cells}
+use Rattle.cells.specs.Cells.{Cells}
 use Rattle.fog_book.specs.declared.exposure.Exposure.{Exposure}
 use Rattle.fog_book.specs.Exposures.{with_seen, with_each_seen, HaveOneSize}
 use Rattle.maps.specs.Maps.{Grid, map_of}
 use Rattle.player_view.specs.Sight.{visible}
 use Rattle.world.specs.Scene.{Scene}
-use Rattle.world.specs.Rules.{size_of, IsSized, IsScene}
+use Rattle.world.specs.Rules.{IsSized, IsScene}
 use Rattle.command_rules.specs.Settle.{with_sight, settled_set, settled}
 use Rattle.command_rules.specs.Seen.{seen_on, seen_for}
 

@@ -1,6 +1,5 @@
 -- In a list whose keys rise at most one item has a key.
 use Rattle.std.proofs.Common.{◌≡◌, Bool, true, false, cond, List, [], ◌∷◌, map, Some, None, refl, sym, ◌∙◌, ap}
-use Rattle.std.specs.Prelude.{Option}
 use Rattle.std.specs.List.{find, list_all}
 use Rattle.std.specs.Ordering.{is_lt}
 use Rattle.std.specs.declared.cmp.Ordering.{Ordering}

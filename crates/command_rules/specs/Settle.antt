@@ -1,5 +1,5 @@
 -- What players see is exposed to them.
-use Rattle.std.specs.Prelude.{◌≡◌, List, map, Option, Some, None}
+use Rattle.std.specs.Prelude.{◌≡◌, map, Option, Some, None}
 use Rattle.fog_book.specs.declared.exposure.Exposure.{Exposure}
 use Rattle.fog_book.specs.Exposures.{joined}
 use Rattle.maps.specs.Maps.{Grid, map_of}

@@ -11,4 +11,3 @@ pub use effects::{scene_by, steps_by};
 pub use refusal::Refusal;
 pub use rules::rule_of;
 pub use sight::settle;
-

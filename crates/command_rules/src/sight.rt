@@ -16,7 +16,12 @@ use vision::Fields;
 use world::Scene;
 
 /// What the player of the set sees of its map.
-fn seen_for(alloc: Global, scene: &Scene, fields: &Fields, set: &Exposure) -> Result<CellSet, Memory>
+fn seen_for(
+    alloc: Global,
+    scene: &Scene,
+    fields: &Fields,
+    set: &Exposure,
+) -> Result<CellSet, Memory>
     requires fields { HasFields scene.now fields.now }
     requires sized { IsSized scene.now.maps set.now }
     ensures { IfOk result (λ s. s ≡ seen_for_lem scene.now set.now) }

@@ -1,4 +1,4 @@
-use Rattle.std.proofs.Common.{◌∙◌, sym, ap, subst}
+use Rattle.std.proofs.Common.{subst}
 use Rattle.command_json.specs.declared.command.Command.{Command}
 use Rattle.command_rules.specs.Allowed.{IsAllowed}
 use Rattle.command_rules.proofs.Moves.{may_move}

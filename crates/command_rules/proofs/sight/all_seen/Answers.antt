@@ -1,7 +1,6 @@
-use Rattle.std.proofs.Common.{◌≡◌, ◌∙◌, sym, ap, subst, arith, List, map, length}
+use Rattle.std.proofs.Common.{◌∙◌, sym, ap, subst, arith, map, length}
 use Rattle.std.specs.List.{AllZip}
 use Rattle.std.proofs.lemmas.List.{take_all}
-use Rattle.cells.specs.Cells.{Cells}
 use Rattle.fog_book.specs.Exposures.{HaveOneSize}
 use Rattle.command_rules.specs.Seen.{seen_for}
 use Rattle.command_rules.proofs.Settling.{one_size_each}
