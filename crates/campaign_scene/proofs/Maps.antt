@@ -80,7 +80,7 @@ wall_fails (Some DegenerateWall) fault found next is breach = is_breach _ found 
 wall_fails (Some WallThere) fault found next is breach = is_breach _ found (broken Twice) refl (subst (λ (w : WallFault). IsWallBreach w found) is breach)
 wall_fails (Some WallLimit) fault found next is breach = is_breach _ found (broken Range) refl (subst (λ (w : WallFault). IsWallBreach w found) is breach)
 wall_fails (Some Memory) fault found next is breach =
-    subst (λ (f : FileFault). Fails f (unbroken (Some WallFault.Memory) >>= λ fits. next)) (sym (subst (λ (w : WallFault). IsWallBreach w found) is breach)) tt
+    subst (λ (f : FileFault). Fails f (unbroken (Some Memory) >>= λ fits. next)) (sym (subst (λ (w : WallFault). IsWallBreach w found) is breach)) tt
 
 -- a wall that the map refuses
 pub walled_fails : (name : List ℕ) (kind : WallKind) (first second : ℤ × ℤ) (s : Scene) (grid : Grid) (a b : Coordinates) (fault : WallFault) (found : FileFault) → map_of name s.maps ≡ Some grid
@@ -88,8 +88,8 @@ pub walled_fails : (name : List ℕ) (kind : WallKind) (first second : ℤ × �
     → IsWallBreach fault found → Fails found (walled_at name kind first second s)
 unfolding walled_at
 walled_fails name kind first second s grid a b fault found is from to refused breach =
-    let at : IsWallFaultOf (wall_fault grid.walls kind a b) fault = subst (λ (o : Option Grid). IfSome o (λ m. IsWallFaultOf (wall_fault m.walls kind a b) fault)) is refused in
-    rw (is, from, to) (wall_fails (wall_fault grid.walls kind a b) fault found (Ok (with_grid name (with_wall_of kind a b) s)) at breach)
+    let refusal : IsWallFaultOf (wall_fault grid.walls kind a b) fault = subst (λ (o : Option Grid). IfSome o (λ m. IsWallFaultOf (wall_fault m.walls kind a b) fault)) is refused in
+    rw (is, from, to) (wall_fails (wall_fault grid.walls kind a b) fault found (Ok (with_grid name (with_wall_of kind a b) s)) refusal breach)
 
 -- ---- letters
 

@@ -21,6 +21,7 @@ use Rattle.world.specs.Scene.{Scene, with_grid, with_new_map}
 use Rattle.campaign_json.specs.declared.faults.Rule.{Rule}
 use Rattle.campaign_json.specs.declared.faults.Rule.TheVariants.{Range, Form, Twice, Cross}
 use Rattle.campaign_json.specs.declared.faults.FileFault.{FileFault}
+use Rattle.campaign_json.specs.declared.faults.FileFault.TheVariants.{Memory as no_memory}
 use Rattle.campaign_json.specs.declared.faults.BadCampaign.{BadCampaign}
 use Rattle.campaign_json.specs.Reading.{IsBreach, broken, needed, asked, field, item_at, under, each}
 use Rattle.campaign_json.specs.Kinds.{whole, text, list, object, only, exactly, integer, boolean, tag, mode}
@@ -83,7 +84,7 @@ IsWallBreach OffMap found = IsBreach (record { path = []; rule = Cross }) found
 IsWallBreach DegenerateWall found = IsBreach (record { path = []; rule = Cross }) found
 IsWallBreach WallThere found = IsBreach (record { path = []; rule = Twice }) found
 IsWallBreach WallLimit found = IsBreach (record { path = []; rule = Range }) found
-IsWallBreach Memory found = found ≡ FileFault.Memory
+IsWallBreach Memory found = found ≡ no_memory
 
 -- no check that a new wall makes is broken
 abbrev pub unbroken : Option WallFault → Result (Unit {0}) BadCampaign
