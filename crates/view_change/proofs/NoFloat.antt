@@ -12,14 +12,14 @@ use Rattle.serde_json.specs.Written.{has_float, items_have_float, members_have_f
 use Rattle.cells.specs.Runs.{runs_of}
 use Rattle.names.specs.TokenId.{id_text}
 use Rattle.names.specs.Words.{layer_word}
-use Rattle.view_change.specs.declared.view.MapView.{MapView}
-use Rattle.view_change.specs.declared.view.TokenView.{TokenView}
-use Rattle.view_change.specs.declared.view.OwnedPart.{OwnedPart}
-use Rattle.view_change.specs.declared.view.GmPart.{GmPart}
-use Rattle.view_change.specs.declared.view.View.{View}
-use Rattle.view_change.specs.declared.change.Change.{Change}
-use Rattle.view_change.specs.declared.change.MapChange.{MapChange}
-use Rattle.view_change.specs.Keys.{Named}
+use Rattle.views.specs.declared.view.MapView.{MapView}
+use Rattle.views.specs.declared.view.TokenView.{TokenView}
+use Rattle.views.specs.declared.view.OwnedPart.{OwnedPart}
+use Rattle.views.specs.declared.view.GmPart.{GmPart}
+use Rattle.views.specs.declared.view.View.{View}
+use Rattle.views.specs.declared.change.Change.{Change}
+use Rattle.views.specs.declared.change.MapChange.{MapChange}
+use Rattle.views.specs.Keys.{Named}
 use Rattle.view_change.specs.Lines.{with_member, whole, list_data, wholes_data, text_or_null, put_list, put_some, put_named, radius_data, lights_data, sights_data, put_lights, put_sights, prop_data, props_data, run_data, runs_data, terrain_run_data, terrain_data, mode_data, map_data, put_owned, put_whole, token_data, maps_data, tokens_data, cell_data, view_data, lettered, map_change_data, change_data, full_tree, change_tree}
 
 none : (a b : Bool) → a ≡ false → b ≡ false → (a || b) ≡ false

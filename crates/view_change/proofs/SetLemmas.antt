@@ -9,7 +9,7 @@ use Rattle.std.proofs.lemmas.List.Elements.{filter_more}
 use Rattle.cells.specs.Cell.{is_at}
 use Rattle.cells.specs.Cells.{Extent, Cells, has, cells_where, IsToldByCells}
 use Rattle.cells.proofs.SetLaws.{has-cells_where, cells_where_same}
-use Rattle.view_change.specs.Keys.{Letter}
+use Rattle.views.specs.Keys.{Letter}
 use Rattle.view_change.specs.Change.{has_letter, with_lettered, patched_at}
 
 has_letter-pushed : (letters : List Letter) (letter : Letter) (x y : ℕ) → has_letter (letters ++ letter ∷ []) x y ≡ (has_letter letters x y || is_at letter.0 x y)

@@ -7,12 +7,12 @@ use Rattle.cells.specs.Cells.{Cells, has, cells_where}
 use Rattle.names.specs.declared.kinds.Mode.{Mode}
 use Rattle.names.specs.Tag.{tag_cmp}
 use Rattle.names.specs.TokenId.{id_cmp, id_eq}
-use Rattle.view_change.specs.declared.view.MapView.{MapView}
-use Rattle.view_change.specs.declared.view.View.{View}
-use Rattle.view_change.specs.declared.change.Change.{Change}
-use Rattle.view_change.specs.declared.change.MapChange.{MapChange}
-use Rattle.view_change.specs.Keys.{Letter, cell_cmp, name_of, cell_of, map_name, change_name, token_id}
-use Rattle.view_change.specs.Same.{same_option, same_bool, same_mode, same_letter, same_light, same_bytes, same_map, same_token, same_view}
+use Rattle.views.specs.declared.view.MapView.{MapView}
+use Rattle.views.specs.declared.view.View.{View}
+use Rattle.views.specs.declared.change.Change.{Change}
+use Rattle.views.specs.declared.change.MapChange.{MapChange}
+use Rattle.views.specs.Keys.{Letter, cell_cmp, name_of, cell_of, map_name, change_name, token_id}
+use Rattle.views.specs.Same.{same_option, same_bool, same_mode, same_letter, same_light, same_bytes, same_map, same_token, same_view}
 use Rattle.view_change.specs.Keyed.{put_all, applied, gone_from, is_among, puts_from, deltas, news, patched}
 
 -- ---- the change between two views

@@ -13,14 +13,14 @@ use Rattle.cells.specs.declared.cell.Run.{Run}
 use Rattle.names.specs.Words.{mode_word, layer_word}
 use Rattle.names.specs.TokenId.{id_text}
 use Rattle.names.specs.declared.kinds.Mode.{Mode}
-use Rattle.view_change.specs.declared.view.MapView.{MapView}
-use Rattle.view_change.specs.declared.view.TokenView.{TokenView}
-use Rattle.view_change.specs.declared.view.OwnedPart.{OwnedPart}
-use Rattle.view_change.specs.declared.view.GmPart.{GmPart}
-use Rattle.view_change.specs.declared.view.View.{View}
-use Rattle.view_change.specs.declared.change.Change.{Change}
-use Rattle.view_change.specs.declared.change.MapChange.{MapChange}
-use Rattle.view_change.specs.Keys.{Named, Letter}
+use Rattle.views.specs.declared.view.MapView.{MapView}
+use Rattle.views.specs.declared.view.TokenView.{TokenView}
+use Rattle.views.specs.declared.view.OwnedPart.{OwnedPart}
+use Rattle.views.specs.declared.view.GmPart.{GmPart}
+use Rattle.views.specs.declared.view.View.{View}
+use Rattle.views.specs.declared.change.Change.{Change}
+use Rattle.views.specs.declared.change.MapChange.{MapChange}
+use Rattle.views.specs.Keys.{Named, Letter}
 use Rattle.view_change.specs.Change.{has_letter}
 
 -- ---- values

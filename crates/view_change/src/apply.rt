@@ -4,22 +4,21 @@ ghost use Rattle.std.specs.Str.{bytes_eq};
 ghost use Rattle.cells.specs.Cells.{has};
 ghost use Rattle.names.specs.Tag.{tag_cmp};
 ghost use Rattle.names.specs.TokenId.{id_cmp, id_eq};
-ghost use Rattle.view_change.specs.declared.view.View.{View};
-ghost use Rattle.view_change.specs.Keys.{cell_cmp, name_of, cell_of, map_name, change_name, token_id};
+ghost use Rattle.views.specs.declared.view.View.{View};
+ghost use Rattle.views.specs.Keys.{cell_cmp, name_of, cell_of, map_name, change_name, token_id};
 ghost use Rattle.view_change.specs.Keyed.{put_all as put_all_in, without, applied, is_among, with_its, patched as patched_in};
 ghost use Rattle.view_change.specs.Views.{IsView, FollowsView};
 ghost use Rattle.view_change.specs.Change.{or_old, seen_after, exposed_after, map_with, difference, apply_change as view_after};
 
-use crate::change::{Change, MapChange};
 use crate::keyed::put_all;
-use crate::lists::{
-    Letters, LightTexts, MapChanges, MapViews, SightTexts, Tags, TokenIds, TokenViews,
-};
 use crate::sets::{holds, lettered, patched};
-use crate::view::{MapView, TokenView, View};
 use cells::{Cell, CellSet};
 use names::{Memory, Mode, Tag, TokenId};
 use std::alloc::Global;
+use views::{
+    Change, Letters, LightTexts, MapChange, MapChanges, MapView, MapViews, SightTexts, Tags,
+    TokenIds, TokenView, TokenViews, View,
+};
 
 fn lights_after(before: &LightTexts, change: &LightTexts) -> Result<LightTexts, Memory>
     ensures { IfOk result (λ lights. lights ≡ put_all_in tag_cmp name_of change.now before.now) }

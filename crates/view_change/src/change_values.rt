@@ -3,8 +3,6 @@ ghost use Rattle.std.specs.Prelude.{◌≡◌, map, codes, IfOk, OnOk};
 ghost use Rattle.serde_json.specs.View.{view, members_view};
 ghost use Rattle.view_change.specs.Lines.{put_some, put_lights as put_lights_data, put_sights as put_sights_data, mode_data, terrain_data, lettered as lettered_cells, map_change_data, change_data};
 
-use crate::change::{Change, MapChange};
-use crate::lists::{LightTexts, SightTexts};
 use crate::sets::lettered;
 use crate::terrain::{runs, terrain};
 use crate::values::{ids, names, put_list, put_member};
@@ -12,6 +10,7 @@ use crate::view_values::{lights, maps, mode_value, put_shown, sights, tokens};
 use names::Mode;
 use serde_json::{Map, Value, json};
 use std::alloc::{AllocError, Global};
+use views::{Change, LightTexts, MapChange, SightTexts};
 
 fn put_lights(
     members: &mut Map<String, Value>,

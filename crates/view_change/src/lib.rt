@@ -5,29 +5,22 @@
 #![tactic(auto)]
 
 mod apply;
-mod change;
 mod change_values;
-mod copies;
 mod difference;
 mod keyed;
 mod lines;
-mod lists;
-mod same;
 mod sets;
 mod terrain;
 mod values;
-mod view;
 mod view_values;
 
 pub use apply::apply_change;
-pub use change::{Change, MapChange};
 pub use difference::{change_of, fit};
 pub use lines::{change_line, full_line};
-pub use lists::{
-    Letters, LightTexts, MapChanges, MapViews, PropTexts, SeatNos, SightTexts, Tags, TokenIds,
-    TokenViews,
+pub use views::{
+    Change, GmPart, Letters, LightTexts, MapChange, MapChanges, MapView, MapViews, OwnedPart,
+    PropTexts, SeatNos, SightTexts, Tags, TokenIds, TokenView, TokenViews, View,
 };
-pub use view::{GmPart, MapView, OwnedPart, TokenView, View};
 
 #[cfg(test)]
 mod tests;

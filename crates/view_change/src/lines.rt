@@ -4,14 +4,13 @@ ghost use Rattle.json_fields.specs.Lines.{IsOneLine};
 ghost use Rattle.serde_json.specs.View.{view};
 ghost use Rattle.view_change.specs.Lines.{full_tree, full_line as full_text, change_tree, change_line as change_text};
 
-use crate::change::Change;
 use crate::change_values::change_value;
-use crate::view::View;
 use crate::view_values::view_value;
 use json_fields::compact_line;
 use names::{LineText, Memory};
 use serde_json::{Value, json};
 use std::alloc::{AllocError, Global};
+use views::{Change, View};
 
 fn full_value(alloc: Global, seen: &View) -> Result<Value, AllocError>
     ensures { IfOk result (λ v. view v ≡ full_tree seen.now) }

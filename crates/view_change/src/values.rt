@@ -5,11 +5,11 @@ ghost use Rattle.serde_json.specs.View.{view, members_view};
 ghost use Rattle.names.specs.TokenId.{id_text};
 ghost use Rattle.view_change.specs.Lines.{with_member, wholes_data, text_or_null as text_or_null_data, put_list as put_list_data, cell_data, prop_data, props_data};
 
-use crate::lists::{PropTexts, SeatNos};
 use cells::Cell;
 use names::{Tag, Text, TokenId};
 use serde_json::{Map, Value, json};
 use std::alloc::{AllocError, Global};
+use views::{PropTexts, SeatNos};
 
 /// Puts a member in.
 #[tactic(auto, unfolding(crate::specs::Lines::with_member))]

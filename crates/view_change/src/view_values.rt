@@ -4,13 +4,14 @@ ghost use Rattle.serde_json.specs.Data.{boolean};
 ghost use Rattle.serde_json.specs.View.{view, members_view};
 ghost use Rattle.view_change.specs.Lines.{put_some, lights_data, sights_data, mode_data, put_owned as put_owned_data, put_whole as put_whole_data, map_data, token_data, maps_data, tokens_data, view_data};
 
-use crate::lists::{LightTexts, MapViews, SightTexts, TokenViews};
 use crate::terrain::{runs, terrain};
 use crate::values::{cell, id, props, put_member, seats, text_or_null, wholes};
-use crate::view::{GmPart, MapView, OwnedPart, TokenView, View};
 use names::Mode;
 use serde_json::{Map, Value, json};
 use std::alloc::{AllocError, Global};
+use views::{
+    GmPart, LightTexts, MapView, MapViews, OwnedPart, SightTexts, TokenView, TokenViews, View,
+};
 
 pub(crate) fn lights(alloc: Global, lights: &LightTexts) -> Result<Value, AllocError>
     ensures { IfOk result (λ v. view v ≡ lights_data lights.now) }

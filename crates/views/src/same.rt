@@ -1,16 +1,24 @@
 //! Whether two views, or two parts of views, are equal.
-ghost use Rattle.std.specs.Prelude.{◌≡◌};
+ghost use Rattle.std.specs.Prelude.{◌≡◌, ◌↔◌, IsTrue};
 ghost use Rattle.std.specs.Str.{bytes_eq};
 ghost use Rattle.std.specs.Cmp.Lexicographic.{pointwise};
 ghost use Rattle.cells.specs.Cells.{cells_eq};
-ghost use Rattle.view_change.specs.Same as same;
+ghost use Rattle.views.specs.Same as same;
 
 use crate::lists::{Letters, LightTexts, SightTexts};
 use crate::view::{GmPart, MapView, OwnedPart, TokenView, View};
 use cells::CellSet;
 use names::{Layer, Mode, Tag, Text};
 
-pub(crate) fn same_mode(a: Mode, b: Mode) -> bool
+/// Whether the two modes are equal.
+pub fn same_mode(a: Mode, b: Mode) -> bool
+    ensures test { result ≡ same.same_mode a b }
+    ensures tells { IsTrue result ↔ (a ≡ b) }
+{
+    same_number(a, b)
+}
+
+fn same_number(a: Mode, b: Mode) -> bool
     ensures { result ≡ same.same_mode a b }
 {
     a == b
@@ -22,7 +30,7 @@ fn same_layer(a: Layer, b: Layer) -> bool
     a == b
 }
 
-pub(crate) fn same_shown(a: Option<bool>, b: Option<bool>) -> bool
+fn same_flag(a: Option<bool>, b: Option<bool>) -> bool
     ensures { result ≡ same.same_option same.same_bool a b }
 {
     match (a, b) {
@@ -30,6 +38,14 @@ pub(crate) fn same_shown(a: Option<bool>, b: Option<bool>) -> bool
         (Some(a), Some(b)) => a == b,
         _ => false,
     }
+}
+
+/// Whether the two are equal: what a view says of whether players are shown a map.
+pub fn same_shown(a: Option<bool>, b: Option<bool>) -> bool
+    ensures test { result ≡ same.same_option same.same_bool a b }
+    ensures tells { IsTrue result ↔ (a ≡ b) }
+{
+    same_flag(a, b)
 }
 
 fn same_name(a: Option<Tag>, b: Option<Tag>) -> bool
@@ -69,19 +85,19 @@ fn same_props(a: &[(Tag, Text)], b: &[(Tag, Text)]) -> bool
     true
 }
 
-pub(crate) fn same_lights(a: &LightTexts, b: &LightTexts) -> bool
+fn same_lights(a: &LightTexts, b: &LightTexts) -> bool
     ensures { result ≡ pointwise same.same_light a.now b.now }
 {
     a.items() == b.items()
 }
 
-pub(crate) fn same_sights(a: &SightTexts, b: &SightTexts) -> bool
+fn same_sights(a: &SightTexts, b: &SightTexts) -> bool
     ensures { result ≡ pointwise same.same_bytes a.now b.now }
 {
     a.items() == b.items()
 }
 
-pub(crate) fn same_letters(a: &Letters, b: &Letters) -> bool
+fn same_letters(a: &Letters, b: &Letters) -> bool
     ensures { result ≡ pointwise same.same_letter a.now b.now }
 {
     a.items() == b.items()
@@ -123,8 +139,7 @@ fn same_whole(a: &Option<GmPart>, b: &Option<GmPart>) -> bool
     }
 }
 
-/// Whether the two tokens are equal.
-pub(crate) fn same_token(a: &TokenView, b: &TokenView) -> bool
+fn same_token_parts(a: &TokenView, b: &TokenView) -> bool
     ensures { result ≡ same.same_token a.now b.now }
 {
     a.id == b.id
@@ -138,8 +153,15 @@ pub(crate) fn same_token(a: &TokenView, b: &TokenView) -> bool
         && same_whole(&a.whole, &b.whole)
 }
 
-/// Whether the two maps are equal.
-pub(crate) fn same_map(a: &MapView, b: &MapView) -> bool
+/// Whether the two tokens are equal.
+pub fn same_token(a: &TokenView, b: &TokenView) -> bool
+    ensures test { result ≡ same.same_token a.now b.now }
+    ensures tells { IsTrue result ↔ (a.now ≡ b.now) }
+{
+    same_token_parts(a, b)
+}
+
+fn same_map_parts(a: &MapView, b: &MapView) -> bool
     ensures { result ≡ same.same_map a.now b.now }
 {
     a.name == b.name
@@ -151,6 +173,14 @@ pub(crate) fn same_map(a: &MapView, b: &MapView) -> bool
         && same_letters(&a.letters, &b.letters)
 }
 
+/// Whether the two maps are equal.
+pub fn same_map(a: &MapView, b: &MapView) -> bool
+    ensures test { result ≡ same.same_map a.now b.now }
+    ensures tells { IsTrue result ↔ (a.now ≡ b.now) }
+{
+    same_map_parts(a, b)
+}
+
 #[tactic(auto, using(crate::proofs::SameLoops::same_length, crate::proofs::SameLoops::same_next, crate::proofs::SameLoops::same_end))]
 fn same_maps(a: &[MapView], b: &[MapView]) -> bool
     ensures { result ≡ pointwise same.same_map a.now b.now }
@@ -159,7 +189,7 @@ fn same_maps(a: &[MapView], b: &[MapView]) -> bool
         return false;
     }
     for i in 0..a.len() {
-        if !same_map(&a[i], &b[i]) {
+        if !same_map_parts(&a[i], &b[i]) {
             return false;
         }
     }
@@ -174,16 +204,15 @@ fn same_tokens(a: &[TokenView], b: &[TokenView]) -> bool
         return false;
     }
     for i in 0..a.len() {
-        if !same_token(&a[i], &b[i]) {
+        if !same_token_parts(&a[i], &b[i]) {
             return false;
         }
     }
     true
 }
 
-/// Whether the two views are equal.
 #[tactic(auto, unfolding(crate::specs::Same::same_view))]
-pub(crate) fn same_view(a: &View, b: &View) -> bool
+fn same_view_parts(a: &View, b: &View) -> bool
     ensures { result ≡ same.same_view a.now b.now }
 {
     a.gm == b.gm
@@ -191,4 +220,12 @@ pub(crate) fn same_view(a: &View, b: &View) -> bool
         && same_sights(&a.sights, &b.sights)
         && same_maps(a.maps.items(), b.maps.items())
         && same_tokens(a.tokens.items(), b.tokens.items())
+}
+
+/// Whether the two views are equal.
+pub fn same_view(a: &View, b: &View) -> bool
+    ensures test { result ≡ same.same_view a.now b.now }
+    ensures tells { IsTrue result ↔ (a.now ≡ b.now) }
+{
+    same_view_parts(a, b)
 }

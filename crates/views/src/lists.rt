@@ -178,7 +178,7 @@ pub struct MapViews {
 
 impl Model for MapViews {
     ghost use Rattle.std.specs.Prelude.{List};
-    ghost use Rattle.view_change.specs.declared.view.MapView.{MapView};
+    ghost use Rattle.views.specs.declared.view.MapView.{MapView};
 
     ghost Value = { List MapView };
 
@@ -202,7 +202,7 @@ pub struct TokenViews {
 
 impl Model for TokenViews {
     ghost use Rattle.std.specs.Prelude.{List};
-    ghost use Rattle.view_change.specs.declared.view.TokenView.{TokenView};
+    ghost use Rattle.views.specs.declared.view.TokenView.{TokenView};
 
     ghost Value = { List TokenView };
 
@@ -226,7 +226,7 @@ pub struct MapChanges {
 
 impl Model for MapChanges {
     ghost use Rattle.std.specs.Prelude.{List};
-    ghost use Rattle.view_change.specs.declared.change.MapChange.{MapChange};
+    ghost use Rattle.views.specs.declared.change.MapChange.{MapChange};
 
     ghost Value = { List MapChange };
 

@@ -4,9 +4,9 @@ use Rattle.std.specs.declared.cmp.Ordering.{Ordering}
 use Rattle.std.specs.Ordering.{nat_cmp, on, then_cmp}
 use Rattle.cells.specs.declared.cell.Cell.{Cell}
 use Rattle.names.specs.declared.token_id.TokenId.{TokenId}
-use Rattle.view_change.specs.declared.view.MapView.{MapView}
-use Rattle.view_change.specs.declared.view.TokenView.{TokenView}
-use Rattle.view_change.specs.declared.change.MapChange.{MapChange}
+use Rattle.views.specs.declared.view.MapView.{MapView}
+use Rattle.views.specs.declared.view.TokenView.{TokenView}
+use Rattle.views.specs.declared.change.MapChange.{MapChange}
 
 -- a value under a name
 abbrev pub Named : Type 0 → Type 0

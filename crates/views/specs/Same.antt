@@ -10,12 +10,12 @@ use Rattle.names.specs.declared.kinds.Mode.TheVariants.{Off, Day, Night}
 use Rattle.names.specs.declared.kinds.Layer.{Layer}
 use Rattle.names.specs.declared.kinds.Layer.TheVariants.{Token, Hidden, Object, Background}
 use Rattle.names.specs.TokenId.{id_eq}
-use Rattle.view_change.specs.Keys.{Named, Letter}
-use Rattle.view_change.specs.declared.view.MapView.{MapView}
-use Rattle.view_change.specs.declared.view.TokenView.{TokenView}
-use Rattle.view_change.specs.declared.view.OwnedPart.{OwnedPart}
-use Rattle.view_change.specs.declared.view.GmPart.{GmPart}
-use Rattle.view_change.specs.declared.view.View.{View}
+use Rattle.views.specs.Keys.{Named, Letter}
+use Rattle.views.specs.declared.view.MapView.{MapView}
+use Rattle.views.specs.declared.view.TokenView.{TokenView}
+use Rattle.views.specs.declared.view.OwnedPart.{OwnedPart}
+use Rattle.views.specs.declared.view.GmPart.{GmPart}
+use Rattle.views.specs.declared.view.View.{View}
 
 abbrev pub same_option : {A : Type 0} → (A → A → Bool) → Option A → Option A → Bool
 same_option same None None = true

@@ -13,7 +13,7 @@ use Rattle.names.specs.declared.kinds.Mode.TheVariants.{Off, Day, Night}
 use Rattle.names.specs.declared.kinds.Layer.{Layer}
 use Rattle.names.specs.declared.kinds.Layer.TheVariants.{Token, Hidden, Object, Background}
 use Rattle.names.proofs.SameIds.{id_eq-Decides}
-use Rattle.view_change.specs.Same.{same_option, same_bool, mode_number, same_mode, layer_number, same_layer, same_extent, same_cell, same_letter, same_light, same_bytes, same_props, same_map, same_owned, same_whole, same_token, same_view}
+use Rattle.views.specs.Same.{same_option, same_bool, mode_number, same_mode, layer_number, same_layer, same_extent, same_cell, same_letter, same_light, same_bytes, same_props, same_map, same_owned, same_whole, same_token, same_view}
 
 -- a test that tells equality
 abbrev pub Tells : {A : Type 0} → (A → A → Bool) → Type 0
