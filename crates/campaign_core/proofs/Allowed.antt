@@ -1,5 +1,5 @@
 -- What an accepted command may rely on.
-use Rattle.std.proofs.Common.{◌≡◌, ℕ, Bool, true, false, cond, eqb, length, Some, None, refl, sym, ◌∙◌, ap}
+use Rattle.std.proofs.Common.{◌≡◌, ℕ, List, Bool, true, false, cond, eqb, length, Some, None, refl, sym, ◌∙◌, ap}
 use Rattle.std.specs.Prelude.{Option, Result, Ok, Err}
 use Rattle.seats.specs.Book.{Book, join_refusal}
 use Rattle.seats.specs.SeatState.{is_joined}

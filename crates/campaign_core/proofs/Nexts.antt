@@ -32,6 +32,11 @@ after_command w e o c steps s is some at made =
 pub left_as_it_is : (w : World) (e : Entry) (o : Outcome) (c : Command) (steps : ℕ) → IsSettled w.scene → o ≡ outcome_of w e → o.done ≡ Some c → steps ≡ steps_of w e → w.scene ≡ scene_by steps (seat_of e) w.scene (Some c) → scene_after w e ≡ w.scene
 left_as_it_is w e o c steps is_settled is some at made = sym (after_command w e o c steps w.scene is some at made) ∙ is_settled
 
+-- no command, no other scene
+pub left_alone : (w : World) (e : Entry) (o : Outcome) → IsSettled w.scene → o ≡ outcome_of w e → o.done ≡ None → scene_after w e ≡ w.scene
+unfolding scene_after scene_by
+left_alone w e o is_settled is none = ap (λ d. settled (scene_by (steps_of w e) (seat_of e) w.scene d)) (sym (ap (λ (x : Outcome). x.done) is) ∙ none) ∙ is_settled
+
 -- fields don't depend on what is exposed
 pub fields_stay : (s : Scene) (fields : List (TokenId × Cells)) → HasFields s fields → HasFields (settled s) fields
 unfolding settled
