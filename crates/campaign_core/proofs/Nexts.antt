@@ -1,6 +1,6 @@
 -- The scene after an entry.
 use Rattle.std.proofs.Common.{◌≡◌, ℕ, List, [], ◌∷◌, Some, None, refl, sym, ◌∙◌, ap, ℤ}
-use Rattle.std.specs.Prelude.{Option}
+use Rattle.std.specs.Prelude.{Option, Result, Ok, Err, IfOk}
 use Rattle.names.specs.declared.token_id.TokenId.{TokenId}
 use Rattle.tokens.specs.declared.token.Token.{Token}
 use Rattle.command_json.specs.declared.command.Command.{Command}
@@ -12,6 +12,8 @@ use Rattle.command_rules.specs.Effects.{scene_by, steps_by, after_steps, own_tok
 use Rattle.command_rules.specs.Settle.{settled, IsSettled}
 use Rattle.campaign_law.specs.declared.entry.Entry.{Entry}
 use Rattle.campaign_law.specs.Outcome.{Outcome, outcome_at, seat_of}
+use Rattle.campaign_core.specs.declared.next.Changed.{Changed}
+use Rattle.campaign_core.specs.Changed.{IsChanged, scene_in}
 use Rattle.campaign_law.specs.World.{World, asked_of, seat_at, outcome_of, steps_of, scene_after}
 
 -- no command, no steps
@@ -60,3 +62,12 @@ settled_keeps s = refl
 pub players_stay : (w : World) (e : Entry) → (scene_after w e).fog.players ≡ w.scene.fog.players
 unfolding scene_after
 players_stay w e = settled_keeps (scene_by (steps_of w e) (seat_of e) w.scene (outcome_of w e).done) ∙ command_keeps (steps_of w e) (seat_of e) w.scene (outcome_of w e).done
+
+-- the scene that stands after the entry
+pub stands : (w : World) (e : Entry) (changed : Option Changed) → IsChanged w e changed → scene_in w.scene changed ≡ scene_after w e
+stands w e None h = sym h
+stands w e (Some changed) h = h.0
+
+pub if_ok : {A E : Type 0} (r : Result A E) (P Q : A → Type 0) → ((x : A) → P x → Q x) → IfOk r P → IfOk r Q
+if_ok (Ok x) P Q f h = f x h
+if_ok (Err e) P Q f h = tt
