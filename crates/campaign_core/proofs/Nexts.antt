@@ -55,7 +55,7 @@ command_keeps steps seat s None = refl
 command_keeps steps seat s (Some (Move token path)) = steps_keep steps token path (own_token s seat token) s
 command_keeps steps seat s (Some _) = refl
 
-settled_keeps : (s : Scene) → (settled s).fog.players ≡ s.fog.players
+pub settled_keeps : (s : Scene) → (settled s).fog.players ≡ s.fog.players
 unfolding settled
 settled_keeps s = refl
 

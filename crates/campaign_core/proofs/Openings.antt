@@ -16,3 +16,7 @@ fresh_seats place (b ∷ books) f = (record { book = f.0.fresh; queued = refl; t
 
 pub opening_is : (books : List Book) (scene : Scene) → IsOpeningList books → IsOpening (world_in (opening_state books scene))
 opening_is books scene f = record { seats = fresh_seats 0 books f.fresh; scene = settled_twice scene }
+
+pub opened_seats : (books : List Book) → map (λ post. post.seat) (map opening_post books) ≡ map fresh_seat books
+opened_seats [] = refl
+opened_seats (b ∷ books) = ap (λ seats. fresh_seat b ∷ seats) (opened_seats books)
