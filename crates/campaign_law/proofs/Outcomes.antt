@@ -13,7 +13,7 @@ use Rattle.command_rules.specs.declared.refusal.Refusal.TheVariants.{NoHello}
 use Rattle.player_view.specs.Asked.{Asked}
 use Rattle.command_json.specs.Commands.{command_of}
 use Rattle.campaign_law.specs.Seat.{Seat, blank_seat, was_joined}
-use Rattle.campaign_law.specs.Outcome.{Outcome, nothing, outcome_at, join_outcome, read_outcome, is_bye, book_done, accepted, decided, refused_direct, refused_line, refusal_of_join, blank_entry, seat_of}
+use Rattle.campaign_law.specs.Outcome.{Outcome, nothing, outcome_at, join_outcome, read_outcome, is_bye, tag_made, using_tag, book_done, accepted, decided, refused_direct, refused_line, refusal_of_join, blank_entry, seat_of}
 use Rattle.command_rules.specs.Rules.{rule_of}
 use Rattle.campaign_law.specs.World.{changed, is_present, queued_reply}
 use Rattle.seats.proofs.Books.{is_joined-blank, counted-blank, joined-blank, left-blank, join_refusal-blank}
@@ -30,12 +30,16 @@ join_outcome-blank asked b reader writer (Some refusal) = ap (λ j. refused_dire
 refused_line-blank : (b : Book) (r : Refusal) → refused_line (blank_book b) r ≡ blank_outcome (refused_line b r)
 refused_line-blank b r = ap (λ c. record (refused_line b r) { book = Some c }) (counted-blank b)
 
-left_if-blank : (leaves : Bool) (b : Book) → cond leaves (left (blank_book b)) (blank_book b) ≡ blank_book (cond leaves (left b) b)
-left_if-blank true b = left-blank b
-left_if-blank false b = refl
+using_tag-blank : (tag : Option (List ℕ)) (b : Book) → using_tag tag (blank_book b) ≡ blank_book (using_tag tag b)
+using_tag-blank None b = refl
+using_tag-blank (Some tag) b = refl
+
+left_if-blank : (leaves : Bool) (tag : Option (List ℕ)) (b : Book) → cond leaves (left (blank_book b)) (using_tag tag (blank_book b)) ≡ blank_book (cond leaves (left b) (using_tag tag b))
+left_if-blank true tag b = left-blank b
+left_if-blank false tag b = using_tag-blank tag b
 
 book_done-blank : (c : Command) (b : Book) → book_done c (blank_book b) ≡ blank_book (book_done c b)
-book_done-blank c b = left_if-blank (is_bye c) b
+book_done-blank c b = left_if-blank (is_bye c) (tag_made c) b
 
 accepted-blank : (steps seat : ℕ) (b : Book) (c : Command) → accepted steps seat (blank_book b) c ≡ blank_outcome (accepted steps seat b c)
 accepted-blank steps seat b c = ap (λ x. record (accepted steps seat b c) { book = Some x }) (ap (book_done c) (counted-blank b) ∙ book_done-blank c (counted b))

@@ -213,17 +213,17 @@ acts_any seats before e steps o v v' last l sound fit absent agrees =
 
 -- ---- the world
 
--- a view answers as the world, question by question
-asked_alike : (w : World) (p : ℕ) → asked_of_view (length w.seats) (view_of w.scene p) ≡ asked_of w p
-asked_alike w p = asked_alike_of (length w.seats) w.scene p
+-- a player's view answers as the world, question by question
+asked_alike : (w : World) (p : ℕ) → 1 ≤ p → asked_of_view (length w.seats) (view_of w.scene p) ≡ asked_of w p
+asked_alike w p player = asked_alike_of (length w.seats) w.scene p player
 
 same_seats : (w : World) (p : ℕ) (last : View) → (asked_of_view (length w.seats) last).seats ≡ (asked_of w p).seats
 unfolding asked_of_view asked_of_scene
 same_seats w p last = refl
 
-decides_alike : (w : World) (e : Entry) (last : View) (j : Bool) → was_joined (seat_at w (seat_of e)) ≡ j → (j ≡ true → last ≡ view_of w.scene (seat_of e)) → outcome_at (asked_of_view (length w.seats) last) (steps_of w e) (seat_at w (seat_of e)) e ≡ outcome_of w e
-decides_alike w e last true h l = ap (λ a. outcome_at a (steps_of w e) (seat_at w (seat_of e)) e) (ap (asked_of_view (length w.seats)) (l refl) ∙ asked_alike w (seat_of e))
-decides_alike w e last false h l = outcome_at-unasked (asked_of_view (length w.seats) last) (asked_of w (seat_of e)) (steps_of w e) (seat_at w (seat_of e)) e (same_seats w (seat_of e) last) h
+decides_alike : (w : World) (e : Entry) (last : View) (j : Bool) → 1 ≤ seat_of e → was_joined (seat_at w (seat_of e)) ≡ j → (j ≡ true → last ≡ view_of w.scene (seat_of e)) → outcome_at (asked_of_view (length w.seats) last) (steps_of w e) (seat_at w (seat_of e)) e ≡ outcome_of w e
+decides_alike w e last true player h l = ap (λ a. outcome_at a (steps_of w e) (seat_at w (seat_of e)) e) (ap (asked_of_view (length w.seats)) (l refl) ∙ asked_alike w (seat_of e) player)
+decides_alike w e last false player h l = outcome_at-unasked (asked_of_view (length w.seats) last) (asked_of w (seat_of e)) (steps_of w e) (seat_at w (seat_of e)) e (same_seats w (seat_of e) last) h
 
 fits_any : (asked : Asked) (steps : ℕ) (before : Option Seat) (e : Entry) → IfSome before (λ s. IsFit s (outcome_at asked steps before e))
 fits_any asked steps None e = tt
@@ -241,22 +241,22 @@ abbrev FollowsWorld : World → ℕ → Machine → Type 0
 FollowsWorld w p m = Follows (length w.seats) (seat_at w p) (view_of w.scene p) m
 
 -- at the entry's own seat, or another
-one_entry : (w : World) (e : Entry) (p : ℕ) (acts : Bool) (last : View) → eqb (seat_of e) p ≡ acts → (was_joined (seat_at w p) ≡ true → last ≡ view_of w.scene p) → IfSome (seat_at w p) IsSound → OneEntry (length w.seats) p acts (seat_at w p) e (steps_of w e) (outcome_of w e) (view_of w.scene p) (view_of (scene_after w e) p) (at (length w.seats) (seat_at w p) last)
-one_entry w e p false last is l sound = rests_any (length w.seats) p (seat_at w p) e (steps_of w e) (outcome_of w e) (view_of w.scene p) (view_of (scene_after w e) p) last l sound
-one_entry w e p true last is l sound =
-    subst (λ q. (was_joined (seat_at w q) ≡ true → last ≡ view_of w.scene q) → IfSome (seat_at w q) IsSound → OneEntry (length w.seats) q true (seat_at w q) e (steps_of w e) (outcome_of w e) (view_of w.scene q) (view_of (scene_after w e) q) (at (length w.seats) (seat_at w q) last))
+one_entry : (w : World) (e : Entry) (p : ℕ) (acts : Bool) (last : View) → eqb (seat_of e) p ≡ acts → 1 ≤ p → (was_joined (seat_at w p) ≡ true → last ≡ view_of w.scene p) → IfSome (seat_at w p) IsSound → OneEntry (length w.seats) p acts (seat_at w p) e (steps_of w e) (outcome_of w e) (view_of w.scene p) (view_of (scene_after w e) p) (at (length w.seats) (seat_at w p) last)
+one_entry w e p false last is player l sound = rests_any (length w.seats) p (seat_at w p) e (steps_of w e) (outcome_of w e) (view_of w.scene p) (view_of (scene_after w e) p) last l sound
+one_entry w e p true last is player l sound =
+    subst (λ q. 1 ≤ q → (was_joined (seat_at w q) ≡ true → last ≡ view_of w.scene q) → IfSome (seat_at w q) IsSound → OneEntry (length w.seats) q true (seat_at w q) e (steps_of w e) (outcome_of w e) (view_of w.scene q) (view_of (scene_after w e) q) (at (length w.seats) (seat_at w q) last))
     (eqb-true (seat_of e) p is)
-    (λ l sound. acts_any (length w.seats) (seat_at w (seat_of e)) e (steps_of w e) (outcome_of w e) (view_of w.scene (seat_of e)) (view_of (scene_after w e) (seat_of e)) last l sound
+    (λ player l sound. acts_any (length w.seats) (seat_at w (seat_of e)) e (steps_of w e) (outcome_of w e) (view_of w.scene (seat_of e)) (view_of (scene_after w e) (seat_of e)) last l sound
     (fits_any (asked_of w (seat_of e)) (steps_of w e) (seat_at w (seat_of e)) e) (absent_any (asked_of w (seat_of e)) (steps_of w e) (seat_at w (seat_of e)) e)
-    (outcome_at-blank (asked_of_view (length w.seats) last) (steps_of w e) (seat_at w (seat_of e)) e ∙ ap blank_outcome (decides_alike w e last (was_joined (seat_at w (seat_of e))) refl l)))
-    l sound
+    (outcome_at-blank (asked_of_view (length w.seats) last) (steps_of w e) (seat_at w (seat_of e)) e ∙ ap blank_outcome (decides_alike w e last (was_joined (seat_at w (seat_of e))) player refl l)))
+    player l sound
 
 seat_at-step : (w : World) (e : Entry) (p : ℕ) → seat_at (step w e) p ≡ next_seat p (eqb (seat_of e) p) (seat_at w p) (outcome_of w e) (view_of w.scene p) (view_of (scene_after w e) p)
 seat_at-step w e p = slice_get-mapped_from (seat_after w e) 0 w.seats p ∙ ap (λ q. option_map (seat_after w e q) (seat_at w p)) (zero-add p)
 
-step_follows : (w : World) (e : Entry) (p : ℕ) (m : Machine) → FollowsWorld w p m → StepFollows w e p m
-step_follows w e p m f =
-    let x = one_entry w e p (eqb (seat_of e) p) f.last refl f.seen f.sound in
+step_follows : (w : World) (e : Entry) (p : ℕ) (m : Machine) → 1 ≤ p → FollowsWorld w p m → StepFollows w e p m
+step_follows w e p m player f =
+    let x = one_entry w e p (eqb (seat_of e) p) f.last refl player f.seen f.sound in
     let items : List Item = items_of w e p in
     let v' : View = view_of (scene_after w e) p in
     let s' : Option Seat = next_seat p (eqb (seat_of e) p) (seat_at w p) (outcome_of w e) (view_of w.scene p) v' in
@@ -270,11 +270,11 @@ step_follows w e p m f =
 
 -- ---- whole histories
 
-sent_is_run : (w : World) (h : List Entry) (p : ℕ) (m : Machine) → FollowsWorld w p m → sent w h p ≡ run m (trace w h p)
-sent_is_run w [] p m f = refl
-sent_is_run w (e ∷ h) p m f =
-    let x = step_follows w e p m f in
-    ap₂ (λ ls rest. ls ++ rest) (sym x.lines) (sent_is_run (step w e) h p (after_all m (items_of w e p)) x.follows)
+sent_is_run : (w : World) (h : List Entry) (p : ℕ) (m : Machine) → 1 ≤ p → FollowsWorld w p m → sent w h p ≡ run m (trace w h p)
+sent_is_run w [] p m player f = refl
+sent_is_run w (e ∷ h) p m player f =
+    let x = step_follows w e p m player f in
+    ap₂ (λ ls rest. ls ++ rest) (sym x.lines) (sent_is_run (step w e) h p (after_all m (items_of w e p)) player x.follows)
     ∙ sym (run-append m (items_of w e p) (trace (step w e) h p))
 
 pub fresh_sound : (s : Seat) → IsFreshSeat s → IsSound s
@@ -303,10 +303,10 @@ started_follows w p fresh =
     subst (λ s. FollowsWorld w p (record { seat = s; seats = length w.seats; last = no_view; due = false })) (sym (fresh_started (seat_at w p) f)) (fresh_follows (length w.seats) (seat_at w p) (view_of w.scene p) f)
 
 pub sent_is_machine : SentIsMachine
-sent_is_machine w h p fresh = sent_is_run w h p (started (opening w p)) (started_follows w p fresh)
+sent_is_machine w h p fresh player = sent_is_run w h p (started (opening w p)) player (started_follows w p fresh)
 
 pub agreeing_send_alike : AgreeingSendAlike
-agreeing_send_alike w h w' h' p fresh fresh' a =
-    sent_is_machine w h p fresh
+agreeing_send_alike w h w' h' p player fresh fresh' a =
+    sent_is_machine w h p fresh player
     ∙ ap₂ (λ o items. run (started o) items) a.openings a.traces
-    ∙ sym (sent_is_machine w' h' p fresh')
+    ∙ sym (sent_is_machine w' h' p fresh' player)

@@ -1,5 +1,5 @@
 -- Campaigns as their contracts see them, and the law of what a player is sent.
-use Rattle.std.specs.Prelude.{◌≡◌, ◌==◌, ℕ, Bool, true, false, List, [], ◌∷◌, ◌++◌, flat_map, Option, Some, None, option_map, is_some, if◌then◌else◌}
+use Rattle.std.specs.Prelude.{◌≡◌, ◌≤◌, ◌==◌, ℕ, Bool, true, false, List, [], ◌∷◌, ◌++◌, flat_map, Option, Some, None, option_map, is_some, if◌then◌else◌}
 use Rattle.std.specs.List.{AllByRecursion}
 use Rattle.campaign_law.specs.declared.entry.Entry.{Entry}
 use Rattle.campaign_law.specs.declared.answer.Answer.{Answer}
@@ -35,9 +35,10 @@ answer_of steps o = record { refusal = o.refusal; taken = steps; line = if o.dir
 abbrev pub answer_after : Course → Entry → Answer
 answer_after c e = answer_of (steps_of (world_of c) e) (outcome_of (world_of c) e)
 
--- what a seat was sent is what the player machine prints, which holds no world
+-- what a player was sent is what the player machine prints, which holds no world; seat 0 is the game master's, whose commands
+-- are decided over the whole scene
 abbrev pub IsSentAsMachine : World → List Entry → ℕ → Type 0
-IsSentAsMachine w h p = sent w h p ≡ machine (opening w p) (trace w h p)
+IsSentAsMachine w h p = 1 ≤ p → sent w h p ≡ machine (opening w p) (trace w h p)
 
 -- each line with its LF
 abbrev pub bytes_of : List (List ℕ) → List ℕ
@@ -66,10 +67,10 @@ RefusedChangesLittle = (w : World) (h : List Entry) (e : Entry) → IsOpening w 
 abbrev pub NoLineEndIsSent : Type 0
 NoLineEndIsSent = (w : World) (h : List Entry) (p : ℕ) → AllByRecursion IsOneLine (sent w h p)
 
--- for every opening world, every history and every seat
+-- for every opening world, every history and every player
 abbrev pub SentIsMachine : Type 0
 SentIsMachine = (w : World) (h : List Entry) (p : ℕ) → IsOpening w → IsSentAsMachine w h p
 
 -- histories that agree for a player send it the same lines
 abbrev pub AgreeingSendAlike : Type 0
-AgreeingSendAlike = (w : World) (h : List Entry) (w' : World) (h' : List Entry) (p : ℕ) → IsOpening w → IsOpening w' → Agree w h w' h' p → sent w h p ≡ sent w' h' p
+AgreeingSendAlike = (w : World) (h : List Entry) (w' : World) (h' : List Entry) (p : ℕ) → 1 ≤ p → IsOpening w → IsOpening w' → Agree w h w' h' p → sent w h p ≡ sent w' h' p

@@ -1,6 +1,6 @@
 -- What an entry does to its own seat, from what it asks. A world and a player machine decide by the same definition.
 use Rattle.std.specs.Prelude.{ℕ, ◌+◌, ◌==◌, Bool, true, false, List, [], ◌∷◌, if◌then◌else◌, Option, Some, None, Result, Ok, Err, codes}
-use Rattle.seats.specs.Book.{Book, joined, left, counted, join_refusal}
+use Rattle.seats.specs.Book.{Book, joined, left, counted, join_refusal, with_tag}
 use Rattle.seats.specs.SeatState.{is_joined}
 use Rattle.seats.specs.declared.seat_state.JoinRefusal.{JoinRefusal}
 use Rattle.seats.specs.declared.seat_state.JoinRefusal.TheVariants as joins
@@ -95,9 +95,20 @@ abbrev pub said : Command → Option (To × List ℕ)
 said (Say text to) = Some (to, text)
 said c = None
 
--- what an accepted command does to the book, the line being counted
+-- the tag of the token that a command makes
+abbrev pub tag_made : Command → Option (List ℕ)
+tag_made (Make tag map cell name) = Some tag
+tag_made (Token tag map cell name size layer) = Some tag
+tag_made c = None
+
+-- the book once the tag is used
+abbrev pub using_tag : Option (List ℕ) → Book → Book
+using_tag None b = b
+using_tag (Some tag) b = with_tag b tag
+
+-- what an accepted command does to the book, the line being counted: a bye ends the session, and the tag of a made token is used
 abbrev pub book_done : Command → Book → Book
-book_done c b = if is_bye c then left b else b
+book_done c b = if is_bye c then left b else using_tag (tag_made c) b
 
 -- the name of an accepted command in its reply
 abbrev pub reply_name : Command → List ℕ

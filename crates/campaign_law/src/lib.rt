@@ -10,9 +10,9 @@ mod entry;
 pub use answer::Answer;
 pub use entry::Entry;
 
-/// The laws of what players are sent, over every opening world, every history and every seat: it is
-/// what the player machine prints, which holds no world; histories that agree for a player send it
-/// the same lines; and no line holds an LF. A refused entry changes no more than its seat's count,
+/// The laws of what players are sent, over every opening world, every history and every player: it
+/// is what the player machine prints, which holds no world; histories that agree for a player send
+/// it the same lines; and no line to any seat holds an LF. A refused entry changes no more than its seat's count,
 /// the queue by its reply, and the history.
 pub fn sent_is_machine()
     ensures machine { SentIsMachine }

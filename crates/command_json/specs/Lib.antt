@@ -4,3 +4,4 @@ pub mod Faults
 pub mod Fields
 pub mod GameMaster
 pub mod Verbs
+pub mod Limits

@@ -1,8 +1,10 @@
 //! From a line to its command.
+ghost use Rattle.std.specs.Prelude.{IfOk};
 ghost use Rattle.serde_json.specs.View.{view};
 ghost use Rattle.json_fields.specs.Objects.{Gives};
 ghost use Rattle.command_json.specs.Commands.{command_in, command_of};
 ghost use Rattle.command_json.specs.Faults.{Fails};
+ghost use Rattle.command_json.specs.Limits.{IsCommand};
 
 use crate::command::{Command, LineFault};
 use crate::every_seat::read_fields;
@@ -35,9 +37,16 @@ fn read_command(alloc: Global, value: &Value, gm: bool) -> Result<Command, LineF
 /// - `BadField`: a field is missing, of another kind or out of its range, the first in the command's order; else a
 ///   key isn't known, the least in the order of bytes. A key whose value is null isn't missing.
 ///
-/// `Memory` is want of memory.
-#[tactic(auto, unfolding(crate::specs::Commands::command_of))]
+/// `Memory` is want of memory. The numbers and texts of a command are in their limits.
 pub fn read_line(alloc: Global, line: &[u8], gm: bool) -> Result<Command, LineFault>
+    ensures value { Gives Fails (λ c. c) result (command_of line.now gm) }
+    ensures limits { IfOk result IsCommand }
+{
+    read_known(alloc, line, gm)
+}
+
+#[tactic(auto, unfolding(crate::specs::Commands::command_of))]
+fn read_known(alloc: Global, line: &[u8], gm: bool) -> Result<Command, LineFault>
     ensures { Gives Fails (λ c. c) result (command_of line.now gm) }
 {
     match read_value(alloc, line) {

@@ -1,5 +1,8 @@
 pub mod Places
+pub mod GmRules
 pub mod Rules
+pub mod Making
+pub mod GmEffects
 pub mod Effects
 pub mod Settle
 pub mod Allowed

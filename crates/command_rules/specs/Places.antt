@@ -1,7 +1,9 @@
--- Places that commands name by whole numbers, and whether they are on a map.
-use Rattle.std.specs.Prelude.{ℕ, ◌+◌, ◌-◌, ◌==◌, ◌&&◌, not, Bool, true, false, List, [], ◌∷◌, ℤ, pos, negsuc, nat_le, max, min}
+-- Places, rectangles and points that commands name by whole numbers, and what of them is on a map.
+use Rattle.std.specs.Prelude.{ℕ, ◌+◌, ◌*◌, ◌-◌, ◌==◌, ◌&&◌, not, Bool, true, false, List, [], ◌∷◌, ℤ, pos, negsuc, nat_le, max, min}
+use Rattle.lattice.specs.Coordinates.{Coordinates}
 use Rattle.cells.specs.Cells.{Extent}
 use Rattle.cells.specs.declared.cell.Cell.{Cell}
+use Rattle.cells.specs.declared.cell.Rect.{Rect}
 
 -- the number isn't negative, and with so much more it is at most this
 abbrev pub fits_along : ℕ → ℕ → ℤ → Bool
@@ -20,6 +22,24 @@ coordinate (negsuc n) = 0
 -- the cell at a place that is on a map
 abbrev pub cell_at : ℤ × ℤ → Cell
 cell_at place = record { x = coordinate place.0; y = coordinate place.1 }
+
+-- four numbers: column and row of the upper left cell, width and height
+abbrev pub Numbers : Type 0
+Numbers = ℤ × ℤ × ℤ × ℤ
+
+abbrev pub rect_at : Numbers → Rect
+rect_at numbers = record { x = coordinate numbers.0; y = coordinate numbers.1; w = coordinate numbers.2; h = coordinate numbers.3 }
+
+-- the rectangle is on a map of the size
+abbrev pub rect_fits : Extent → Numbers → Bool
+rect_fits size numbers = fits_along size.w (coordinate numbers.2) numbers.0 && fits_along size.h (coordinate numbers.3) numbers.1
+
+-- the point, in half cells, is on a map of the size
+abbrev pub point_fits : Extent → ℤ × ℤ → Bool
+point_fits size point = fits_along (2 * size.w) 0 point.0 && fits_along (2 * size.h) 0 point.1
+
+abbrev pub point_at : ℤ × ℤ → Coordinates
+point_at point = record { x = coordinate point.0; y = coordinate point.1 }
 
 -- ---- steps
 

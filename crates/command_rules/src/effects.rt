@@ -1,22 +1,27 @@
 //! What an accepted command does to the scene.
-ghost use Rattle.std.specs.Prelude.{◌≡◌, ◌∷◌, ◌++◌, [], ℕ, None, Some, IfOk, OnOk, true, unwrap_or};
+ghost use Rattle.std.specs.Prelude.{◌≡◌, ◌≤◌, ◌∷◌, ◌++◌, [], None, Some, IfOk, OnOk, length, true, unwrap_or};
 ghost use Rattle.std.specs.List.{list_all};
 ghost use Rattle.maps.specs.Maps.{in_order as maps_in_order};
-ghost use Rattle.tokens.specs.Tokens.{in_order};
-ghost use Rattle.world.specs.Rules.{fits, IsScene};
+ghost use Rattle.tokens.specs.Properties.{value_limit};
+ghost use Rattle.tokens.specs.Tokens.{has_token, in_order, with_light as with_light_lem, with_prop as with_prop_lem, without as without_lem};
+ghost use Rattle.world.specs.Rules.{fits, is_known, is_player, IsScene};
+ghost use Rattle.world.specs.Scene.{with_token};
 ghost use Rattle.command_rules.specs.Places.{fits_at as fits_at_lem, cell_at as cell_at_lem};
+ghost use Rattle.command_rules.specs.Making.{players_token, with_new as with_new_lem};
 ghost use Rattle.command_rules.specs.Effects.{eye_at as eye_at_lem, eyes_along as eyes_along_lem, free_steps as free_steps_lem, steps_with as steps_with_lem, steps_by as steps_by_lem, own_token, cell_after as cell_after_lem, after_steps as after_steps_lem, scene_by as scene_by_lem};
-ghost use Rattle.command_rules.specs.Allowed.{IsAllowed, MayMove};
+ghost use Rattle.command_rules.specs.Allowed.{IsAllowed, MayMove, MaySet, MayStand};
 
+use crate::gm_effects::gm_scene_by;
+use crate::making::{cell_on, new_token, with_new};
 use crate::places::cell_at;
 use cells::{Cell, Size};
 use command_json::{CellPath, Command};
 use lattice::Point;
 use maps::GridMap;
-use names::{Memory, SeatNo, TokenId};
-use player_view::{known, mine};
+use names::{Layer, Memory, PropClass, SeatNo, Tag, Text, TokenId};
+use player_view::mine;
 use std::alloc::Global;
-use tokens::Token;
+use tokens::{Owners, PropFault, Token};
 use world::Scene;
 
 // ---- moves
@@ -138,6 +143,72 @@ fn moved(
     Ok(after)
 }
 
+// ---- tokens
+
+/// The scene once the property is set.
+pub(crate) fn with_prop(
+    alloc: Global,
+    scene: &Scene,
+    id: &TokenId,
+    class: PropClass,
+    name: &Tag,
+    value: &Text,
+) -> Result<Scene, Memory>
+    requires room { MaySet scene.now id.now class name.now }
+    requires short { length value.now ≤ value_limit }
+    ensures { IfOk result (λ s. s ≡ with_token id.now (with_prop_lem class name.now value.now) scene.now) }
+{
+    let value = Text::copy(alloc, value.text())?;
+    let mut after = scene.copy()?;
+    match after.set_prop(*id, class, *name, value) {
+        Ok(()) => Ok(after),
+        Err(PropFault::Memory) => Err(Memory),
+        Err(PropFault::PropertyLimit) => unreachable!(),
+    }
+}
+
+fn with_light(scene: &Scene, id: &TokenId, light: &Option<Tag>) -> Result<Scene, Memory>
+    requires there { has_token id.now scene.now.tokens ≡ true }
+    requires known { is_known scene.now.lights light.now ≡ true }
+    ensures { IfOk result (λ s. s ≡ with_token id.now (with_light_lem light.now) scene.now) }
+{
+    let mut after = scene.copy()?;
+    after.set_light(*id, *light);
+    Ok(after)
+}
+
+fn without(scene: &Scene, id: &TokenId) -> Result<Scene, Memory>
+    ensures { IfOk result (λ s. s ≡ record scene.now { tokens = without_lem id.now scene.now.tokens }) }
+{
+    let mut after = scene.copy()?;
+    let _gone = after.remove(*id);
+    Ok(after)
+}
+
+/// The scene once the player made the token.
+fn with_players_token(
+    alloc: Global,
+    scene: &Scene,
+    seat: SeatNo,
+    tag: &Tag,
+    map: &Tag,
+    place: (i32, i32),
+    name: &Text,
+) -> Result<Scene, Memory>
+    requires stands { MayStand scene.now map.now 1 place }
+    requires player { is_player scene.now.fog.players seat ≡ true }
+    ensures { IfOk result (λ s. s ≡ with_new_lem (players_token seat tag.now map.now place name.now) scene.now) }
+{
+    let id = TokenId {
+        maker: seat,
+        tag: *tag,
+    };
+    let owners = Owners::none().with(seat, true);
+    let cell = cell_on(scene, map, 1, place);
+    let token = new_token(alloc, id, *map, cell, name, 1, Layer::Token, owners)?;
+    with_new(scene, token)
+}
+
 // ---- commands
 
 /// What the tables tell with their lengths: the parts of a scene fit together, and no name and no id is there twice.
@@ -175,17 +246,35 @@ pub fn steps_by(
 /// The scene after an accepted command; none, where the command leaves it as it is.
 #[tactic(auto, unfolding(crate::specs::Effects::scene_by))]
 pub fn scene_by(
+    alloc: Global,
     scene: &Scene,
     seat: SeatNo,
     command: &Command,
     steps: u32,
 ) -> Result<Option<Scene>, Memory>
-    requires { IsAllowed scene.now seat command.now }
+    requires allowed { IsAllowed scene.now seat command.now }
+    requires seat { seat ≤ scene.now.fog.players }
     ensures { IfOk result (λ after. unwrap_or after scene.now ≡ scene_by_lem steps seat scene.now (Some command.now)) }
 {
     let _told = told(scene);
     match command {
         Command::Move { token, path } => Ok(Some(moved(scene, seat, token, path, steps)?)),
-        _ => Ok(None),
+        Command::Setprop {
+            token,
+            class,
+            name,
+            value,
+        } => Ok(Some(with_prop(alloc, scene, token, *class, name, value)?)),
+        Command::Light { token, light } => Ok(Some(with_light(scene, token, light)?)),
+        Command::Make {
+            tag,
+            map,
+            cell,
+            name,
+        } => Ok(Some(with_players_token(
+            alloc, scene, seat, tag, map, *cell, name,
+        )?)),
+        Command::Remove { token } => Ok(Some(without(scene, token)?)),
+        _ => gm_scene_by(alloc, scene, seat, command),
     }
 }

@@ -2,6 +2,7 @@
 #![tactic(auto)]
 
 mod effects;
+mod gm_rules;
 mod places;
 mod refusal;
 mod rules;

@@ -1,19 +1,20 @@
-//! Places that commands name by whole numbers, and the cells at them.
+//! Places that commands name by whole numbers, and the cells, rectangles and points at them.
 ghost use Rattle.std.specs.Prelude.{◌≡◌, true};
 ghost use Rattle.std.specs.List.{list_all};
-ghost use Rattle.command_rules.specs.Places.{fits_along as fits_along_lem, fits_at as fits_at_lem, cell_at as cell_at_lem, are_near as are_near_lem, is_king_step as is_king_step_lem, are_king_steps as are_king_steps_lem};
+ghost use Rattle.command_rules.specs.Places.{fits_along as fits_along_lem, fits_at as fits_at_lem, cell_at as cell_at_lem, are_near as are_near_lem, is_king_step as is_king_step_lem, are_king_steps as are_king_steps_lem, coordinate as coordinate_lem, rect_fits as rect_fits_lem, rect_at as rect_at_lem, point_fits as point_fits_lem, point_at as point_at_lem};
 
-use cells::{Cell, Size};
+use cells::{Cell, Rect, Size};
+use lattice::Point;
 
 /// Whether the number isn't negative, and with so much more is at most this.
-pub(crate) fn fits_along(most: u8, more: u8, at: i32) -> bool
+fn fits_along(most: u8, more: u32, at: i32) -> bool
     ensures { result ≡ fits_along_lem most more at }
 {
-    at >= 0 && at <= i32::from(most) - i32::from(more)
+    at >= 0 && at as u64 + more as u64 <= most as u64
 }
 
 /// Whether the square of that side at the place is on a map of the size.
-pub(crate) fn fits_at(size: Size, side: u8, place: (i32, i32)) -> bool
+pub(crate) fn fits_at(size: Size, side: u32, place: (i32, i32)) -> bool
     ensures { result ≡ fits_at_lem size side place }
 {
     fits_along(size.w(), side, place.0) && fits_along(size.h(), side, place.1)
@@ -24,7 +25,7 @@ pub(crate) fn all_fit(size: Size, side: u8, path: &[(i32, i32)]) -> bool
     ensures { result ≡ list_all (fits_at_lem size side) path.now }
 {
     for place in path {
-        if !fits_at(size, side, *place) {
+        if !fits_at(size, u32::from(side), *place) {
             return false;
         }
     }
@@ -71,4 +72,56 @@ pub(crate) fn are_king_steps(size: Size, side: u8, from: Cell, path: &[(i32, i32
         last = next;
     }
     true
+}
+
+// ---- numbers, rectangles and points
+
+/// The number, or 0 in place of a negative one.
+pub(crate) fn coordinate(number: i32) -> u32
+    ensures { result ≡ coordinate_lem number }
+{
+    if number < 0 { 0 } else { number as u32 }
+}
+
+/// Whether the rectangle is on a map of the size.
+pub(crate) fn rect_fits(size: Size, rect: (i32, i32, i32, i32)) -> bool
+    ensures { result ≡ rect_fits_lem size rect }
+{
+    fits_along(size.w(), coordinate(rect.2), rect.0)
+        && fits_along(size.h(), coordinate(rect.3), rect.1)
+}
+
+/// Whether the point is on a map of the size.
+pub(crate) fn point_fits(size: Size, point: (i32, i32)) -> bool
+    ensures { result ≡ point_fits_lem size point }
+{
+    fits_along(2 * size.w(), 0, point.0) && fits_along(2 * size.h(), 0, point.1)
+}
+
+/// The rectangle, which is on a map of the size.
+#[tactic(auto, using(crate::proofs::PlaceLemmas::columns, crate::proofs::PlaceLemmas::rows))]
+pub(crate) fn rect_at(size: Size, rect: (i32, i32, i32, i32)) -> Rect
+    requires { rect_fits_lem size rect ≡ true }
+    ensures { result ≡ rect_at_lem rect }
+{
+    let (_w, _h) = (size.w(), size.h());
+    Rect {
+        x: rect.0 as u8,
+        y: rect.1 as u8,
+        w: coordinate(rect.2) as u8,
+        h: coordinate(rect.3) as u8,
+    }
+}
+
+/// The point, which is on a map of the size.
+#[tactic(auto, using(crate::proofs::PlaceLemmas::point_column, crate::proofs::PlaceLemmas::point_row))]
+pub(crate) fn point_at(size: Size, point: (i32, i32)) -> Point
+    requires { point_fits_lem size point ≡ true }
+    ensures { result ≡ point_at_lem point }
+{
+    let (_w, _h) = (size.w(), size.h());
+    match Point::new(point.0, point.1) {
+        Some(point) => point,
+        None => unreachable!(),
+    }
 }

@@ -112,6 +112,21 @@ impl LightTable {
     }
 }
 
+impl LightTable {
+    /// The first check that a light type to be set would break.
+    pub fn fault_of(&self, name: Tag, radius: u32) -> Option<LightFault>
+        ensures { result ≡ light_fault self.now name radius }
+    {
+        if radius_of(radius).is_none() {
+            Some(LightFault::BadRadius)
+        } else if self.types.lacks_room(name) {
+            Some(LightFault::TypeLimit)
+        } else {
+            None
+        }
+    }
+}
+
 /// The radius as it is kept; `None` exactly where it is no radius of a light.
 fn radius_of(radius: u32) -> Option<u8>
     ensures { result ≡ radius_of radius }

@@ -281,3 +281,12 @@ fn push_map(maps: &mut Vec<GridMap>, map: GridMap) -> Result<(), Memory>
         Err(_) => Err(Memory),
     }
 }
+
+impl MapTable {
+    /// The first check that a new map of that name would break.
+    pub fn fault_of(&self, name: Tag) -> Option<MapFault>
+        ensures { result ≡ map_fault self.now name }
+    {
+        broken_check(&self.maps, name)
+    }
+}

@@ -1,8 +1,9 @@
 -- A view answers as the scene.
-use Rattle.std.proofs.Common.{◌≡◌, ℕ, Bool, true, false, cond, ◌&&◌, ◌||◌, List, [], ◌∷◌, Some, None, refl, ◌∙◌, ap}
+use Rattle.std.proofs.Common.{◌≡◌, ◌≤◌, ℕ, Bool, true, false, cond, ◌&&◌, ◌||◌, List, [], ◌∷◌, Some, None, refl, sym, ◌∙◌, ap, arith}
 use Rattle.std.specs.Prelude.{option_map, map, is_some}
 use Rattle.std.specs.Str.{bytes_eq}
 use Rattle.std.specs.List.{find, filter, list_any}
+use Rattle.std.proofs.lemmas.Bool.Decides.{nat_tests}
 use Rattle.names.specs.declared.token_id.TokenId.{TokenId}
 use Rattle.names.specs.TokenId.{id_eq}
 use Rattle.maps.specs.Maps.{has_name}
@@ -78,13 +79,18 @@ light_same : (name : List ℕ) (lights : List (List ℕ × ℕ))
 light_same name [] = refl
 light_same name (l ∷ ls) = ap (λ b. bytes_eq name l.0 || b) (light_same name ls)
 
+-- a player isn't the game master
+not_gm : (q : ℕ) → 1 ≤ q → is_gm q ≡ false
+not_gm q player = grind (arith, nat_tests)
+
 pub asked_alike : AskedAlike
 unfolding asked_of asked_of_view view_of
-asked_alike seats s q = λ i. record {
+asked_alike seats s q player = λ i. record {
   seats = seats;
   mine = λ id. mine_alike id i;
   known = λ name. known_alike name i;
   has_light = λ name. light_same name s.lights i;
+  whole = sym (ap (λ b. cond b (Some s) None) (not_gm q player)) i;
 }
   where
     mine_alike : (id : TokenId) → (asked_of_view seats (view_of s q)).mine id ≡ (asked_of seats s q).mine id

@@ -1,5 +1,5 @@
 -- What the rules of a seat's commands ask, of a scene and of a view.
-use Rattle.std.specs.Prelude.{ℕ, ◌&&◌, Bool, List, [], Option, Some, None, option_map, is_some}
+use Rattle.std.specs.Prelude.{ℕ, ◌&&◌, Bool, if◌then◌else◌, List, [], Option, Some, None, option_map, is_some}
 use Rattle.std.specs.Str.{bytes_eq}
 use Rattle.std.specs.List.{find, list_any}
 use Rattle.names.specs.declared.token_id.TokenId.{TokenId}
@@ -14,7 +14,7 @@ use Rattle.view_change.specs.declared.view.View.{View}
 use Rattle.view_change.specs.declared.view.MapView.{MapView}
 use Rattle.view_change.specs.declared.view.TokenView.{TokenView}
 use Rattle.view_change.specs.declared.view.OwnedPart.{OwnedPart}
-use Rattle.player_view.specs.View.{acts_on, has_map, exposed_to}
+use Rattle.player_view.specs.View.{is_gm, acts_on, has_map, exposed_to}
 use Rattle.world.specs.Scene.{Scene}
 
 -- a token that the seat may act on
@@ -40,6 +40,8 @@ pub record Asked : Type 0 where
   pub known : List ℕ → Option Known
   -- whether there is a light type of that name
   pub has_light : List ℕ → Bool
+  -- the whole scene, for the game master; no view answers it
+  pub whole : Option Scene
 
 -- ---- a scene answers
 
@@ -55,6 +57,7 @@ asked_of seats s q = record {
   mine = λ id. option_map mine_of (find (λ t. has_id id t && acts_on s q t) s.tokens);
   known = λ name. option_map (known_of s q) (find (λ m. has_map q m && has_name name m) s.maps);
   has_light = λ name. list_any (λ light. bytes_eq name light.0) s.lights;
+  whole = if is_gm q then Some s else None;
 }
 
 -- ---- a view answers
@@ -75,4 +78,5 @@ asked_of_view seats v = record {
   mine = λ id. option_map mine_in (find (λ t. id_eq t.id id && is_some t.owned) v.tokens);
   known = λ name. option_map known_in (find (λ m. bytes_eq m.name name) v.maps);
   has_light = λ name. list_any (λ light. bytes_eq name light.0) v.lights;
+  whole = None;
 }

@@ -1,5 +1,5 @@
 -- The laws of what is shown.
-use Rattle.std.specs.Prelude.{◌≡◌, ◌↔◌, ℕ, IsTrue}
+use Rattle.std.specs.Prelude.{◌≡◌, ◌≤◌, ◌↔◌, ℕ, IsTrue}
 use Rattle.maps.specs.Maps.{Grid}
 use Rattle.tokens.specs.declared.token.Token.{Token}
 use Rattle.player_view.specs.Sight.{sees, owns, visible_test}
@@ -9,9 +9,9 @@ use Rattle.player_view.specs.View.{view_of}
 use Rattle.player_view.specs.Asked.{asked_of, asked_of_view}
 use Rattle.world.specs.Scene.{Scene}
 
--- what a seat's rules ask of the scene is what they ask of its view
+-- what a player's rules ask of the scene is what they ask of its view
 abbrev pub AskedAlike : Type 0
-AskedAlike = (seats : ℕ) (s : Scene) (q : ℕ) → asked_of_view seats (view_of s q) ≡ asked_of seats s q
+AskedAlike = (seats : ℕ) (s : Scene) (q : ℕ) → 1 ≤ q → asked_of_view seats (view_of s q) ≡ asked_of seats s q
 
 -- the tests that compute what is seen and shown hold exactly where the relations do
 pub record TestsTell : Type 0 where

@@ -1,7 +1,7 @@
 //! The laws of what is shown, each carried by a function that does nothing.
 ghost use Rattle.player_view.specs.Laws.{AskedAlike, TestsTell};
 
-/// What a seat's rules ask of the scene is what they ask of its view.
+/// What a player's rules ask of the scene is what they ask of its view.
 pub fn asked_alike()
     ensures { AskedAlike }
 {}

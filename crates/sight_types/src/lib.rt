@@ -128,6 +128,21 @@ impl SightTable {
     }
 }
 
+impl SightTable {
+    /// The first check that a sight type to be set would break.
+    pub fn fault_of(&self, name: Tag, range: u32, night: u32, mult: u32) -> Option<SightFault>
+        ensures { result ≡ sight_fault self.now name range night mult }
+    {
+        if sight_of(range, night, mult).is_none() {
+            Some(SightFault::BadRange)
+        } else if self.types.lacks_room(name) {
+            Some(SightFault::TypeLimit)
+        } else {
+            None
+        }
+    }
+}
+
 /// The sight of these numbers; `None` exactly where one of them is off its limits.
 fn sight_of(range: u32, night: u32, mult: u32) -> Option<Sight>
     ensures { result ≡ sight_of range night mult }

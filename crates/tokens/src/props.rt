@@ -110,7 +110,8 @@ impl Props {
         *self.values.allocator()
     }
 
-    fn is_full_for(&self, name: Tag) -> bool
+    /// Whether the name is new, and there are 64 names.
+    pub fn is_full_for(&self, name: Tag) -> bool
         ensures { result ≡ is_full_for name self.now }
     {
         self.find(name).is_none() && self.values.len() >= NAME_LIMIT

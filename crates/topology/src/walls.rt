@@ -257,3 +257,19 @@ fn is_blocked(walls: &[Wall], from: Point, to: Point) -> bool
         .iter()
         .any(|wall| meets(wall.first, wall.second, from, to))
 }
+
+impl Walls {
+    /// The first check that a wall of that kind between two points would break.
+    pub fn fault_of(&self, kind: WallKind, a: Point, b: Point) -> Option<WallFault>
+        ensures { result ≡ wall_fault self.now kind a b }
+    {
+        self.broken_check(kind, a, b)
+    }
+
+    /// Whether there is a wall of that kind between two points.
+    pub fn has_wall(&self, kind: WallKind, a: Point, b: Point) -> bool
+        ensures { result ≡ has_wall (wall_between a b) (walls_of self.now kind) }
+    {
+        contains(self.list(kind), &Wall::between(a, b))
+    }
+}

@@ -114,8 +114,9 @@ impl<V: Copy> TypeTable<V> {
         }
     }
 
+    /// Whether the name is new, and the table has 32 types.
     #[tactic(auto, using(crate::proofs::Entries::looked_up))]
-    fn lacks_room(&self, name: Tag) -> bool
+    pub fn lacks_room(&self, name: Tag) -> bool
         ensures { result ≡ lacks_room name self.now }
     {
         !self.types.contains_key(&name) && self.types.len() >= MOST_TYPES
