@@ -3,3 +3,4 @@ pub mod Back
 pub mod Turns
 pub mod LongestGroup
 pub mod Exact
+pub mod Limits

@@ -1,9 +1,10 @@
 //! Whole dice texts.
 
-ghost use Rattle.std.specs.Prelude.{◌≡◌, IfOk, IfErr, List, ℕ};
+ghost use Rattle.std.specs.Prelude.{◌≡◌, IfOk, IfErr, Ok, List, ℕ};
 ghost use Rattle.dice_parse.specs.declared.parts.Term.{Term};
 ghost use Rattle.dice_parse.specs.Grammar.{IsWithin, IsDice};
 ghost use Rattle.dice_parse.specs.Faults.{IsFaultOf};
+ghost use Rattle.dice_parse.specs.Answers.{dice_of, IsFaultIn};
 
 use crate::parts::{Term, within};
 use crate::readers::terms;
@@ -56,6 +57,10 @@ pub fn read_dice(alloc: Global, text: &str) -> Result<Dice, DiceFault>
     ensures read { IfOk result (λ dice. IsDice text.now dice) }
     ensures within { IfOk result IsWithin }
     ensures fault { IfErr result (IsFaultOf text.now) }
+
+    // The same as a function of the text, for definitions that roll.
+    ensures ok { IfOk result (λ dice. dice_of text.now ≡ Ok dice) }
+    ensures refused { IfErr result (IsFaultIn (dice_of text.now)) }
 {
     let bytes = text.as_bytes();
     let mut cursor = Cursor { rest: bytes };
