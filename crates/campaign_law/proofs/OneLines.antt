@@ -115,7 +115,7 @@ messages_one seat (Some words) = (message_is_one_line seat words.0 words.1, tt)
 
 decided_one : (steps seat : ℕ) (b : Book) (c : Command) (r : Option Refusal) → SendsOneLine (decided steps seat b c r)
 decided_one steps seat b c (Some r) = refused_one b r
-decided_one steps seat b c None = record { reply = (reply_one steps _ c, tt); messages = messages_one seat (said c) }
+decided_one steps seat b c None = record { reply = (reply_one steps _ c, tt); messages = messages_one seat (said b c) }
 
 read_one : (asked : Asked) (steps seat : ℕ) (b : Book) (r : Result Command LineFault) → SendsOneLine (read_outcome asked steps seat b r)
 read_one asked steps seat b (Err fault) = refused_one b _

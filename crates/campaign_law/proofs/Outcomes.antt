@@ -1,11 +1,12 @@
 -- Outcomes: what the world's and the machine's have in common, and what fits a seat.
-use Rattle.std.proofs.Common.{◌≡◌, ℕ, ◌<◌, ◌≤◌, Bool, true, false, cond, ◌||◌, eqb, List, length, Some, None, refl, sym, ◌∙◌, ap, arith, ◌⊎◌, inl, inr}
+use Rattle.std.proofs.Common.{◌≡◌, ℕ, ◌<◌, ◌≤◌, Bool, true, false, cond, ◌||◌, eqb, List, length, Some, None, refl, sym, ◌∙◌, ap, ap₂, arith, ◌⊎◌, inl, inr}
 use Rattle.std.specs.Prelude.{option_map, Option, unwrap_or, Result, Ok, Err}
 use Rattle.seats.specs.declared.seat_state.JoinRefusal.{JoinRefusal}
 use Rattle.seats.specs.Book.{Book, left, counted, blank_book, join_refusal}
 use Rattle.seats.specs.SeatState.{is_joined}
 use Rattle.campaign_law.specs.declared.entry.Entry.{Entry}
 use Rattle.campaign_law.specs.declared.entry.Entry.TheVariants.{Join, Line, Taken}
+use Rattle.chat.specs.declared.to.To.{To}
 use Rattle.command_json.specs.declared.command.Command.{Command}
 use Rattle.command_json.specs.declared.command.LineFault.{LineFault}
 use Rattle.command_rules.specs.declared.refusal.Refusal.{Refusal}
@@ -13,7 +14,7 @@ use Rattle.command_rules.specs.declared.refusal.Refusal.TheVariants.{NoHello}
 use Rattle.player_view.specs.Asked.{Asked}
 use Rattle.command_json.specs.Commands.{command_of}
 use Rattle.campaign_law.specs.Seat.{Seat, blank_seat, was_joined}
-use Rattle.campaign_law.specs.Outcome.{Outcome, nothing, outcome_at, join_outcome, read_outcome, is_bye, tag_made, using_tag, book_done, accepted, decided, refused_direct, refused_line, refusal_of_join, blank_entry, seat_of}
+use Rattle.campaign_law.specs.Outcome.{Outcome, nothing, outcome_at, join_outcome, read_outcome, is_bye, tag_made, using_tag, rolling, dice_in, with_total, words_in, message_by, book_done, accepted, decided, refused_direct, refused_line, refusal_of_join, blank_entry, seat_of}
 use Rattle.command_rules.specs.Rules.{rule_of}
 use Rattle.campaign_law.specs.World.{changed, is_present, queued_reply}
 use Rattle.seats.proofs.Books.{is_joined-blank, counted-blank, joined-blank, left-blank, join_refusal-blank}
@@ -34,15 +35,26 @@ using_tag-blank : (tag : Option (List ℕ)) (b : Book) → using_tag tag (blank_
 using_tag-blank None b = refl
 using_tag-blank (Some tag) b = refl
 
-left_if-blank : (leaves : Bool) (tag : Option (List ℕ)) (b : Book) → cond leaves (left (blank_book b)) (using_tag tag (blank_book b)) ≡ blank_book (cond leaves (left b) (using_tag tag b))
-left_if-blank true tag b = left-blank b
-left_if-blank false tag b = using_tag-blank tag b
+rolling-blank : (dice : Option (List ℕ)) (b : Book) → rolling dice (blank_book b) ≡ blank_book (rolling dice b)
+rolling-blank None b = refl
+rolling-blank (Some dice) b = refl
+
+left_if-blank : (leaves : Bool) (tag dice : Option (List ℕ)) (b : Book) → cond leaves (left (blank_book b)) (using_tag tag (rolling dice (blank_book b))) ≡ blank_book (cond leaves (left b) (using_tag tag (rolling dice b)))
+left_if-blank true tag dice b = left-blank b
+left_if-blank false tag dice b = ap (using_tag tag) (rolling-blank dice b) ∙ using_tag-blank tag (rolling dice b)
+
+with_total-blank : (dice : Option (List ℕ)) (b : Book) (words : Option (To × List ℕ)) → with_total dice (blank_book b) words ≡ with_total dice b words
+with_total-blank None b words = refl
+with_total-blank (Some dice) b words = refl
 
 book_done-blank : (c : Command) (b : Book) → book_done c (blank_book b) ≡ blank_book (book_done c b)
-book_done-blank c b = left_if-blank (is_bye c) (tag_made c) b
+book_done-blank c b = left_if-blank (is_bye c) (tag_made c) (dice_in c) b
 
 accepted-blank : (steps seat : ℕ) (b : Book) (c : Command) → accepted steps seat (blank_book b) c ≡ blank_outcome (accepted steps seat b c)
-accepted-blank steps seat b c = ap (λ x. record (accepted steps seat b c) { book = Some x }) (ap (book_done c) (counted-blank b) ∙ book_done-blank c (counted b))
+accepted-blank steps seat b c =
+    ap₂ (λ x words. record (accepted steps seat b c) { book = Some x; messages = message_by seat words })
+    (ap (book_done c) (counted-blank b) ∙ book_done-blank c (counted b))
+    (with_total-blank (dice_in c) b (words_in c))
 
 decided-blank : (steps seat : ℕ) (b : Book) (c : Command) (r : Option Refusal) → decided steps seat (blank_book b) c r ≡ blank_outcome (decided steps seat b c r)
 decided-blank steps seat b c None = accepted-blank steps seat b c

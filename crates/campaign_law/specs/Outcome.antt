@@ -1,6 +1,12 @@
 -- What an entry does to its own seat, from what it asks. A world and a player machine decide by the same definition.
-use Rattle.std.specs.Prelude.{ℕ, ◌+◌, ◌==◌, Bool, true, false, List, [], ◌∷◌, if◌then◌else◌, Option, Some, None, Result, Ok, Err, codes}
-use Rattle.seats.specs.Book.{Book, joined, left, counted, join_refusal, with_tag}
+use Rattle.std.specs.Prelude.{ℕ, ◌+◌, ◌==◌, Bool, true, false, List, [], ◌∷◌, ◌++◌, if◌then◌else◌, Option, Some, None, option_map, Result, Ok, Err, codes}
+use Rattle.std.specs.Fmt.{signed_decimal}
+use Rattle.seat_random.specs.Stream.{word_of, after}
+use Rattle.dice_parse.specs.declared.parts.Term.{Term}
+use Rattle.dice_parse.specs.declared.texts.DiceFault.{DiceFault}
+use Rattle.dice_parse.specs.Answers.{dice_of}
+use Rattle.dice_roll.specs.Rolling.{total_of, words_used}
+use Rattle.seats.specs.Book.{Book, joined, left, counted, join_refusal, with_tag, stream_of, with_stream}
 use Rattle.seats.specs.SeatState.{is_joined}
 use Rattle.seats.specs.declared.seat_state.JoinRefusal.{JoinRefusal}
 use Rattle.seats.specs.declared.seat_state.JoinRefusal.TheVariants as joins
@@ -90,10 +96,48 @@ abbrev pub is_move : Command → Bool
 is_move (Move token path) = true
 is_move c = false
 
--- what a command says, and to whom
-abbrev pub said : Command → Option (To × List ℕ)
-said (Say text to) = Some (to, text)
-said c = None
+-- ---- dice
+
+abbrev pub terms_or_none : Result (List Term) DiceFault → List Term
+terms_or_none (Ok terms) = terms
+terms_or_none (Err fault) = []
+
+-- the terms that dice spell
+abbrev pub terms_of : List ℕ → List Term
+terms_of dice = terms_or_none (dice_of dice)
+
+-- the book once the words of the dice are drawn
+abbrev pub drawn_by : List ℕ → Book → Book
+drawn_by dice b = with_stream b (after (stream_of b) (words_used (word_of (stream_of b)) (terms_of dice)))
+
+-- the dice with the total that the book's words make of them
+abbrev pub rolled : List ℕ → Book → List ℕ
+rolled dice b = dice ++ (codes " = " ++ signed_decimal (total_of (word_of (stream_of b)) (terms_of dice)))
+
+-- the dice that a command rolls
+abbrev pub dice_in : Command → Option (List ℕ)
+dice_in (Roll dice to) = Some dice
+dice_in c = None
+
+-- the book once the dice, if there are any, are rolled
+abbrev pub rolling : Option (List ℕ) → Book → Book
+rolling None b = b
+rolling (Some dice) b = drawn_by dice b
+
+-- what a command says by its own words, and to whom
+abbrev pub words_in : Command → Option (To × List ℕ)
+words_in (Say text to) = Some (to, text)
+words_in (Roll dice to) = Some (to, dice)
+words_in c = None
+
+-- dice are said with their total
+abbrev pub with_total : Option (List ℕ) → Book → Option (To × List ℕ) → Option (To × List ℕ)
+with_total None b words = words
+with_total (Some dice) b words = option_map (λ said. (said.0, rolled dice b)) words
+
+-- what a command of the book's seat says, and to whom
+abbrev pub said : Book → Command → Option (To × List ℕ)
+said b c = with_total (dice_in c) b (words_in c)
 
 -- the tag of the token that a command makes
 abbrev pub tag_made : Command → Option (List ℕ)
@@ -106,9 +150,10 @@ abbrev pub using_tag : Option (List ℕ) → Book → Book
 using_tag None b = b
 using_tag (Some tag) b = with_tag b tag
 
--- what an accepted command does to the book, the line being counted: a bye ends the session, and the tag of a made token is used
+-- what an accepted command does to the book, the line being counted: a bye ends the session, a roll draws words, and the tag
+-- of a made token is used
 abbrev pub book_done : Command → Book → Book
-book_done c b = if is_bye c then left b else using_tag (tag_made c) b
+book_done c b = if is_bye c then left b else using_tag (tag_made c) (rolling (dice_in c) b)
 
 -- the name of an accepted command in its reply
 abbrev pub reply_name : Command → List ℕ
@@ -151,7 +196,7 @@ abbrev pub accepted : ℕ → ℕ → Book → Command → Outcome
 accepted steps seat b c = record nothing {
   book = Some (book_done c (counted b));
   reply = reply_line steps (b.lines + 1) c ∷ [];
-  messages = message_by seat (said c);
+  messages = message_by seat (said b c);
   full = is_look c;
   done = Some c;
 }

@@ -3,7 +3,7 @@ use Rattle.std.specs.Prelude.{ℕ, List, codes}
 use Rattle.serde_json.specs.Data.{Data, unsigned, number, string, object, Members, member, no_members}
 use Rattle.serde_json.specs.Written.{compact_text}
 use Rattle.command_rules.specs.declared.refusal.Refusal.{Refusal}
-use Rattle.command_rules.specs.declared.refusal.Refusal.TheVariants.{BadJson, BadCommand, GmOnly, BadField, NotYours, NotMaker, MapNotShown, OffMap, BadPath, TagUsed, TagsSpent, NotExposed, UnknownLight, NoSuchSeat, PropertyLimit, BadKey, SeatTaken, Spent, NoHello, MapExists, MapLimit, NoSuchMap, WallLimit, DegenerateWall, WallThere, NoSuchWall, TypeLimit, BadRadius, BadRange, IdUsed, TokenLimit, NoSuchToken, UnknownSight, PlayersOnly, NotAPlayer}
+use Rattle.command_rules.specs.declared.refusal.Refusal.TheVariants.{BadJson, BadCommand, GmOnly, BadField, NotYours, NotMaker, MapNotShown, OffMap, BadPath, TagUsed, TagsSpent, NotExposed, UnknownLight, NoSuchSeat, PropertyLimit, BadDice, DiceLimit, BadKey, SeatTaken, Spent, NoHello, MapExists, MapLimit, NoSuchMap, WallLimit, DegenerateWall, WallThere, NoSuchWall, TypeLimit, BadRadius, BadRange, IdUsed, TokenLimit, NoSuchToken, UnknownSight, PlayersOnly, NotAPlayer}
 
 abbrev pub whole : ℕ → Data
 whole n = number (unsigned n)
@@ -43,6 +43,8 @@ refusal_number NotExposed = 12
 refusal_number UnknownLight = 13
 refusal_number NoSuchSeat = 14
 refusal_number PropertyLimit = 17
+refusal_number (BadDice at) = 18
+refusal_number DiceLimit = 19
 refusal_number BadKey = 24
 refusal_number SeatTaken = 25
 refusal_number Spent = 26
@@ -80,6 +82,8 @@ refusal_name NotExposed = codes "NotExposed"
 refusal_name UnknownLight = codes "UnknownLight"
 refusal_name NoSuchSeat = codes "NoSuchSeat"
 refusal_name PropertyLimit = codes "PropertyLimit"
+refusal_name (BadDice at) = codes "BadDice"
+refusal_name DiceLimit = codes "DiceLimit"
 refusal_name BadKey = codes "BadKey"
 refusal_name SeatTaken = codes "SeatTaken"
 refusal_name Spent = codes "Spent"
@@ -106,6 +110,7 @@ refusal_members n r = member (codes "n") (whole n) (member (codes "no") (whole (
 
 abbrev pub refusal_tree : ℕ → Refusal → Data
 refusal_tree n (BadField name) = object (member (codes "field") (string name) (refusal_members n (BadField name)))
+refusal_tree n (BadDice at) = object (member (codes "at") (whole at) (refusal_members n (BadDice at)))
 refusal_tree n r = object (refusal_members n r)
 
 unfoldable pub refusal_line : ℕ → Refusal → List ℕ

@@ -33,6 +33,10 @@ pub enum Refusal {
     NoSuchSeat,
     /// The name would be the 65th of its class.
     PropertyLimit,
+    /// The dice are off their grammar. `at` counts the bytes of the longest front that begins some dice.
+    BadDice { at: u32 },
+    /// The dice are off their limits.
+    DiceLimit,
     /// The seat isn't in the campaign, or the key differs.
     BadKey,
     /// The seat isn't Free.
