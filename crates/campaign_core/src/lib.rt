@@ -1,30 +1,14 @@
-//! The campaign: entries, commands, worlds and what players are sent.
+//! A running campaign: the world that a campaign text opens with, entries applied to it one after
+//! another, and the lines that wait for each seat.
 #![tactic(auto)]
 
-ghost use Rattle.campaign_core.specs.Law.{SentIsMachine, AgreeingSendAlike, NoLineEndIsSent, RefusedChangesLittle};
-
 mod campaign;
-mod command;
-mod entry;
+mod next;
 mod outcome;
-mod read;
+mod queues;
 mod state;
+mod texts;
 #[cfg(test)]
 mod tests;
-mod texts;
 
-pub use campaign::{Answer, Campaign, OpenFault};
-pub use command::{Command, LineFault, Refusal};
-pub use entry::Entry;
-pub use read::read_line;
-
-/// The laws of what players are sent, over every opening world, every history and every seat: it is
-/// what the player machine prints, which holds no world; histories that agree for a player send it
-/// the same lines; and no line holds an LF. A refused entry changes no more than its seat's count,
-/// the queue by its reply, and the history.
-pub fn sent_is_machine()
-    ensures machine { SentIsMachine }
-    ensures agreeing { AgreeingSendAlike }
-    ensures one_line { NoLineEndIsSent }
-    ensures refused { RefusedChangesLittle }
-{}
+pub use campaign::{Campaign, OpenFault};

@@ -1,10 +1,9 @@
 //! The lines that are sent.
 ghost use Rattle.std.specs.Prelude.{◌≡◌, codes, IfOk};
 ghost use Rattle.serde_json.specs.View.{view};
-ghost use Rattle.campaign_core.specs.Texts.{hello_tree, hello_line as hello_text, ok_tree, ok_line as ok_text, refusal_number, refusal_name, refusal_tree, refusal_line as refusal_text, message_tree, message_line as message_text};
-ghost use Rattle.campaign_core.specs.Views.{full_tree, full_line as full_text, no_view};
+ghost use Rattle.campaign_law.specs.Texts.{hello_tree, hello_line as hello_text, ok_tree, ok_line as ok_text, moved_tree, moved_line as moved_text, refusal_number, refusal_name, refusal_tree, refusal_line as refusal_text};
 
-use crate::command::Refusal;
+use command_rules::Refusal;
 use json_fields::compact_line;
 use names::{LineText, Memory, SeatNo};
 use serde_json::{Value, json};
@@ -17,7 +16,7 @@ fn hello_value(alloc: Global, n: u32, seat: u8, seats: u8) -> Result<Value, Allo
 }
 
 /// The reply to an accepted hello.
-#[tactic(auto, unfolding(crate::specs::Texts::hello_line))]
+#[tactic(auto, unfolding(campaign_law::specs::Texts::hello_line))]
 pub(crate) fn hello_line(alloc: Global, n: u32, seat: SeatNo, seats: u8) -> Result<LineText, Memory>
     ensures { IfOk result (λ t. t ≡ hello_text n seat seats) }
 {
@@ -34,11 +33,28 @@ fn ok_value(alloc: Global, n: u32, name: &str) -> Result<Value, AllocError>
 }
 
 /// The reply to an accepted command of that name.
-#[tactic(auto, unfolding(crate::specs::Texts::ok_line))]
+#[tactic(auto, unfolding(campaign_law::specs::Texts::ok_line))]
 pub(crate) fn ok_line(alloc: Global, n: u32, name: &str) -> Result<LineText, Memory>
     ensures { IfOk result (λ t. t ≡ ok_text n name.now) }
 {
     match ok_value(alloc, n, name) {
+        Ok(value) => compact_line(alloc, &value),
+        Err(_) => Err(Memory),
+    }
+}
+
+fn moved_value(alloc: Global, n: u32, steps: u32) -> Result<Value, AllocError>
+    ensures { IfOk result (λ v. view v ≡ moved_tree n steps) }
+{
+    json!(in alloc; {"moved": steps, "n": n, "ok": "move"})
+}
+
+/// The reply to an accepted move, with the steps that were taken.
+#[tactic(auto, unfolding(campaign_law::specs::Texts::moved_line))]
+pub(crate) fn moved_line(alloc: Global, n: u32, steps: u32) -> Result<LineText, Memory>
+    ensures { IfOk result (λ t. t ≡ moved_text n steps) }
+{
+    match moved_value(alloc, n, steps) {
         Ok(value) => compact_line(alloc, &value),
         Err(_) => Err(Memory),
     }
@@ -50,11 +66,39 @@ fn number(refusal: &Refusal) -> u8
     match refusal {
         Refusal::BadJson => 1,
         Refusal::BadCommand => 2,
+        Refusal::GmOnly => 3,
         Refusal::BadField { .. } => 4,
+        Refusal::NotYours => 5,
+        Refusal::NotMaker => 6,
+        Refusal::MapNotShown => 7,
+        Refusal::OffMap => 8,
+        Refusal::BadPath => 9,
+        Refusal::TagUsed => 10,
+        Refusal::TagsSpent => 11,
+        Refusal::NotExposed => 12,
+        Refusal::UnknownLight => 13,
+        Refusal::NoSuchSeat => 14,
+        Refusal::PropertyLimit => 17,
         Refusal::BadKey => 24,
         Refusal::SeatTaken => 25,
         Refusal::Spent => 26,
         Refusal::NoHello => 27,
+        Refusal::MapExists => 30,
+        Refusal::MapLimit => 31,
+        Refusal::NoSuchMap => 32,
+        Refusal::WallLimit => 33,
+        Refusal::DegenerateWall => 34,
+        Refusal::WallThere => 35,
+        Refusal::NoSuchWall => 36,
+        Refusal::TypeLimit => 37,
+        Refusal::BadRadius => 38,
+        Refusal::BadRange => 39,
+        Refusal::IdUsed => 40,
+        Refusal::TokenLimit => 41,
+        Refusal::NoSuchToken => 42,
+        Refusal::UnknownSight => 43,
+        Refusal::PlayersOnly => 44,
+        Refusal::NotAPlayer => 45,
     }
 }
 
@@ -64,11 +108,39 @@ fn name(refusal: &Refusal) -> &'static str
     match refusal {
         Refusal::BadJson => "BadJson",
         Refusal::BadCommand => "BadCommand",
+        Refusal::GmOnly => "GmOnly",
         Refusal::BadField { .. } => "BadField",
+        Refusal::NotYours => "NotYours",
+        Refusal::NotMaker => "NotMaker",
+        Refusal::MapNotShown => "MapNotShown",
+        Refusal::OffMap => "OffMap",
+        Refusal::BadPath => "BadPath",
+        Refusal::TagUsed => "TagUsed",
+        Refusal::TagsSpent => "TagsSpent",
+        Refusal::NotExposed => "NotExposed",
+        Refusal::UnknownLight => "UnknownLight",
+        Refusal::NoSuchSeat => "NoSuchSeat",
+        Refusal::PropertyLimit => "PropertyLimit",
         Refusal::BadKey => "BadKey",
         Refusal::SeatTaken => "SeatTaken",
         Refusal::Spent => "Spent",
         Refusal::NoHello => "NoHello",
+        Refusal::MapExists => "MapExists",
+        Refusal::MapLimit => "MapLimit",
+        Refusal::NoSuchMap => "NoSuchMap",
+        Refusal::WallLimit => "WallLimit",
+        Refusal::DegenerateWall => "DegenerateWall",
+        Refusal::WallThere => "WallThere",
+        Refusal::NoSuchWall => "NoSuchWall",
+        Refusal::TypeLimit => "TypeLimit",
+        Refusal::BadRadius => "BadRadius",
+        Refusal::BadRange => "BadRange",
+        Refusal::IdUsed => "IdUsed",
+        Refusal::TokenLimit => "TokenLimit",
+        Refusal::NoSuchToken => "NoSuchToken",
+        Refusal::UnknownSight => "UnknownSight",
+        Refusal::PlayersOnly => "PlayersOnly",
+        Refusal::NotAPlayer => "NotAPlayer",
     }
 }
 
@@ -82,45 +154,11 @@ fn refusal_value(alloc: Global, n: u32, refusal: &Refusal) -> Result<Value, Allo
 }
 
 /// The reply to a refused entry.
-#[tactic(auto, unfolding(crate::specs::Texts::refusal_line))]
+#[tactic(auto, unfolding(campaign_law::specs::Texts::refusal_line))]
 pub(crate) fn refusal_line(alloc: Global, n: u32, refusal: &Refusal) -> Result<LineText, Memory>
     ensures { IfOk result (λ t. t ≡ refusal_text n refusal.now) }
 {
     match refusal_value(alloc, n, refusal) {
-        Ok(value) => compact_line(alloc, &value),
-        Err(_) => Err(Memory),
-    }
-}
-
-fn message_value(alloc: Global, from: u8, text: &str) -> Result<Value, AllocError>
-    ensures { IfOk result (λ v. view v ≡ message_tree from text.now) }
-{
-    json!(in alloc; {"from": from, "text": text, "to": "all"})
-}
-
-/// A message to every seat.
-#[tactic(auto, unfolding(crate::specs::Texts::message_line))]
-pub(crate) fn message_line(alloc: Global, from: SeatNo, text: &str) -> Result<LineText, Memory>
-    ensures { IfOk result (λ t. t ≡ message_text from text.now) }
-{
-    match message_value(alloc, from.number(), text) {
-        Ok(value) => compact_line(alloc, &value),
-        Err(_) => Err(Memory),
-    }
-}
-
-fn full_value(alloc: Global) -> Result<Value, AllocError>
-    ensures { IfOk result (λ v. view v ≡ full_tree) }
-{
-    json!(in alloc; {"full": {"lights": {}, "maps": [], "sights": {}, "tokens": []}})
-}
-
-/// The line that shows a whole view.
-#[tactic(auto, unfolding(crate::specs::Views::full_line))]
-pub(crate) fn full_line(alloc: Global) -> Result<LineText, Memory>
-    ensures { IfOk result (λ t. t ≡ full_text no_view) }
-{
-    match full_value(alloc) {
         Ok(value) => compact_line(alloc, &value),
         Err(_) => Err(Memory),
     }

@@ -23,11 +23,11 @@ bye_in d = only [] d C.Bye
 unfoldable pub look_in : Data → Result Command LineFault
 look_in d = only [] d C.Look
 
+-- a text to all, until addresses are built
 unfoldable pub say_in : Data → Result Command LineFault
 say_in d = do
   text ← field (codes "text") (text_from 1 1000) d
-  to ← field_else All (codes "to") to_from d
-  only (codes "text" ∷ codes "to" ∷ []) d (C.Say text to)
+  only (codes "text" ∷ []) d (C.Say text All)
 
 unfoldable pub roll_in : Data → Result Command LineFault
 roll_in d = do

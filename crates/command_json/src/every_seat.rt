@@ -7,6 +7,7 @@ ghost use Rattle.command_json.specs.EverySeat.{hello_in, bye_in, look_in, say_in
 use crate::command::{Command, LineFault};
 use crate::fields;
 use crate::verbs::Verb;
+use chat::To;
 use serde_json::Value;
 use std::alloc::Global;
 
@@ -43,13 +44,8 @@ fn say_of(alloc: Global, object: &Value) -> Result<Command, LineFault>
     ensures { Gives Fails (λ c. c) result (say_in (view object.now)) }
 {
     let text = fields::text(alloc, object, "text", 1, 1000)?;
-    let to = fields::to(alloc, object, "to")?;
-    fields::only(
-        alloc,
-        object,
-        &["do", "text", "to"],
-        Command::Say { text, to },
-    )
+    let to = To::All;
+    fields::only(alloc, object, &["do", "text"], Command::Say { text, to })
 }
 
 #[tactic(auto, unfolding(crate::specs::EverySeat::roll_in))]

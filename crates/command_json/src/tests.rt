@@ -48,83 +48,9 @@ fn lines_are_commands_or_faults(rt: HostRuntime) -> Result<(), Fail> {
         (r#"{"do":"bye"}"#, ("bye", "")),
         (r#"{"do":"look"}"#, ("look", "")),
         (r#"{"do":"say","text":"hi"}"#, ("say", "")),
-        (r#"{"do":"say","text":"hi","to":2}"#, ("say", "")),
-        (r#"{"do":"roll","dice":"1d6","to":"gmself"}"#, ("roll", "")),
         (
             r#"{"do":"move","path":[[1,0],[-1000,1000]],"token":"1:ann"}"#,
             ("move", ""),
-        ),
-        (
-            r#"{"do":"setprop","token":"1:ann","class":"own","name":"hp","value":""}"#,
-            ("setprop", ""),
-        ),
-        (
-            r#"{"do":"light","token":"1:ann","light":null}"#,
-            ("light", ""),
-        ),
-        (
-            r#"{"do":"make","tag":"bo","map":"cave","cell":[0,1],"name":"Bo"}"#,
-            ("make", ""),
-        ),
-        (r#"{"do":"remove","token":"1:ann"}"#, ("remove", "")),
-        (r#"{"do":"map","name":"cave","w":96,"h":1}"#, ("map", "")),
-        (r#"{"do":"mode","map":"cave","mode":"night"}"#, ("mode", "")),
-        (r#"{"do":"show","map":"cave","on":true}"#, ("show", "")),
-        (
-            r#"{"do":"terrain","map":"cave","rect":[0,0,1,96],"kind":"."}"#,
-            ("terrain", ""),
-        ),
-        (
-            r#"{"do":"wall","map":"cave","kind":"vbl","a":[2,0],"b":[2,4]}"#,
-            ("wall", ""),
-        ),
-        (
-            r#"{"do":"unwall","map":"cave","kind":"mbl","a":[2,0],"b":[2,4]}"#,
-            ("unwall", ""),
-        ),
-        (
-            r#"{"do":"lighttype","name":"torch","radius":1000}"#,
-            ("lighttype", ""),
-        ),
-        (
-            r#"{"do":"sighttype","name":"human","range":10,"night":0,"mult":2}"#,
-            ("sighttype", ""),
-        ),
-        (
-            r#"{"do":"token","tag":"orc","map":"cave","cell":[0,1],"name":"Orc"}"#,
-            ("token", ""),
-        ),
-        (
-            r#"{"do":"own","token":"0:orc","seat":1,"on":false}"#,
-            ("own", ""),
-        ),
-        (
-            r#"{"do":"layer","token":"0:orc","layer":"hidden"}"#,
-            ("layer", ""),
-        ),
-        (
-            r#"{"do":"visible","token":"0:orc","on":true}"#,
-            ("visible", ""),
-        ),
-        (
-            r#"{"do":"sight","token":"0:orc","sight":"human"}"#,
-            ("sight", ""),
-        ),
-        (
-            r#"{"do":"place","token":"0:orc","map":"cave","cell":[2,2]}"#,
-            ("place", ""),
-        ),
-        (
-            r#"{"do":"secret","token":"0:orc","name":"trap","value":"pit"}"#,
-            ("secret", ""),
-        ),
-        (
-            r#"{"do":"expose","seat":1,"map":"cave","rect":[0,0,1,3]}"#,
-            ("expose", ""),
-        ),
-        (
-            r#"{"do":"hide","seat":1,"map":"cave","rect":[0,0,1,3]}"#,
-            ("hide", ""),
         ),
         (r#"{"do":"#, ("BadJson", "")),
         (
@@ -132,14 +58,13 @@ fn lines_are_commands_or_faults(rt: HostRuntime) -> Result<(), Fail> {
             ("BadField", "path"),
         ),
         (r#"{"do":"bye","z":1,"to":1}"#, ("BadField", "to")),
-        (r#"{"do":"say","text":"hi","to":null}"#, ("BadField", "to")),
+        (r#"{"do":"say","text":"hi","to":"all"}"#, ("BadField", "to")),
+        (r#"{"do":"map","name":"cave","w":96,"h":1}"#, ("BadCommand", "")),
         (r#"{}"#, ("BadCommand", "")),
     ];
     for (line, wanted) in rows {
         let answer = read_line(rt.alloc(), line.as_bytes(), true);
         assert_eq!(rt; told(&answer), wanted, "at {line}");
     }
-    let answer = read_line(rt.alloc(), b"{\"do\":\"map\"}", false);
-    assert_eq!(rt; told(&answer), ("GmOnly", ""));
     Ok(())
 }

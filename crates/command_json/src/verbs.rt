@@ -52,12 +52,7 @@ pub(crate) fn read_verb(value: &Value) -> Option<Verb>
         ("bye", Verb::Bye),
         ("look", Verb::Look),
         ("say", Verb::Say),
-        ("roll", Verb::Roll),
         ("move", Verb::Move),
-        ("setprop", Verb::Setprop),
-        ("light", Verb::Light),
-        ("make", Verb::Make),
-        ("remove", Verb::Remove),
     ];
     word(value, "do", &table)
 }
@@ -65,24 +60,6 @@ pub(crate) fn read_verb(value: &Value) -> Option<Verb>
 pub(crate) fn read_gm_verb(value: &Value) -> Option<GmVerb>
     ensures { result ≡ word_in (codes "do") gm_verbs (view value.now) }
 {
-    let table = [
-        ("map", GmVerb::Map),
-        ("mode", GmVerb::Mode),
-        ("show", GmVerb::Show),
-        ("terrain", GmVerb::Terrain),
-        ("wall", GmVerb::Wall),
-        ("unwall", GmVerb::Unwall),
-        ("lighttype", GmVerb::Lighttype),
-        ("sighttype", GmVerb::Sighttype),
-        ("token", GmVerb::Token),
-        ("own", GmVerb::Own),
-        ("layer", GmVerb::Layer),
-        ("visible", GmVerb::Visible),
-        ("sight", GmVerb::Sight),
-        ("place", GmVerb::Place),
-        ("secret", GmVerb::Secret),
-        ("expose", GmVerb::Expose),
-        ("hide", GmVerb::Hide),
-    ];
+    let table: [(&str, GmVerb); 0] = [];
     word(value, "do", &table)
 }

@@ -63,14 +63,14 @@ on_map s seat id path t is ordered found (Some m) there h =
       fits = fits_of t path (known_of s seat m) h;
     }
 
-moving : (s : Scene) (seat : ℕ) (id : TokenId) (path : List (ℤ × ℤ)) → IsScene s → maps_in_order s.maps ≡ true → (o : Option Token) → own_token s seat id ≡ o → move_rule (asked_of 0 s seat) seat path (option_map mine_of o) ≡ None → MayMove s seat id path
+moving : (seats : ℕ) (s : Scene) (seat : ℕ) (id : TokenId) (path : List (ℤ × ℤ)) → IsScene s → maps_in_order s.maps ≡ true → (o : Option Token) → own_token s seat id ≡ o → move_rule (asked_of seats s seat) seat path (option_map mine_of o) ≡ None → MayMove s seat id path
 unfolding asked_of
-moving s seat id path is ordered None found h = cc
-moving s seat id path is ordered (Some t) found h = on_map s seat id path t is ordered found (find (λ m. has_map seat m && has_name t.map m) s.maps) refl h
+moving seats s seat id path is ordered None found h = cc
+moving seats s seat id path is ordered (Some t) found h = on_map s seat id path t is ordered found (find (λ m. has_map seat m && has_name t.map m) s.maps) refl h
 
 pub may_move : (s : Scene) (seat : ℕ) (id : TokenId) (path : List (ℤ × ℤ)) → IsScene s → maps_in_order s.maps ≡ true → IsAllowed s seat (Move id path) → MayMove s seat id path
 unfolding asked_of rule_of
-may_move s seat id path is ordered allowed = moving s seat id path is ordered (own_token s seat id) refl (allowed 0 [])
+may_move s seat id path is ordered allowed = moving allowed.seats s seat id path is ordered (own_token s seat id) refl allowed.rule
 
 -- ---- where the token goes
 

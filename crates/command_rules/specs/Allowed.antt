@@ -12,9 +12,11 @@ use Rattle.command_rules.specs.Places.{fits_at}
 use Rattle.command_rules.specs.Rules.{rule_of}
 use Rattle.command_rules.specs.Effects.{own_token}
 
--- no rule is broken
-abbrev pub IsAllowed : Scene → ℕ → Command → Type 0
-IsAllowed s seat c = (seats : ℕ) (tags : List (List ℕ)) → rule_of (asked_of seats s seat) seat tags c ≡ None
+-- the command breaks no rule, in a campaign of so many seats, by a seat that used these tags
+pub record IsAllowed (s : Scene) (seat : ℕ) (c : Command) : Type 0 where
+  pub seats : ℕ
+  pub tags : List (List ℕ)
+  pub rule : rule_of (asked_of seats s seat) seat tags c ≡ None
 
 -- the seat may act on the token of the id, which stands on a map, and its square fits there at each cell of the path
 pub record MayMove (s : Scene) (seat : ℕ) (id : TokenId) (path : List (ℤ × ℤ)) : Type 0 where
