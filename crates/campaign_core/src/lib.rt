@@ -8,7 +8,5 @@ mod outcome;
 mod queues;
 mod state;
 mod texts;
-#[cfg(test)]
-mod tests;
 
 pub use campaign::{Campaign, OpenFault};
