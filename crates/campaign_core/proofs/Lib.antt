@@ -1,10 +1,4 @@
-pub mod Lists
-pub mod Seats
-pub mod Views
-pub mod Runs
-pub mod Outcomes
-pub mod Simulation
-pub mod Sessions
-pub mod States
-pub mod OneLines
-pub mod Refused
+pub mod Openings
+pub mod Allowed
+pub mod Nexts
+pub mod Lines

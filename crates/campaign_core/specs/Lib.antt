@@ -1,12 +1,3 @@
-pub mod Commands
-pub mod Texts
-pub mod Views
-pub mod Asked
-pub mod Seat
-pub mod Outcome
-pub mod World
-pub mod Session
-pub mod State
-pub mod Player
 pub mod Opening
-pub mod Law
+pub mod Glances
+pub mod Changed

@@ -2,51 +2,48 @@
 ghost use Rattle.std.specs.Prelude.{◌≡◌, ◌<◌, ◌≤◌, ◌++◌, ◌∷◌, [], ℕ, length, Some, IfOk, OnOk, IfErr, OnErr, map, drop, option_map, is_some, true};
 ghost use Rattle.campaign_file.specs.Campaign.{IsOpening as IsOpeningList};
 ghost use Rattle.campaign_core.specs.Opening.{opening_world, world_of_text, IsOpenFault, IsBadForm};
-ghost use Rattle.campaign_core.specs.World.{seat_at};
-ghost use Rattle.campaign_core.specs.Session.{session, waiting};
-ghost use Rattle.campaign_core.specs.Law.{IsOpening, IsSentAsMachine, ChangesLittle, world_of, answer_of as answer_of_lem, answer_after};
+ghost use Rattle.campaign_law.specs.World.{seat_at};
+ghost use Rattle.campaign_law.specs.Session.{session, waiting};
+ghost use Rattle.campaign_law.specs.Law.{IsOpening, IsSentAsMachine, ChangesLittle, world_of, answer_of as answer_of_lem, answer_after};
 
-use crate::command::Refusal;
-use crate::entry::Entry;
-use crate::outcome::{Outcome, decide, steps_of};
+use crate::next::{Changed, changed_scene, posts_after};
+use crate::outcome::{Outcome, decide};
 use crate::state::{Post, State};
 use campaign_file::{BadCampaign, FileFault, Rule, read_campaign};
+use campaign_law::{Answer, Entry};
+use command_rules::settle;
 use names::{LineText, Memory, SeatNo, Text};
-use seats::{SeatBook, SeatState};
+use player_view::fields_of;
+use seats::SeatState;
 use std::alloc::Global;
 use std::marker::Model;
-
-/// What an entry's caller is told.
-#[derive(Drop)]
-pub struct Answer {
-    /// Why the entry is refused; none, where it isn't.
-    pub refusal: Option<Refusal>,
-    /// The steps of a move, else 0.
-    pub taken: u32,
-    /// The reply that stands in no queue.
-    pub line: Option<LineText>,
-}
+use topology::Eye;
+use vision::Fields;
+use world::World;
 
 /// A campaign: the world that it opened with, and its history since. Its state is the replay of the
-/// history from that world.
+/// history from that world. By its eye it finds what tokens see.
 #[derive(Drop)]
-pub struct Campaign {
+pub struct Campaign<E> {
     alloc: Global,
+    eye: E,
     origin: State,
     state: State,
+    fields: Fields,
     history: Vec<Entry>,
 }
 
-impl Model for Campaign {
+impl<E> Model for Campaign<E> {
     ghost use Rattle.std.specs.Prelude.{◌≡◌};
-    ghost use Rattle.campaign_core.specs.State.{world_in, state_of};
-    ghost use Rattle.campaign_core.specs.Law.{Course, IsOpening};
+    ghost use Rattle.player_view.specs.Fields.{HasFields};
+    ghost use Rattle.campaign_law.specs.State.{world_in, state_of};
+    ghost use Rattle.campaign_law.specs.Law.{Course, IsOpening};
 
     ghost Value = { Course };
 
     ghost view = { λ c. record { origin = world_in c.origin; history = c.history.items } };
 
-    ghost invariant = { λ c. (c.state ≡ state_of (world_in c.origin) c.history.items) × IsOpening (world_in c.origin) };
+    ghost invariant = { λ c. (c.state ≡ state_of (world_in c.origin) c.history.items) × IsOpening (world_in c.origin) × HasFields c.state.scene c.fields };
 }
 
 /// Why no campaign opens.
@@ -70,20 +67,21 @@ fn bad_form(alloc: Global) -> OpenFault
     }
 }
 
-fn told(steps: u32, outcome: Outcome) -> Answer
+fn told(steps: u32, mut outcome: Outcome) -> Answer
     ensures { result ≡ answer_of_lem steps outcome }
 {
+    let line = outcome.reply.take();
     Answer {
-        refusal: outcome.refusal,
+        refusal: outcome.refusal.take(),
         taken: steps,
-        line: if outcome.direct { outcome.reply } else { None },
+        line: if outcome.direct { line } else { None },
     }
 }
 
-impl Campaign {
+impl<E: Eye + Drop> Campaign<E> {
     /// The campaign of a text: its world, and no entry. `Bad` exactly where the text is off the format
     /// (`docs/CAMPAIGN.md`), with an empty path and the rule `Form` until the whole format is read.
-    pub fn open(alloc: Global, text: &[u8]) -> Result<Campaign, OpenFault>
+    pub fn open(alloc: Global, text: &[u8], eye: E) -> Result<Campaign<E>, OpenFault>
         ensures world { IfOk result (λ c. world_of_text text.now ≡ Some c.origin) }
         ensures opening { IfOk result (λ c. IsOpening c.origin) }
         ensures history { IfOk result (λ c. c.history ≡ []) }
@@ -91,7 +89,7 @@ impl Campaign {
         ensures bad { IfErr result (IsOpenFault text.now) }
     {
         match read_campaign(alloc, text) {
-            Ok(books) => match Campaign::with_seats(alloc, books) {
+            Ok(world) => match Campaign::of_world(alloc, world, eye) {
                 Ok(campaign) => Ok(campaign),
                 Err(_) => Err(OpenFault::Memory),
             },
@@ -100,19 +98,24 @@ impl Campaign {
         }
     }
 
-    /// A campaign of these seats, each of which is Free.
-    fn with_seats(alloc: Global, books: Vec<SeatBook>) -> Result<Campaign, Memory>
-        requires { IsOpeningList books.items }
-        ensures world { IfOk result (λ c. c.origin ≡ opening_world books.items) }
+    /// The campaign that opens with this world, in which each seat is Free. What players see is exposed to them.
+    fn of_world(alloc: Global, world: World, mut eye: E) -> Result<Campaign<E>, Memory>
+        requires { IsOpeningList world.books }
+        ensures world { IfOk result (λ c. c.origin ≡ opening_world world) }
         ensures opening { IfOk result (λ c. IsOpening c.origin) }
         ensures history { IfOk result (λ c. c.history ≡ []) }
     {
-        let origin = State::opening(alloc, books)?;
+        let (mut scene, books) = world.into_parts();
+        let fields = fields_of(alloc, &scene, &mut eye)?;
+        settle(alloc, &mut scene, &fields)?;
+        let origin = State::opening(alloc, books, scene)?;
         let state = origin.copy(alloc)?;
         Ok(Campaign {
             alloc,
+            eye,
             origin,
             state,
+            fields,
             history: Vec::new(alloc),
         })
     }
@@ -130,17 +133,25 @@ impl Campaign {
         // What each player was sent is what the machine without a world prints.
         ensures sent { (p : ℕ) → IsSentAsMachine self.new.origin self.new.history p }
     {
-        let steps = steps_of(&self.state, &entry);
-        let Ok(outcome) = decide(self.alloc, &self.state, steps, &entry) else {
+        let Ok((steps, outcome)) = decide(self.alloc, &self.state, &entry) else {
             return Err(entry);
         };
-        let Ok(state) = self.state.after(self.alloc, &entry, &outcome) else {
+        let Ok(changed) = changed_scene(self.alloc, &self.state, &mut self.eye, &entry, &outcome, steps) else {
+            return Err(entry);
+        };
+        let Ok(posts) = posts_after(self.alloc, &self.state, &self.fields, &entry, &outcome, &changed) else {
             return Err(entry);
         };
         if let Err(failed) = self.history.push(entry) {
             return Err(failed.value);
         }
-        self.state = state;
+        match changed {
+            Some(Changed { scene, fields }) => {
+                self.state.go_on(posts, Some(scene));
+                self.fields = fields;
+            }
+            None => self.state.go_on(posts, None),
+        }
         Ok(told(steps, outcome))
     }
 

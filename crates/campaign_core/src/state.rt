@@ -1,19 +1,17 @@
-//! What a running campaign keeps: each seat's book, and the lines that wait for it.
-ghost use Rattle.std.specs.Prelude.{◌≡◌, ◌≤◌, ◌==◌, ◌+◌, ◌-◌, ◌||◌, length, slice_get, option_map, Some, IfOk, OnOk, map, drop, ◌++◌, ◌∷◌, [], if◌then◌else◌, ◌&&◌, not};
+//! What a running campaign keeps: each seat's book, the lines that wait for it, and the scene.
+ghost use Rattle.std.specs.Prelude.{◌≡◌, ◌≤◌, ◌==◌, ◌+◌, ◌-◌, ◌||◌, ◌&&◌, length, slice_get, option_map, Some, IfOk, OnOk, map, drop, ◌++◌, ◌∷◌, [], if◌then◌else◌, unwrap_or};
 ghost use Rattle.seats.specs.SeatState.{is_free as is_free_lem, is_closing as is_closing_lem};
-ghost use Rattle.campaign_core.specs.Views.{no_view};
-ghost use Rattle.campaign_core.specs.Seat.{Seat, let_go, is_let_go as is_let_go_lem};
-ghost use Rattle.campaign_core.specs.World.{queued_lines, queued_reply, view_lines, changed, messages_to, mapped_from, outcome_of, is_present as is_present_lem};
-ghost use Rattle.campaign_core.specs.State.{world_in, post_by, opening_post, opening_state, state_after};
+ghost use Rattle.campaign_law.specs.Seat.{let_go};
+ghost use Rattle.campaign_law.specs.World.{changed};
+ghost use Rattle.campaign_law.specs.State.{opening_post};
 
-use crate::entry::Entry;
-use crate::outcome::{Outcome, seat_of};
-use crate::texts::full_line;
+use crate::outcome::Outcome;
 use names::{LineText, Memory};
 use seats::{SeatBook, SeatState};
 use std::alloc::Global;
 use std::cmp::{max, min};
 use std::marker::Model;
+use world::Scene;
 
 /// A seat: its book, how many lines were queued for it since its Join and how many of them were
 /// taken, and the lines that weren't.
@@ -26,7 +24,7 @@ pub(crate) struct Post {
 }
 
 impl Model for Post {
-    ghost use Rattle.campaign_core.specs.State.{Post};
+    ghost use Rattle.campaign_law.specs.State.{Post};
 
     ghost Value = { Post };
 
@@ -50,28 +48,30 @@ impl Post {
 #[derive(Drop)]
 pub(crate) struct State {
     posts: Vec<Post>,
+    scene: Scene,
 }
 
 impl Model for State {
-    ghost use Rattle.std.specs.Prelude.{length, ◌≤◌};
-    ghost use Rattle.campaign_core.specs.Views.{bare};
-    ghost use Rattle.campaign_core.specs.State.{State};
+    ghost use Rattle.std.specs.Prelude.{length, ◌≡◌, ◌≤◌, ◌+◌};
+    ghost use Rattle.campaign_law.specs.State.{State};
 
     ghost Value = { State };
 
-    ghost view = { λ s. record { posts = s.posts.items; scene = bare } };
+    ghost view = { λ s. record { posts = s.posts.items; scene = s.scene } };
 
-    ghost invariant = { λ s. length s.posts.items ≤ 33 };
+    ghost invariant = { λ s. (length s.posts.items ≤ 33) × (length s.posts.items ≡ s.scene.fog.players + 1) };
 }
 
 impl State {
-    /// The state of a campaign that opens with these seats.
-    pub(crate) fn opening(alloc: Global, books: Vec<SeatBook>) -> Result<State, Memory>
-        requires { length books.items ≤ 33 }
-        ensures { IfOk result (λ s. s ≡ opening_state books.items) }
+    /// The state of a campaign that opens with these seats and this scene.
+    pub(crate) fn opening(alloc: Global, books: Vec<SeatBook>, scene: Scene) -> Result<State, Memory>
+        requires count { length books.items ≤ 33 }
+        requires players { length books.items ≡ scene.fog.players + 1 }
+        ensures { IfOk result (λ s. s ≡ record { posts = map opening_post books.items; scene = scene }) }
     {
         Ok(State {
             posts: opening_posts(alloc, books)?,
+            scene,
         })
     }
 
@@ -79,6 +79,7 @@ impl State {
     pub(crate) fn seats(&self) -> u8
         ensures value { result ≡ length self.now.posts }
         ensures bound { result ≤ 33 }
+        ensures players { result ≡ self.now.scene.fog.players + 1 }
     {
         self.posts.len() as u8
     }
@@ -90,13 +91,42 @@ impl State {
         self.posts.get(usize::from(seat))
     }
 
+    /// The seats' posts, by number.
+    pub(crate) fn posts(&self) -> &[Post]
+        ensures value { result.now ≡ self.now.posts }
+        ensures count { length result.now ≤ 33 }
+        ensures players { length result.now ≡ self.now.scene.fog.players + 1 }
+    {
+        self.posts.as_slice()
+    }
+
+    /// The maps, the tokens, the types and what is exposed.
+    pub(crate) fn scene(&self) -> &Scene
+        ensures { result.now ≡ self.now.scene }
+    {
+        &self.scene
+    }
+
     /// An equal state.
     pub(crate) fn copy(&self, alloc: Global) -> Result<State, Memory>
         ensures { IfOk result (λ s. s ≡ self.now) }
     {
         Ok(State {
             posts: copied_posts(alloc, &self.posts)?,
+            scene: self.scene.copy()?,
         })
+    }
+
+    /// Puts in the posts and, where it changed, the scene.
+    pub(crate) fn go_on(&mut self, posts: Vec<Post>, scene: Option<Scene>)
+        requires count { length posts.items ≡ length self.old.posts }
+        requires players { (unwrap_or scene self.old.scene).fog.players ≡ self.old.scene.fog.players }
+        ensures { self.new ≡ record { posts = posts.items; scene = unwrap_or scene self.old.scene } }
+    {
+        self.posts = posts;
+        if let Some(scene) = scene {
+            self.scene = scene;
+        }
     }
 }
 
@@ -130,7 +160,7 @@ fn copied_posts(alloc: Global, posts: &[Post]) -> Result<Vec<Post>, Memory>
     Ok(all)
 }
 
-fn copied_lines(alloc: Global, lines: &[LineText]) -> Result<Vec<LineText>, Memory>
+pub(crate) fn copied_lines(alloc: Global, lines: &[LineText]) -> Result<Vec<LineText>, Memory>
     ensures { IfOk result (λ v. v.items ≡ lines.now) }
 {
     let mut all = Vec::new(alloc);
@@ -138,7 +168,7 @@ fn copied_lines(alloc: Global, lines: &[LineText]) -> Result<Vec<LineText>, Memo
     Ok(all)
 }
 
-fn add_lines(all: &mut Vec<LineText>, alloc: Global, lines: &[LineText]) -> Result<(), Memory>
+pub(crate) fn add_lines(all: &mut Vec<LineText>, alloc: Global, lines: &[LineText]) -> Result<(), Memory>
     ensures { OnOk result (all.new.items ≡ all.old.items ++ lines.now) }
 {
     for line in lines {
@@ -147,7 +177,7 @@ fn add_lines(all: &mut Vec<LineText>, alloc: Global, lines: &[LineText]) -> Resu
     Ok(())
 }
 
-fn add_line(all: &mut Vec<LineText>, line: LineText) -> Result<(), Memory>
+pub(crate) fn add_line(all: &mut Vec<LineText>, line: LineText) -> Result<(), Memory>
     ensures { OnOk result (all.new.items ≡ all.old.items ++ line ∷ []) }
 {
     match all.push(line) {
@@ -156,74 +186,9 @@ fn add_line(all: &mut Vec<LineText>, line: LineText) -> Result<(), Memory>
     }
 }
 
-// ---- the lines of an entry
-
-/// The reply, where it is queued.
-fn queued_reply_lines(alloc: Global, outcome: &Outcome, acts: bool) -> Result<Vec<LineText>, Memory>
-    ensures { IfOk result (λ v. v.items ≡ (if acts then queued_reply outcome.now else [])) }
-{
-    let mut lines = Vec::new(alloc);
-    if acts && !outcome.direct {
-        if let Some(reply) = &outcome.reply {
-            add_line(&mut lines, LineText::copy(alloc, reply.bytes())?)?;
-        }
-    }
-    Ok(lines)
-}
-
-/// Whether the seat is there at the entry.
-fn is_present(outcome: &Outcome, acts: bool, post: &Post) -> bool
-    ensures { result ≡ is_present_lem acts (Some post.now.seat) outcome.now }
-{
-    post.book.state().is_joined() || (acts && outcome.joins)
-}
-
-/// The line on a view that doesn't change.
-#[tactic(auto, using(crate::proofs::Views::view_lines_unchanged, crate::proofs::Views::view_lines_full))]
-fn add_view(lines: &mut Vec<LineText>, alloc: Global, full: bool) -> Result<(), Memory>
-    ensures { OnOk result (lines.new.items ≡ lines.old.items ++ view_lines full no_view no_view) }
-{
-    if !full {
-        return Ok(());
-    }
-    add_line(lines, full_line(alloc)?)
-}
-
-#[tactic(auto, unfolding(crate::specs::World::addressed))]
-fn add_messages(
-    lines: &mut Vec<LineText>,
-    alloc: Global,
-    outcome: &Outcome,
-    seat: u8,
-) -> Result<(), Memory>
-    ensures { OnOk result (lines.new.items ≡ lines.old.items ++ messages_to seat outcome.now) }
-{
-    let _seat = seat;
-    add_lines(lines, alloc, &outcome.messages)
-}
-
-/// The lines of the entry that are queued for a seat, where no view changes.
-fn queued(
-    alloc: Global,
-    outcome: &Outcome,
-    acts: bool,
-    post: &Post,
-    seat: u8,
-) -> Result<Vec<LineText>, Memory>
-    ensures { IfOk result (λ v. v.items ≡ queued_lines seat acts (Some post.now.seat) outcome.now no_view no_view) }
-{
-    let mut lines = queued_reply_lines(alloc, outcome, acts)?;
-    if !is_present(outcome, acts, post) {
-        return Ok(lines);
-    }
-    add_messages(&mut lines, alloc, outcome, seat)?;
-    add_view(&mut lines, alloc, acts && outcome.full)?;
-    Ok(lines)
-}
-
 // ---- a seat after an entry
 
-fn changed_book(outcome: &Outcome, acts: bool, post: &Post) -> Result<SeatBook, Memory>
+pub(crate) fn changed_book(outcome: &Outcome, acts: bool, post: &Post) -> Result<SeatBook, Memory>
     ensures { IfOk result (λ b. b ≡ (changed outcome.now acts post.now.seat).book) }
 {
     match &outcome.book {
@@ -232,7 +197,7 @@ fn changed_book(outcome: &Outcome, acts: bool, post: &Post) -> Result<SeatBook, 
     }
 }
 
-fn changed_taken(outcome: &Outcome, acts: bool, post: &Post) -> u64
+pub(crate) fn changed_taken(outcome: &Outcome, acts: bool, post: &Post) -> u64
     ensures { result ≡ (changed outcome.now acts post.now.seat).taken }
 {
     if acts {
@@ -254,7 +219,7 @@ fn is_let_go(state: SeatState, queued: u64, taken: u64) -> bool
 }
 
 /// The seat, or what it is once it is let go.
-fn settled(alloc: Global, mut book: SeatBook, queued: u64, taken: u64, mail: Vec<LineText>) -> Post
+pub(crate) fn settled(alloc: Global, mut book: SeatBook, queued: u64, taken: u64, mail: Vec<LineText>) -> Post
     ensures seat { result.seat ≡ let_go (record { book = book; queued = queued; taken = taken }) }
     ensures mail { result.mail ≡ (if is_free_lem result.seat.book.state then [] else mail.items) }
 {
@@ -286,7 +251,7 @@ fn lines_past(alloc: Global, lines: &[LineText], gone: u64) -> Result<Vec<LineTe
 }
 
 /// What waits for a seat after an entry that queued these lines, `gone` more being taken.
-fn mail_with(
+pub(crate) fn mail_with(
     alloc: Global,
     mail: &[LineText],
     gone: u64,
@@ -297,63 +262,4 @@ fn mail_with(
     let mut all = lines_past(alloc, mail, gone)?;
     add_lines(&mut all, alloc, lines)?;
     Ok(all)
-}
-
-/// The seat's post after an entry that changes no view.
-fn next_post(
-    alloc: Global,
-    outcome: &Outcome,
-    acts: bool,
-    post: &Post,
-    seat: u8,
-) -> Result<Post, Memory>
-    ensures { IfOk result (λ p. p ≡ post_by seat acts outcome.now no_view no_view post.now) }
-{
-    let lines = queued(alloc, outcome, acts, post, seat)?;
-    let book = changed_book(outcome, acts, post)?;
-    let taken = changed_taken(outcome, acts, post);
-    let mail = mail_with(alloc, &post.mail, taken.saturating_sub(post.taken), &lines)?;
-    let Some(queued) = post.queued.checked_add(lines.len() as u64) else {
-        return Err(Memory);
-    };
-    Ok(settled(alloc, book, queued, taken, mail))
-}
-
-/// Each seat's post after an entry of the seat `actor` that changes no view.
-fn next_posts(
-    alloc: Global,
-    outcome: &Outcome,
-    actor: u8,
-    posts: &[Post],
-) -> Result<Vec<Post>, Memory>
-    requires { length posts.now ≤ 33 }
-    ensures { IfOk result (λ v. v.items ≡ mapped_from (λ seat post. post_by seat (actor == seat) outcome.now no_view no_view post) 0 posts.now) }
-{
-    let mut next = Vec::new(alloc);
-    let mut seat: u8 = 0;
-    for post in posts {
-        let after = next_post(alloc, outcome, actor == seat, post, seat)?;
-        if next.push(after).is_err() {
-            return Err(Memory);
-        }
-        seat += 1;
-    }
-    Ok(next)
-}
-
-impl State {
-    /// The state after an entry of the seat `actor` that has this outcome.
-    pub(crate) fn after(
-        &self,
-        alloc: Global,
-        entry: &Entry,
-        outcome: &Outcome,
-    ) -> Result<State, Memory>
-        requires { outcome.now ≡ outcome_of (world_in self.now) entry.now }
-        ensures { IfOk result (λ s. s ≡ state_after self.now entry.now) }
-    {
-        Ok(State {
-            posts: next_posts(alloc, outcome, seat_of(entry), &self.posts)?,
-        })
-    }
 }

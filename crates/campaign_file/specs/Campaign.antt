@@ -1,9 +1,10 @@
--- The campaign text: the books of its seats, or its first breach.
+-- The campaign text: the world that it opens with, or its first breach.
 use Rattle.std.specs.Prelude.{◌≡◌, ◌≤◌, ℕ, ◌-◌, ◌+◌, List, [], ◌∷◌, length, codes, Result, Ok}
 use Rattle.serde_json.specs.Data.{Data}
 use Rattle.json_fields.specs.Objects.{◌>>=◌}
 use Rattle.json_fields.specs.Values.{value_of}
 use Rattle.seats.specs.Book.{Book, IsFresh, fresh_book, drawn_limit}
+use Rattle.world.specs.World.{World, opened}
 use Rattle.campaign_file.specs.declared.faults.Rule.TheVariants.{Json}
 use Rattle.campaign_file.specs.declared.faults.BadCampaign.{BadCampaign}
 use Rattle.campaign_file.specs.Reading.{needed, field, each}
@@ -34,7 +35,7 @@ seats d = do
 abbrev pub campaign_keys : List (List ℕ)
 campaign_keys = codes "format" ∷ codes "lights" ∷ codes "sights" ∷ codes "maps" ∷ codes "seats" ∷ codes "tokens" ∷ []
 
-unfoldable pub campaign : Data → Result (List Book) BadCampaign
+unfoldable pub campaign : Data → Result World BadCampaign
 campaign d = do
   members ← object d
   format ← field (codes "format") (whole 1 1) d
@@ -44,10 +45,10 @@ campaign d = do
   books ← field (codes "seats") seats d
   tokens ← field (codes "tokens") empty_list d
   no_others ← only campaign_keys d
-  Ok books
+  Ok (opened books)
 
--- the books that a campaign text opens with, or its first breach
-unfoldable pub campaign_of : List ℕ → Result (List Book) BadCampaign
+-- the world that a campaign text opens with, or its first breach
+unfoldable pub campaign_of : List ℕ → Result World BadCampaign
 campaign_of bytes = needed Json (value_of bytes) >>= campaign
 
 -- ---- what a campaign opens with

@@ -12,19 +12,20 @@ use json_fields::{ReadFault, read_value};
 use seats::SeatBook;
 use serde_json::Value;
 use std::alloc::Global;
+use world::World;
 
 /// The keys of the whole.
 const CAMPAIGN_KEYS: [&str; 6] = ["format", "lights", "sights", "maps", "seats", "tokens"];
 
-/// The books of a campaign text's seats: 1 to 33 fresh ones, each numbered by its place. Seat 0 is the
-/// game master's.
+/// The world that a campaign text opens with. Its books are 1 to 33 fresh ones, each numbered by its place. Seat 0 is
+/// the game master's.
 ///
 /// `Bad` comes exactly where the text is off the format, with the path and the rule of its first breach.
 /// `Memory` is want of memory.
 #[tactic(auto, unfolding(crate::specs::Campaign::campaign_of))]
-pub fn read_campaign(alloc: Global, text: &[u8]) -> Result<Vec<SeatBook>, FileFault>
-    ensures exact { Gives Fails (λ books. books.items) result (campaign_of text.now) }
-    ensures opening { IfOk result (λ books. IsOpening books.items) }
+pub fn read_campaign(alloc: Global, text: &[u8]) -> Result<World, FileFault>
+    ensures exact { Gives Fails (λ world. world) result (campaign_of text.now) }
+    ensures opening { IfOk result (λ world. IsOpening world.books) }
 {
     match read_value(alloc, text) {
         Ok(value) => read_root(alloc, &value),
@@ -33,10 +34,10 @@ pub fn read_campaign(alloc: Global, text: &[u8]) -> Result<Vec<SeatBook>, FileFa
     }
 }
 
-#[tactic(auto, unfolding(crate::specs::Campaign::campaign))]
-fn read_root(alloc: Global, value: &Value) -> Result<Vec<SeatBook>, FileFault>
-    ensures exact { Gives Fails (λ books. books.items) result (campaign_lem (view value.now)) }
-    ensures opening { IfOk result (λ books. IsOpening books.items) }
+#[tactic(auto, using(crate::proofs::Opening::opens), unfolding(crate::specs::Campaign::campaign))]
+fn read_root(alloc: Global, value: &Value) -> Result<World, FileFault>
+    ensures exact { Gives Fails (λ world. world) result (campaign_lem (view value.now)) }
+    ensures opening { IfOk result (λ world. IsOpening world.books) }
 {
     check_object(alloc, value)?;
     fields::whole(alloc, value, "format", 1, 1)?;
@@ -46,7 +47,10 @@ fn read_root(alloc: Global, value: &Value) -> Result<Vec<SeatBook>, FileFault>
     let books = seats_field(alloc, value)?;
     fields::empty_list(alloc, value, "tokens")?;
     check_only(alloc, value, &CAMPAIGN_KEYS)?;
-    Ok(books)
+    match World::open(alloc, books) {
+        Ok(world) => Ok(world),
+        Err(_) => Err(FileFault::Memory),
+    }
 }
 
 fn seats_field(alloc: Global, value: &Value) -> Result<Vec<SeatBook>, FileFault>

@@ -15,9 +15,10 @@ const TWO_SEATS: &str = r#" {"tokens":[], "sights":{}, "seats":[
 
 #[test]
 fn takes_three_seats(rt: HostRuntime) -> Result<(), Fail> {
-    let Ok(books) = read_campaign(rt.alloc(), THREE_SEATS.as_bytes()) else {
+    let Ok(world) = read_campaign(rt.alloc(), THREE_SEATS.as_bytes()) else {
         return Err("the text is a campaign".into());
     };
+    let books = world.seats();
     assert_eq!(rt; books.len(), 3);
     for (place, key) in ["g", "a", "b"].iter().enumerate() {
         let book = books.get(place).ok_or("a seat for each place")?;
@@ -33,9 +34,10 @@ fn takes_three_seats(rt: HostRuntime) -> Result<(), Fail> {
 
 #[test]
 fn takes_another_spelling(rt: HostRuntime) -> Result<(), Fail> {
-    let Ok(books) = read_campaign(rt.alloc(), TWO_SEATS.as_bytes()) else {
+    let Ok(world) = read_campaign(rt.alloc(), TWO_SEATS.as_bytes()) else {
         return Err("the text is a campaign".into());
     };
+    let books = world.seats();
     assert_eq!(rt; books.len(), 2);
     let book = books.get(1).ok_or("two seats")?;
     assert_eq!(rt;

@@ -12,10 +12,10 @@ use Rattle.std.proofs.lemmas.Str.Parse.{digit_from_value}
 use Rattle.line_io.specs.Lines.{HasNoLineEnd, lines_of}
 use Rattle.line_io.proofs.LinesLemmas.{lines_of-nil, lines_of-line}
 use Rattle.json_fields.specs.Lines.{IsOneLine}
-use Rattle.campaign_core.specs.declared.entry.Entry.{Entry}
-use Rattle.campaign_core.specs.World.{World, lines_of as entry_lines, step, sent}
-use Rattle.campaign_core.proofs.Lists.{ap₂}
-use Rattle.campaign_core.proofs.OneLines.{AreOneLine, lines_one}
+use Rattle.campaign_law.specs.declared.entry.Entry.{Entry}
+use Rattle.campaign_law.specs.World.{World, lines_of as entry_lines, step, sent}
+use Rattle.campaign_law.proofs.Lists.{ap₂}
+use Rattle.campaign_law.proofs.OneLines.{AreOneLine, lines_one}
 use Rattle.script_play.specs.Tagged.{seat_tag, tagged_line, tagged_lines, entry_text_below, entry_text, tagged, behind, lines_behind}
 
 -- ---- a seat's number and TAB

@@ -8,26 +8,26 @@ use Rattle.seats.specs.declared.seat_state.SeatState.TheVariants.{Free, Joined, 
 use Rattle.seats.specs.declared.seat_state.JoinRefusal.{JoinRefusal}
 use Rattle.seats.specs.SeatState.{is_free, is_joined, is_closing, closed}
 use Rattle.seats.specs.Book.{Book, counted, joined, left, line_limit, join_refusal}
-use Rattle.campaign_core.specs.declared.entry.Entry.{Entry}
-use Rattle.campaign_core.specs.declared.entry.Entry.TheVariants.{Join, Line, Taken}
-use Rattle.campaign_core.specs.declared.command.Command.{Command}
-use Rattle.campaign_core.specs.declared.command.Command.TheVariants.{Hello, Bye, Say}
-use Rattle.campaign_core.specs.declared.command.LineFault.{LineFault}
-use Rattle.campaign_core.specs.declared.command.Refusal.{Refusal}
-use Rattle.campaign_core.specs.declared.command.Refusal.TheVariants.{NoHello}
-use Rattle.campaign_core.specs.Commands.{command_of}
-use Rattle.campaign_core.specs.Asked.{Asked}
-use Rattle.campaign_core.specs.Views.{View, view_of}
-use Rattle.campaign_core.specs.Seat.{Seat, freed_seat, is_let_go}
-use Rattle.campaign_core.specs.Outcome.{Outcome, outcome_at, join_outcome, read_outcome, line_outcome, decided, accepted, refused_direct, refused_line, rule_of, book_done, seat_of}
-use Rattle.campaign_core.specs.World.{World, seat_at, asked_of, steps_of, outcome_of, scene_after, is_present, queued_reply, queued_lines, other_lines, lines_if_present, entry_lines, some_to_list, changed, seat_after, lines_of, step, replay}
-use Rattle.campaign_core.specs.Law.{first_line}
-use Rattle.campaign_core.specs.Session.{queued_of, unless_free}
-use Rattle.campaign_core.specs.State.{mail_after}
-use Rattle.campaign_core.proofs.Lists.{length-mapped_from}
+use Rattle.campaign_law.specs.declared.entry.Entry.{Entry}
+use Rattle.campaign_law.specs.declared.entry.Entry.TheVariants.{Join, Line, Taken}
+use Rattle.command_json.specs.declared.command.Command.{Command}
+use Rattle.command_json.specs.declared.command.Command.TheVariants.{Hello, Bye, Say}
+use Rattle.command_json.specs.declared.command.LineFault.{LineFault}
+use Rattle.command_rules.specs.declared.refusal.Refusal.{Refusal}
+use Rattle.command_rules.specs.declared.refusal.Refusal.TheVariants.{NoHello}
+use Rattle.command_json.specs.Commands.{command_of}
+use Rattle.player_view.specs.Asked.{Asked}
+use Rattle.campaign_law.specs.Views.{View, view_of}
+use Rattle.campaign_law.specs.Seat.{Seat, freed_seat, is_let_go}
+use Rattle.campaign_law.specs.Outcome.{Outcome, outcome_at, join_outcome, read_outcome, line_outcome, decided, accepted, refused_direct, refused_line, rule_of, book_done, seat_of}
+use Rattle.campaign_law.specs.World.{World, seat_at, asked_of, steps_of, outcome_of, scene_after, is_present, queued_reply, queued_lines, other_lines, lines_if_present, entry_lines, some_to_list, changed, seat_after, lines_of, step, replay}
+use Rattle.campaign_law.specs.Law.{first_line}
+use Rattle.campaign_law.specs.Session.{queued_of, unless_free}
+use Rattle.campaign_law.specs.State.{mail_after}
+use Rattle.campaign_law.proofs.Lists.{length-mapped_from}
 use Rattle.seats.proofs.Books.{joined_not_free, is_free-closed, is_free-counted, is_free-joined}
-use Rattle.campaign_core.proofs.Seats.{grown}
-use Rattle.campaign_core.proofs.Sessions.{IsKept, Goes, goes_after, seat_at-after}
+use Rattle.campaign_law.proofs.Seats.{grown}
+use Rattle.campaign_law.proofs.Sessions.{IsKept, Goes, goes_after, seat_at-after}
 use Rattle.script_play.specs.Script.{entry_by}
 use Rattle.script_play.specs.Tagged.{entry_text_below, tagged_lines}
 

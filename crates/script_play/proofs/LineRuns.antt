@@ -4,10 +4,10 @@ use Rattle.std.specs.Prelude.{Option, Result, Ok, Err, OnOk, OnErr, IfErr, nat_l
 use Rattle.std.specs.Io.KnownBytes.{append_known}
 use Rattle.std.proofs.lemmas.List.{append-nil}
 use Rattle.std.proofs.lemmas.Bool.Decides.{nat_tests}
-use Rattle.campaign_core.specs.declared.entry.Entry.{Entry}
-use Rattle.campaign_core.specs.World.{World, step, replay}
-use Rattle.campaign_core.specs.Law.{Course, IsOpening, world_of}
-use Rattle.campaign_core.proofs.Sessions.{replay_more}
+use Rattle.campaign_law.specs.declared.entry.Entry.{Entry}
+use Rattle.campaign_law.specs.World.{World, step, replay}
+use Rattle.campaign_law.specs.Law.{Course, IsOpening, world_of}
+use Rattle.campaign_law.proofs.Sessions.{replay_more}
 use Rattle.script_play.specs.declared.run.Played.{Played}
 use Rattle.script_play.specs.declared.run.Played.TheVariants.{Done, ReadFault, WriteFault, BadLine, TooLarge, Memory}
 use Rattle.script_play.specs.Script.{Script, Ending, done, bad_line, too_large, takens, with_takens, entry_of_line, is_past_limits, script_from, NothingWaits}

@@ -12,10 +12,10 @@ use Rattle.line_io.specs.Reader.{still_left, bytes_to_come, Answers}
 use Rattle.line_io.specs.ReaderState.{ReaderState}
 use Rattle.line_io.specs.Told.{WhereTold}
 use Rattle.line_io.proofs.LinesLemmas.{lines_of-nil, lines_of-line}
-use Rattle.campaign_core.specs.declared.entry.Entry.{Entry}
-use Rattle.campaign_core.specs.World.{World, replay}
-use Rattle.campaign_core.specs.Law.{bytes_of}
-use Rattle.campaign_core.proofs.Lists.{ap₂}
+use Rattle.campaign_law.specs.declared.entry.Entry.{Entry}
+use Rattle.campaign_law.specs.World.{World, replay}
+use Rattle.campaign_law.specs.Law.{bytes_of}
+use Rattle.campaign_law.proofs.Lists.{ap₂}
 use Rattle.script_play.specs.declared.run.Played.{Played}
 use Rattle.script_play.specs.declared.run.Played.TheVariants.{Done, ReadFault, WriteFault, BadLine, TooLarge, Memory}
 use Rattle.script_play.specs.Script.{Script, Ending, done, bad_line, too_large, ends, after_entries, entry_of_line, with_takens, is_past_limits, script_from, script_of}

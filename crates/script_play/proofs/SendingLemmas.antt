@@ -9,14 +9,14 @@ use Rattle.std.proofs.lemmas.Bool.Decides.{nat_tests}
 use Rattle.std.proofs.lemmas.Bool.{ne_eqb, eqb-true}
 use Rattle.line_io.specs.Told.{TookPrefix}
 use Rattle.line_io.proofs.ToldLemmas.{append_known-append, append_known-nil}
-use Rattle.campaign_core.specs.declared.entry.Entry.{Entry}
-use Rattle.campaign_core.specs.declared.entry.Entry.TheVariants.{Taken}
-use Rattle.campaign_core.specs.Seat.{Seat}
-use Rattle.campaign_core.specs.World.{World, seat_at, some_to_list}
-use Rattle.campaign_core.specs.Session.{session, waiting}
-use Rattle.campaign_core.specs.Law.{Course, IsOpening, world_of}
-use Rattle.campaign_core.proofs.Lists.{ap₂}
-use Rattle.campaign_core.proofs.Sessions.{IsKept, kept_at}
+use Rattle.campaign_law.specs.declared.entry.Entry.{Entry}
+use Rattle.campaign_law.specs.declared.entry.Entry.TheVariants.{Taken}
+use Rattle.campaign_law.specs.Seat.{Seat}
+use Rattle.campaign_law.specs.World.{World, seat_at, some_to_list}
+use Rattle.campaign_law.specs.Session.{session, waiting}
+use Rattle.campaign_law.specs.Law.{Course, IsOpening, world_of}
+use Rattle.campaign_law.proofs.Lists.{ap₂}
+use Rattle.campaign_law.proofs.Sessions.{IsKept, kept_at}
 use Rattle.script_play.specs.declared.run.Played.{Played}
 use Rattle.script_play.specs.declared.run.Played.TheVariants.{Done, ReadFault, WriteFault, BadLine, TooLarge, Memory}
 use Rattle.script_play.specs.Script.{taken_of, takens_below}

@@ -5,16 +5,16 @@ use Rattle.std.specs.List.{AllByRecursion}
 use Rattle.std.proofs.lemmas.List.{append-nil}
 use Rattle.std.proofs.lemmas.Bool.{eqb-true, ne_eqb}
 use Rattle.std.proofs.lemmas.Bool.Decides.{nat_tests}
-use Rattle.campaign_core.specs.declared.entry.Entry.{Entry}
-use Rattle.campaign_core.specs.declared.entry.Entry.TheVariants.{Taken}
-use Rattle.campaign_core.specs.Asked.{Asked}
-use Rattle.campaign_core.specs.Views.{View, view_of, full_line, change_line}
-use Rattle.campaign_core.specs.Seat.{Seat, freed_seat, is_let_go, let_go, settled}
-use Rattle.campaign_core.specs.Outcome.{Outcome, outcome_at}
-use Rattle.campaign_core.specs.World.{World, seat_at, asked_of, steps_of, outcome_of, scene_after, addressed, is_present, some_to_list, lines_if_present, queued_lines, entry_lines, changed, seat_after, lines_of, step, replay}
-use Rattle.campaign_core.proofs.Lists.{ap₂}
-use Rattle.campaign_core.proofs.Seats.{IsSound, settled-IsSound}
-use Rattle.campaign_core.proofs.Sessions.{seat_at-after}
+use Rattle.campaign_law.specs.declared.entry.Entry.{Entry}
+use Rattle.campaign_law.specs.declared.entry.Entry.TheVariants.{Taken}
+use Rattle.player_view.specs.Asked.{Asked}
+use Rattle.campaign_law.specs.Views.{View, view_of, full_line, change_line}
+use Rattle.campaign_law.specs.Seat.{Seat, freed_seat, is_let_go, let_go, settled}
+use Rattle.campaign_law.specs.Outcome.{Outcome, outcome_at}
+use Rattle.campaign_law.specs.World.{World, seat_at, asked_of, steps_of, outcome_of, scene_after, addressed, is_present, some_to_list, lines_if_present, queued_lines, entry_lines, changed, seat_after, lines_of, step, replay}
+use Rattle.campaign_law.proofs.Lists.{ap₂}
+use Rattle.campaign_law.proofs.Seats.{IsSound, settled-IsSound}
+use Rattle.campaign_law.proofs.Sessions.{seat_at-after}
 use Rattle.script_play.specs.Script.{taken_of, takens_below, takens, with_takens, NothingWaits}
 use Rattle.script_play.specs.Tagged.{tagged_lines, entry_text_below, entry_text, tagged}
 use Rattle.script_play.proofs.Fronts.{replay-append, tagged-append}

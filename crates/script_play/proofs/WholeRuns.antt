@@ -9,9 +9,9 @@ use Rattle.line_io.specs.Lines.{HasNoLineEnd, lines_of}
 use Rattle.line_io.specs.Reader.{bytes_to_come, Answers}
 use Rattle.line_io.specs.ReaderState.{ReaderState}
 use Rattle.line_io.specs.Told.{WhereTold}
-use Rattle.campaign_core.specs.declared.entry.Entry.{Entry}
-use Rattle.campaign_core.specs.World.{World, replay}
-use Rattle.campaign_core.specs.Law.{Course, world_of}
+use Rattle.campaign_law.specs.declared.entry.Entry.{Entry}
+use Rattle.campaign_law.specs.World.{World, replay}
+use Rattle.campaign_law.specs.Law.{Course, world_of}
 use Rattle.script_play.specs.declared.run.Played.{Played}
 use Rattle.script_play.specs.declared.run.Played.TheVariants.{Done, ReadFault, WriteFault, BadLine, TooLarge, Memory}
 use Rattle.script_play.specs.Script.{script_from, script_of}

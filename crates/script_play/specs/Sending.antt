@@ -1,10 +1,10 @@
 -- What is sent after an entry: a direct reply, and the lines that wait.
 use Rattle.std.specs.Prelude.{◌≡◌, ℕ, zero, suc, ◌==◌, List, [], ◌∷◌, ◌++◌, drop, if◌then◌else◌, Option, Some, None, Result, Ok, Err}
 use Rattle.std.specs.Io.KnownBytes.{append_known}
-use Rattle.campaign_core.specs.Seat.{Seat}
-use Rattle.campaign_core.specs.World.{seat_at, some_to_list}
-use Rattle.campaign_core.specs.Session.{session}
-use Rattle.campaign_core.specs.Law.{Course, world_of}
+use Rattle.campaign_law.specs.Seat.{Seat}
+use Rattle.campaign_law.specs.World.{seat_at, some_to_list}
+use Rattle.campaign_law.specs.Session.{session}
+use Rattle.campaign_law.specs.Law.{Course, world_of}
 use Rattle.script_play.specs.declared.run.Played.{Played}
 use Rattle.script_play.specs.Tagged.{tagged_lines}
 use Rattle.script_play.specs.Played.{IsCutShort}

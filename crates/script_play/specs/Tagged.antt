@@ -2,8 +2,8 @@
 use Rattle.std.specs.Prelude.{ℕ, zero, suc, ◌==◌, decimal, List, [], ◌∷◌, ◌++◌, if◌then◌else◌, Option, Some, None}
 use Rattle.std.specs.List.{flat_map, filter_map}
 use Rattle.line_io.specs.Lines.{lines_of}
-use Rattle.campaign_core.specs.declared.entry.Entry.{Entry}
-use Rattle.campaign_core.specs.World.{World, lines_of as entry_lines, step}
+use Rattle.campaign_law.specs.declared.entry.Entry.{Entry}
+use Rattle.campaign_law.specs.World.{World, lines_of as entry_lines, step}
 
 -- a seat's number and TAB
 abbrev pub seat_tag : ℕ → List ℕ

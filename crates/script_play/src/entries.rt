@@ -1,24 +1,27 @@
 //! The entry of a script line.
 ghost use Rattle.std.specs.Prelude.{◌≡◌, ◌<◌, ◌==◌, length, IfOk, Ok, Some};
-ghost use Rattle.campaign_core.specs.Commands.{command_of, hello_part};
-ghost use Rattle.campaign_core.specs.Law.{world_of};
-ghost use Rattle.campaign_core.specs.Outcome.{seat_of as seat_of_lem};
-ghost use Rattle.campaign_core.specs.Seat.{was_joined};
-ghost use Rattle.campaign_core.specs.World.{seat_at};
-ghost use Rattle.script_play.specs.Script.{entry_of as entry_of_lem, entry_of_line as entry_of_line_lem, joining_key as joining_key_lem, key_for};
+ghost use Rattle.command_json.specs.Commands.{command_of};
+ghost use Rattle.campaign_law.specs.Law.{world_of};
+ghost use Rattle.campaign_law.specs.Outcome.{seat_of as seat_of_lem};
+ghost use Rattle.campaign_law.specs.Seat.{was_joined};
+ghost use Rattle.campaign_law.specs.World.{seat_at};
+ghost use Rattle.script_play.specs.Script.{entry_of as entry_of_lem, entry_of_line as entry_of_line_lem, joining_key as joining_key_lem, hello_part, key_for};
 
-use campaign_core::{Campaign, Command, Entry, LineFault, read_line};
+use campaign_core::Campaign;
+use campaign_law::Entry;
+use command_json::{Command, LineFault, read_line};
 use line_io::split_script_line;
 use names::{LineText, Memory, SeatNo, Text};
 use seats::SeatState;
 use std::alloc::Global;
+use topology::Eye;
 
 /// The entry of a script line. None exactly where the line isn't a seat's number, one space and a
 /// command, or the campaign has no such seat.
 #[tactic(auto, using(crate::proofs::EntryLines::seats_of_replay))]
-pub(crate) fn entry_of_line(
+pub(crate) fn entry_of_line<E: Eye + Drop>(
     alloc: Global,
-    campaign: &Campaign,
+    campaign: &Campaign<E>,
     seats: u8,
     line: &[u8],
 ) -> Result<Option<Entry>, Memory>
@@ -48,7 +51,7 @@ pub(crate) fn seat_of(entry: &Entry) -> SeatNo
     }
 }
 
-fn entry_of(alloc: Global, campaign: &Campaign, seat: SeatNo, bytes: &[u8]) -> Result<Entry, Memory>
+fn entry_of<E: Eye + Drop>(alloc: Global, campaign: &Campaign<E>, seat: SeatNo, bytes: &[u8]) -> Result<Entry, Memory>
     requires { seat < length campaign.now.origin.seats }
     ensures { IfOk result (λ entry. entry ≡ entry_of_lem (world_of campaign.now) seat bytes.now) }
 {
@@ -67,9 +70,9 @@ fn entry_of(alloc: Global, campaign: &Campaign, seat: SeatNo, bytes: &[u8]) -> R
 }
 
 // The key of a line by which the seat joins.
-fn joining_key(
+fn joining_key<E: Eye + Drop>(
     alloc: Global,
-    campaign: &Campaign,
+    campaign: &Campaign<E>,
     seat: SeatNo,
     bytes: &[u8],
 ) -> Result<Option<LineText>, Memory>
@@ -82,7 +85,7 @@ fn joining_key(
     own_hello(alloc, seat, bytes)
 }
 
-fn is_joined(campaign: &Campaign, seat: SeatNo) -> bool
+fn is_joined<E: Eye + Drop>(campaign: &Campaign<E>, seat: SeatNo) -> bool
     requires { seat < length campaign.now.origin.seats }
     ensures { result ≡ was_joined (seat_at (world_of campaign.now) seat) }
 {

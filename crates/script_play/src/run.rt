@@ -3,15 +3,17 @@ ghost use Rattle.std.specs.Prelude.{◌≡◌, ◌≤◌, ◌<◌, ◌∷◌, []
 ghost use Rattle.line_io.specs.Counts.{CountRose};
 ghost use Rattle.line_io.specs.Reader.{bytes_to_come};
 ghost use Rattle.line_io.specs.Told.{WhereTold};
-ghost use Rattle.campaign_core.specs.Law.{IsOpening, IsSentAsMachine, world_of};
+ghost use Rattle.campaign_law.specs.Law.{IsOpening, IsSentAsMachine, world_of};
 ghost use Rattle.script_play.specs.Script.{NothingWaits, script_from, script_of, takens, with_takens};
 ghost use Rattle.script_play.specs.Played.{GoesOn, HasEntered, HasRead, HasWritten, LeavesNothing, IsPrefix, IsOfLine, IsCutShort, IsLineStop, entries_since, played};
 
 use crate::entries::{entry_of_line, seat_of};
 use crate::sending::send_all;
-use campaign_core::{Campaign, Entry};
+use campaign_core::Campaign;
+use campaign_law::Entry;
 use line_io::{LineReader, NextLine, Sink, Source};
 use std::alloc::Global;
+use topology::Eye;
 
 /// The greatest number of bytes of a script line.
 pub const LINE_BYTES: u32 = 4_112;
@@ -42,9 +44,9 @@ pub enum Played {
 /// the entry sends are written, each as `seat TAB line LF` in one piece, in ascending order of seats;
 /// then a Taken is entered for each seat with waiting lines. Where an outside object doesn't tell its
 /// bytes, the clauses on them say nothing.
-pub fn play<S: Source, O: Sink>(
+pub fn play<S: Source, O: Sink, E: Eye + Drop>(
     alloc: Global,
-    campaign: &mut Campaign,
+    campaign: &mut Campaign<E>,
     script: &mut S,
     out: &mut O,
 ) -> Played
@@ -74,9 +76,9 @@ pub fn play<S: Source, O: Sink>(
 }
 
 // Line after line.
-fn play_lines<S: Source, O: Sink>(
+fn play_lines<S: Source, O: Sink, E: Eye + Drop>(
     alloc: Global,
-    campaign: &mut Campaign,
+    campaign: &mut Campaign<E>,
     seats: u8,
     reader: &mut LineReader,
     script: &mut S,
@@ -116,9 +118,9 @@ fn play_lines<S: Source, O: Sink>(
 }
 
 // The line of this number.
-fn play_line<O: Sink>(
+fn play_line<O: Sink, E: Eye + Drop>(
     alloc: Global,
-    campaign: &mut Campaign,
+    campaign: &mut Campaign<E>,
     seats: u8,
     number: u64,
     line: &[u8],
@@ -149,9 +151,9 @@ fn play_line<O: Sink>(
 }
 
 // Enters a line's entry, writes what it sends, and takes the lines that wait then.
-fn enter_with_takens<O: Sink>(
+fn enter_with_takens<O: Sink, E: Eye + Drop>(
     alloc: Global,
-    campaign: &mut Campaign,
+    campaign: &mut Campaign<E>,
     entry: Entry,
     out: &mut O,
 ) -> Result<(), Played>
@@ -175,9 +177,9 @@ fn enter_with_takens<O: Sink>(
 }
 
 // Enters a line's entry and writes what it sends. The answer has the Takens that are due then.
-fn enter<O: Sink>(
+fn enter<O: Sink, E: Eye + Drop>(
     alloc: Global,
-    campaign: &mut Campaign,
+    campaign: &mut Campaign<E>,
     entry: Entry,
     out: &mut O,
 ) -> Result<Vec<Entry>, Played>
@@ -202,7 +204,7 @@ fn enter<O: Sink>(
 }
 
 // Enters them one after the other.
-fn enter_all(campaign: &mut Campaign, entries: Vec<Entry>) -> Result<(), Played>
+fn enter_all<E: Eye + Drop>(campaign: &mut Campaign<E>, entries: Vec<Entry>) -> Result<(), Played>
     ensures campaign { GoesOn campaign.old campaign.new }
     ensures entered { OnOk result (entries_since campaign.old campaign.new ≡ entries.items) }
     ensures stopped { OnErr result (IsPrefix (entries_since campaign.old campaign.new) entries.items) }

@@ -3,24 +3,26 @@ ghost use Rattle.std.specs.Prelude.{◌≡◌, ◌≤◌, ◌<◌, ◌==◌, ◌
 ghost use Rattle.std.specs.List.{flat_map};
 ghost use Rattle.std.specs.Option.{option_to_list};
 ghost use Rattle.line_io.specs.Counts.{CountRose};
-ghost use Rattle.campaign_core.specs.Law.{IsOpening, world_of};
-ghost use Rattle.campaign_core.specs.World.{seat_at, some_to_list};
+ghost use Rattle.campaign_law.specs.Law.{IsOpening, world_of};
+ghost use Rattle.campaign_law.specs.World.{seat_at, some_to_list};
 ghost use Rattle.script_play.specs.Tagged.{seat_tag, tagged_line, tagged_lines};
 ghost use Rattle.script_play.specs.Script.{taken_of, takens};
 ghost use Rattle.script_play.specs.Sending.{waiting_lines, reply_to, sent_below, Sends};
 ghost use Rattle.script_play.specs.Played.{played};
 
 use crate::run::Played;
-use campaign_core::{Campaign, Entry};
+use campaign_core::Campaign;
+use campaign_law::Entry;
 use line_io::{Sink, write_whole};
 use names::{LineText, Memory, SeatNo};
 use std::alloc::Global;
+use topology::Eye;
 
 /// Writes the direct reply to the seat that acted and the lines that wait for each seat, in ascending
 /// order of seats. The answer has a Taken for each seat with waiting lines.
-pub(crate) fn send_all<O: Sink>(
+pub(crate) fn send_all<O: Sink, E: Eye + Drop>(
     alloc: Global,
-    campaign: &Campaign,
+    campaign: &Campaign<E>,
     acting: SeatNo,
     reply: &Option<LineText>,
     out: &mut O,
@@ -42,9 +44,9 @@ pub(crate) fn send_all<O: Sink>(
 }
 
 // To the seat of this number, whose Taken is added where lines wait.
-fn send_next<O: Sink>(
+fn send_next<O: Sink, E: Eye + Drop>(
     alloc: Global,
-    campaign: &Campaign,
+    campaign: &Campaign<E>,
     number: u8,
     acting: SeatNo,
     reply: &Option<LineText>,
@@ -73,9 +75,9 @@ fn send_next<O: Sink>(
 }
 
 // To one seat. The answer is the Taken, where lines wait.
-fn send_to<O: Sink>(
+fn send_to<O: Sink, E: Eye + Drop>(
     alloc: Global,
-    campaign: &Campaign,
+    campaign: &Campaign<E>,
     seat: SeatNo,
     acting: SeatNo,
     reply: &Option<LineText>,
@@ -139,9 +141,9 @@ fn with_line_end(alloc: Global, line: &[u8]) -> Result<Vec<u8>, Memory>
 }
 
 // The answer is the Taken, where lines wait.
-fn send_waiting<O: Sink>(
+fn send_waiting<O: Sink, E: Eye + Drop>(
     alloc: Global,
-    campaign: &Campaign,
+    campaign: &Campaign<E>,
     seat: SeatNo,
     out: &mut O,
 ) -> Result<Option<Entry>, Played>
@@ -162,7 +164,7 @@ fn send_waiting<O: Sink>(
 }
 
 // The lines that wait, each with its LF.
-fn waiting_of(campaign: &Campaign, seat: SeatNo) -> Result<Vec<LineText>, Memory>
+fn waiting_of<E: Eye + Drop>(campaign: &Campaign<E>, seat: SeatNo) -> Result<Vec<LineText>, Memory>
     requires { seat < length campaign.now.origin.seats }
     ensures { IfOk result (λ lines. lines.items ≡ map (λ line. line ++ 10 ∷ []) (waiting_lines campaign.now seat)) }
 {
@@ -170,7 +172,7 @@ fn waiting_of(campaign: &Campaign, seat: SeatNo) -> Result<Vec<LineText>, Memory
 }
 
 // The Taken, where lines wait.
-fn taken_entry(campaign: &Campaign, seat: SeatNo, none_wait: bool) -> Option<Entry>
+fn taken_entry<E: Eye + Drop>(campaign: &Campaign<E>, seat: SeatNo, none_wait: bool) -> Option<Entry>
     requires there { seat < length campaign.now.origin.seats }
     requires opening { IsOpening campaign.now.origin }
     requires none { none_wait ≡ (length (waiting_lines campaign.now seat) == 0) }

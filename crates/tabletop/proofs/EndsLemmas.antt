@@ -6,11 +6,11 @@ use Rattle.std.specs.Io.KnownBytes.{append_known}
 use Rattle.line_io.specs.Counts.{CountRose}
 use Rattle.line_io.specs.Told.{WhereTold}
 use Rattle.line_io.specs.declared.faults.Failed.{Failed}
-use Rattle.campaign_core.specs.declared.entry.Entry.{Entry}
-use Rattle.campaign_core.specs.Seat.{Seat, IsFreshSeat}
-use Rattle.campaign_core.specs.World.{World, replay, sent}
-use Rattle.campaign_core.specs.Player.{opening, trace, machine}
-use Rattle.campaign_core.specs.Law.{Course, IsOpening, IsSentAsMachine, world_of}
+use Rattle.campaign_law.specs.declared.entry.Entry.{Entry}
+use Rattle.campaign_law.specs.Seat.{Seat, IsFreshSeat}
+use Rattle.campaign_law.specs.World.{World, replay, sent}
+use Rattle.campaign_law.specs.Player.{opening, trace, machine}
+use Rattle.campaign_law.specs.Law.{Course, IsOpening, IsSentAsMachine, world_of}
 use Rattle.campaign_core.specs.Opening.{world_of_text}
 use Rattle.script_play.specs.declared.run.Played.{Played}
 use Rattle.script_play.specs.declared.run.Played.TheVariants as played

@@ -2,10 +2,10 @@
 use Rattle.std.specs.Prelude.{◌≡◌, ◌≤◌, ◌<◌, ◌⊎◌, ℕ, List, length, IsSome, IfSome, Option, Some, None}
 use Rattle.std.specs.Io.KnownBytes.{append_known}
 use Rattle.line_io.specs.Told.{WhereTold}
-use Rattle.campaign_core.specs.declared.entry.Entry.{Entry}
-use Rattle.campaign_core.specs.World.{World}
-use Rattle.campaign_core.specs.Player.{opening, trace, machine}
-use Rattle.campaign_core.specs.Law.{IsOpening}
+use Rattle.campaign_law.specs.declared.entry.Entry.{Entry}
+use Rattle.campaign_law.specs.World.{World}
+use Rattle.campaign_law.specs.Player.{opening, trace, machine}
+use Rattle.campaign_law.specs.Law.{IsOpening}
 use Rattle.campaign_core.specs.Opening.{world_of_text}
 use Rattle.script_play.specs.declared.run.Played.{Played}
 use Rattle.script_play.specs.declared.run.Played.TheVariants as played

@@ -14,6 +14,10 @@ const TWO_SEATS: &[u8] =
 const THREE_SEATS: &[u8] =
     br#"{"format":1,"lights":{},"maps":[],"seats":[{"drawn":0,"fog":{},"key":"g","macros":{},"seed":"0000000000000000000000000000000000000000000000000000000000000000","tags":[]},{"drawn":0,"fog":{},"key":"a","macros":{},"seed":"0000000000000000000000000000000000000000000000000000000000000000","tags":[]},{"drawn":0,"fog":{},"key":"b","macros":{},"seed":"0000000000000000000000000000000000000000000000000000000000000000","tags":[]}],"sights":{},"tokens":[]}"#;
 
+// The game master and one player, whose token stands in a cave that a wall cuts in two.
+const CAVE: &[u8] =
+    br#"{"format":1,"lights":{},"maps":[{"h":3,"mbl":[],"mode":"day","name":"cave","rows":["...","...","..."],"shown":true,"vbl":[[2,0,2,4]],"w":3}],"seats":[{"drawn":0,"fog":{},"key":"g","macros":{},"seed":"0000000000000000000000000000000000000000000000000000000000000000","tags":[]},{"drawn":0,"fog":{},"key":"a","macros":{},"seed":"0000000000000000000000000000000000000000000000000000000000000000","tags":["ann"]}],"sights":{"human":[10,0,2]},"tokens":[{"cell":[0,0],"id":"1:ann","layer":"token","light":null,"map":"cave","name":"Ann","own":[],"owners":[1],"props":[],"secret":[],"sight":"human","size":1,"visible":true}]}"#;
+
 // A run of `play FILE`: the calls of the desk, the script and the output that fail, and what is wanted.
 #[derive(Clone, Copy)]
 struct Run<'a> {
@@ -46,7 +50,7 @@ fn played(alloc: Global, words: &[&str], run: &Run<'_>) -> Result<(u8, Vec<u8>),
     Ok((status, out.bytes().to_vec(alloc)?))
 }
 
-const RUNS: [Run<'static>; 13] = [
+const RUNS: [Run<'static>; 15] = [
     Run {
         name: "an empty script",
         campaign: THREE_SEATS,
@@ -113,6 +117,42 @@ const RUNS: [Run<'static>; 13] = [
                 1\t{\"full\":{\"lights\":{},\"maps\":[],\"sights\":{},\"tokens\":[]}}\n\
                 1\t{\"n\":2,\"no\":25,\"refused\":\"SeatTaken\"}\n\
                 2\t{\"n\":0,\"no\":27,\"refused\":\"NoHello\"}\n",
+    },
+    Run {
+        name: "a look",
+        campaign: THREE_SEATS,
+        script: br#"1 {"do":"hello","seat":1,"key":"a"}
+1 {"do":"look"}
+"#,
+        desk_fails: &[],
+        script_fails: &[],
+        out_fails: &[],
+        status: 0,
+        output: b"1\t{\"n\":1,\"ok\":\"hello\",\"seat\":1,\"seats\":3}\n\
+                1\t{\"full\":{\"lights\":{},\"maps\":[],\"sights\":{},\"tokens\":[]}}\n\
+                1\t{\"n\":2,\"ok\":\"look\"}\n\
+                1\t{\"full\":{\"lights\":{},\"maps\":[],\"sights\":{},\"tokens\":[]}}\n",
+    },
+    Run {
+        name: "a move past a wall's end, and moves that are refused",
+        campaign: CAVE,
+        script: br#"1 {"do":"hello","seat":1,"key":"a"}
+1 {"do":"move","token":"1:ann","path":[[0,1],[0,2]]}
+1 {"do":"move","token":"1:ann","path":[[0,3]]}
+1 {"do":"move","token":"1:ann","path":[[0,0]]}
+1 {"do":"move","token":"0:orc","path":[[0,1]]}
+"#,
+        desk_fails: &[],
+        script_fails: &[],
+        out_fails: &[],
+        status: 0,
+        output: b"1\t{\"n\":1,\"ok\":\"hello\",\"seat\":1,\"seats\":2}\n\
+                1\t{\"full\":{\"lights\":{},\"maps\":[{\"ground\":[[0,0,\".\"],[1,0,\".\"],[2,0,\".\"]],\"h\":3,\"mode\":\"day\",\"name\":\"cave\",\"seen\":[[0,0,0],[1,0,0],[2,0,0]],\"w\":3}],\"sights\":{\"human\":[10,0,2]},\"tokens\":[{\"cell\":[0,0],\"id\":\"1:ann\",\"layer\":\"token\",\"light\":null,\"map\":\"cave\",\"name\":\"Ann\",\"own\":[],\"props\":[],\"sight\":\"human\",\"size\":1}]}}\n\
+                1\t{\"moved\":2,\"n\":2,\"ok\":\"move\"}\n\
+                1\t{\"change\":{\"changed\":[{\"ground\":[[1,2,\".\"],[2,1,\"..\"]],\"lit\":[[1,2,2],[2,1,2]],\"name\":\"cave\"}],\"tokens\":[{\"cell\":[0,2],\"id\":\"1:ann\",\"layer\":\"token\",\"light\":null,\"map\":\"cave\",\"name\":\"Ann\",\"own\":[],\"props\":[],\"sight\":\"human\",\"size\":1}]}}\n\
+                1\t{\"n\":3,\"no\":8,\"refused\":\"OffMap\"}\n\
+                1\t{\"n\":4,\"no\":9,\"refused\":\"BadPath\"}\n\
+                1\t{\"n\":5,\"no\":5,\"refused\":\"NotYours\"}\n",
     },
     Run {
         name: "no such seat",

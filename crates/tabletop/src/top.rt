@@ -2,7 +2,7 @@
 ghost use Rattle.std.specs.Prelude.{◌≡◌, ◌≤◌, ◌↔◌, ◌⊎◌, ℕ, List, Option, Some, None, length, map, string_bytes, option_and_then, IfOk};
 ghost use Rattle.std.specs.Io.KnownBytes.{append_known};
 ghost use Rattle.line_io.specs.Counts.{CountRose};
-ghost use Rattle.campaign_core.specs.World.{World};
+ghost use Rattle.campaign_law.specs.World.{World};
 ghost use Rattle.campaign_core.specs.Opening.{world_of_text};
 ghost use Rattle.script_play.specs.Script.{script_of, done};
 ghost use Rattle.tabletop.specs.Words.{play_file as play_file_lem};
@@ -13,6 +13,7 @@ ghost use Rattle.tabletop.specs.Ends.{HasEnded, JobEnds, WorldEnds, IsToldAs, ca
 use crate::endings::{Ended, fixed_line, status_of};
 use crate::words::play_file;
 use campaign_core::{Campaign, OpenFault};
+use topology::PlainEye;
 use line_io::{Desk, DeskFault, Sink, Source, write_whole};
 use names::{LineText, Memory};
 use script_play::{Played, play};
@@ -89,7 +90,7 @@ fn play_text<S: Source, O: Sink>(
     ensures write_fault { result ≡ Ended.WriteFault → CountRose (O.faults_of out.old) (O.faults_of out.new) }
     ensures out_count { O.faults_of out.old ≤ O.faults_of out.new }
 {
-    match Campaign::open(alloc, text.bytes()) {
+    match Campaign::open(alloc, text.bytes(), PlainEye::new()) {
         Ok(mut campaign) => ended_by(play(alloc, &mut campaign, script, out)),
         Err(OpenFault::Bad(_)) => Ended::BadCampaign,
         Err(OpenFault::Memory) => Ended::Memory,

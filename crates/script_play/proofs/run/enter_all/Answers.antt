@@ -1,7 +1,7 @@
 use Rattle.std.proofs.Common.{◌≡◌, ◌∙◌, sym, subst, ap, List}
 use Rattle.std.specs.Vec.Iter.{into_iter_items}
-use Rattle.campaign_core.specs.declared.entry.Entry.{Entry}
-use Rattle.campaign_core.specs.Law.{Course}
+use Rattle.campaign_law.specs.declared.entry.Entry.{Entry}
+use Rattle.campaign_law.specs.Law.{Course}
 use Rattle.script_play.specs.Played.{entries_since, IsPrefix}
 use Rattle.script_play.proofs.AfterEntry.{since_is}
 use Rattle.script_play.proofs.run.enter_all.Goals as goal

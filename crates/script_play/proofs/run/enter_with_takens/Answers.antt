@@ -1,7 +1,7 @@
 use Rattle.std.proofs.Common.{◌≡◌, ◌∙◌, sym, subst, List, ap}
-use Rattle.campaign_core.specs.Law.{world_of}
+use Rattle.campaign_law.specs.Law.{world_of}
 use Rattle.script_play.specs.Script.{takens}
-use Rattle.campaign_core.specs.World.{step}
+use Rattle.campaign_law.specs.World.{step}
 use Rattle.script_play.proofs.Fronts.{prefix_before}
 use Rattle.script_play.proofs.LineRuns.{on_ok, on_err, all_entered, part_entered, none_waits, takens_written}
 use Rattle.script_play.proofs.run.enter_with_takens.Goals as goal

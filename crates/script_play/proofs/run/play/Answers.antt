@@ -1,6 +1,6 @@
 use Rattle.std.proofs.Common.{◌≡◌, ◌∙◌, sym, subst, List, ℕ}
-use Rattle.campaign_core.specs.Law.{IsOpening, IsSentAsMachine, world_of}
-use Rattle.campaign_core.proofs.Simulation.{sent_is_machine}
+use Rattle.campaign_law.specs.Law.{IsOpening, IsSentAsMachine, world_of}
+use Rattle.campaign_law.proofs.Simulation.{sent_is_machine}
 use Rattle.script_play.specs.Script.{script_of}
 use Rattle.script_play.specs.Played.{IsPrefix, entries_since}
 use Rattle.script_play.proofs.AfterEntry.{nothing_since, prefix_none}

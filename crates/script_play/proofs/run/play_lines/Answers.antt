@@ -4,8 +4,8 @@ use Rattle.line_io.specs.declared.lines.NextLine.{NextLine}
 use Rattle.line_io.specs.declared.lines.NextLine.TheVariants.{Line, End, ReadFault as ReaderFault}
 use Rattle.line_io.specs.ReaderState.{ReaderState}
 use Rattle.line_io.proofs.ToldLemmas.{append_known-nil}
-use Rattle.campaign_core.specs.declared.entry.Entry.{Entry}
-use Rattle.campaign_core.specs.Law.{world_of}
+use Rattle.campaign_law.specs.declared.entry.Entry.{Entry}
+use Rattle.campaign_law.specs.Law.{world_of}
 use Rattle.script_play.specs.declared.run.Played.TheVariants.{Done}
 use Rattle.script_play.specs.Script.{script_from}
 use Rattle.script_play.specs.Tagged.{tagged}

@@ -2,7 +2,7 @@ use Rattle.std.proofs.Common.{◌≡◌, ◌≤◌, ◌-◌, true}
 use Rattle.std.specs.Io.KnownBytes.{append_known, IsAtEnd}
 use Rattle.line_io.specs.Reader.{bytes_to_come}
 use Rattle.line_io.specs.Told.{WhereTold}
-use Rattle.campaign_core.specs.Law.{world_of}
+use Rattle.campaign_law.specs.Law.{world_of}
 use Rattle.script_play.specs.Script.{NothingWaits}
 use Rattle.script_play.specs.Tagged.{tagged}
 use Rattle.script_play.specs.Played.{GoesOn, entries_since}

@@ -1,8 +1,8 @@
 use Rattle.std.proofs.Common.{◌≡◌, ◌≤◌, ◌<◌, ◌∙◌, ap, sym, ◌++◌, arith, length, List, ℕ}
 use Rattle.std.specs.Io.KnownBytes.{append_known}
 use Rattle.line_io.proofs.ToldLemmas.{append_known-append}
-use Rattle.campaign_core.specs.World.{World, seat_at}
-use Rattle.campaign_core.specs.Law.{world_of}
+use Rattle.campaign_law.specs.World.{World, seat_at}
+use Rattle.campaign_law.specs.Law.{world_of}
 use Rattle.script_play.specs.Script.{takens_below, takens, taken_of}
 use Rattle.script_play.specs.Tagged.{tagged_lines}
 use Rattle.script_play.specs.Sending.{sent_below, reply_to, waiting_lines}

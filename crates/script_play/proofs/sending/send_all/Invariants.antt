@@ -1,6 +1,6 @@
 use Rattle.std.proofs.Common.{◌≡◌, ◌≤◌}
 use Rattle.std.specs.Io.KnownBytes.{append_known}
-use Rattle.campaign_core.specs.Law.{world_of}
+use Rattle.campaign_law.specs.Law.{world_of}
 use Rattle.script_play.specs.Script.{takens_below}
 use Rattle.script_play.specs.Sending.{sent_below}
 use Rattle.script_play.proofs.sending.send_all.Given as goal

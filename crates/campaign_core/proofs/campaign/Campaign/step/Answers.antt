@@ -1,25 +1,25 @@
 use Rattle.std.proofs.Common.{◌≡◌, ◌∙◌, sym, ap, subst, ◌++◌, ◌∷◌, [], rules}
 use Rattle.std.specs.Prelude.{is_some}
-use Rattle.campaign_core.specs.declared.campaign.Answer.{Answer}
-use Rattle.campaign_core.specs.World.{World, steps_of, outcome_of, replay}
-use Rattle.campaign_core.specs.State.{world_in, state_after, state_of}
-use Rattle.campaign_core.specs.Law.{Course, IsOpening, answer_of, ChangesLittle}
-use Rattle.campaign_core.proofs.Sessions.{state_of-more, world_in-state_of}
-use Rattle.campaign_core.proofs.Simulation.{sent_is_machine}
-use Rattle.campaign_core.proofs.Refused.{refused_changes_little}
+use Rattle.campaign_law.specs.declared.answer.Answer.{Answer}
+use Rattle.campaign_law.specs.World.{World, steps_of, outcome_of, replay}
+use Rattle.campaign_law.specs.State.{world_in, state_after, state_of}
+use Rattle.campaign_law.specs.Law.{Course, IsOpening, answer_of, ChangesLittle}
+use Rattle.campaign_law.proofs.Sessions.{state_of-more, world_in-state_of}
+use Rattle.campaign_law.proofs.Simulation.{sent_is_machine}
+use Rattle.campaign_law.proofs.Refused.{refused_changes_little}
 use Rattle.campaign_core.proofs.campaign.Campaign.step.Goals as goal
 
 pub returns-in_default-clause-sent : goal.returns-in_default-clause-sent
-returns-in_default-clause-sent c = λ p. sent_is_machine c.args.self.now.origin c.args.self.now.history p (subst (λ (x : Course). IsOpening x.origin) c.self.view_is c.self.invariant.1)
+returns-in_default-clause-sent g c = λ p. sent_is_machine c.args.self.now.origin c.args.self.now.history p (subst (λ (x : Course). IsOpening x.origin) c.self.view_is c.self.invariant.1)
 
 pub returns-in_default-after-clause-sent : goal.returns-in_default-after-clause-sent
-returns-in_default-after-clause-sent c = λ p. sent_is_machine c.args.self.now.origin c.args.self.now.history p (subst (λ (x : Course). IsOpening x.origin) c.self.view_is c.self.invariant.1)
+returns-in_default-after-clause-sent g c = λ p. sent_is_machine c.args.self.now.origin c.args.self.now.history p (subst (λ (x : Course). IsOpening x.origin) c.self.view_is c.self.invariant.1)
 
 pub returns-in-Err-clause-sent : goal.returns-in-Err-clause-sent
-returns-in-Err-clause-sent c = λ p. sent_is_machine _ _ p c.self.invariant.1
+returns-in-Err-clause-sent g c = λ p. sent_is_machine _ _ p c.self.invariant.1
 
 pub invariant_of-self-2 : goal.invariant_of-self-2
-invariant_of-self-2 c =
+invariant_of-self-2 g c =
     let pushed : c.push.new.self.items ≡ c.self.inside.history.items ++ c.args.entry ∷ [] = search rules in (
       c.in-Ok-after.ensures
           ∙ ap (λ s. state_after s c.args.entry) c.self.invariant.0
@@ -29,7 +29,7 @@ invariant_of-self-2 c =
     )
 
 pub returns-clause-answer : goal.returns-clause-answer
-returns-clause-answer c =
+returns-clause-answer g c =
     let now : world_in c.self.inside.state ≡ replay (world_in c.self.inside.origin) c.self.inside.history.items =
     ap world_in c.self.invariant.0 ∙ world_in-state_of (world_in c.self.inside.origin) c.self.inside.history.items in
     c.told.ensures
@@ -39,7 +39,7 @@ returns-clause-answer c =
     ∙ ap (λ (x : Course). answer_of (steps_of (replay x.origin x.history) c.args.entry) (outcome_of (replay x.origin x.history) c.args.entry)) c.self.view_is
 
 pub returns-clause-refused : goal.returns-clause-refused
-returns-clause-refused c = λ is.
+returns-clause-refused g c = λ is.
     let now : world_in c.self.inside.state ≡ replay (world_in c.self.inside.origin) c.self.inside.history.items =
     ap world_in c.self.invariant.0 ∙ world_in-state_of (world_in c.self.inside.origin) c.self.inside.history.items in
     subst (λ (x : Course). ChangesLittle (replay x.origin x.history) c.args.entry) c.self.view_is
@@ -47,4 +47,4 @@ returns-clause-refused c = λ is.
     (sym (ap (λ (a : Answer). is_some a.refusal) c.told.ensures ∙ ap (λ o. is_some (answer_of c.steps_of-steps.result o).refusal) c.in-Ok.ensures ∙ ap (λ (w : World). is_some (outcome_of w c.args.entry).refusal) now) ∙ is))
 
 pub returns-clause-sent : goal.returns-clause-sent
-returns-clause-sent c = λ p. sent_is_machine _ _ p c.self.invariant.1
+returns-clause-sent g c = λ p. sent_is_machine _ _ p c.self.invariant.1
