@@ -17,7 +17,7 @@ use Rattle.command_rules.specs.Settle.{settled, IsSettled}
 use Rattle.campaign_law.specs.declared.entry.Entry.{Entry}
 use Rattle.campaign_law.specs.Outcome.{Outcome, outcome_at, seat_of}
 use Rattle.campaign_core.specs.declared.next.Changed.{Changed}
-use Rattle.campaign_core.specs.Changed.{IsChanged, scene_in}
+use Rattle.campaign_core.specs.Changed.{IsChanged, scene_in, fields_in}
 use Rattle.campaign_law.specs.World.{World, asked_of, seat_at, outcome_of, steps_of, scene_after}
 
 -- no command, no steps
@@ -87,6 +87,11 @@ players_stay w e = settled_keeps (scene_by (steps_of w e) (seat_of e) w.scene (o
 pub stands : (w : World) (e : Entry) (changed : Option Changed) → IsChanged w e changed → scene_in w.scene changed ≡ scene_after w e
 stands w e None h = sym h
 stands w e (Some changed) h = h.0
+
+-- the fields of the scene that stands
+pub keeps_fields : (w : World) (e : Entry) (fields : List (TokenId × Cells)) (changed : Option Changed) → IsChanged w e changed → HasFields w.scene fields → HasFields (scene_in w.scene changed) (fields_in fields changed)
+keeps_fields w e fields None h has = has
+keeps_fields w e fields (Some changed) h has = h.1
 
 pub if_ok : {A E : Type 0} (r : Result A E) (P Q : A → Type 0) → ((x : A) → P x → Q x) → IfOk r P → IfOk r Q
 if_ok (Ok x) P Q f h = f x h

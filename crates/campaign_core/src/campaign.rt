@@ -4,10 +4,9 @@ ghost use Rattle.campaign_file.specs.Campaign.{IsOpening as IsOpeningList};
 ghost use Rattle.campaign_core.specs.Opening.{opening_world, world_of_text, IsOpenFault, IsBadForm};
 ghost use Rattle.campaign_law.specs.World.{seat_at};
 ghost use Rattle.campaign_law.specs.Session.{session, waiting};
-ghost use Rattle.campaign_law.specs.Law.{IsOpening, IsSentAsMachine, ChangesLittle, world_of, answer_of as answer_of_lem, answer_after};
+ghost use Rattle.campaign_law.specs.Law.{IsOpening, IsSentAsMachine, ChangesLittle, world_of, answer_after};
 
-use crate::next::{Changed, changed_scene, posts_after};
-use crate::outcome::{Outcome, decide};
+use crate::next::{Prepared, go_on, prepare};
 use crate::state::{Post, State};
 use campaign_file::{BadCampaign, FileFault, Rule, read_campaign};
 use campaign_law::{Answer, Entry};
@@ -67,17 +66,6 @@ fn bad_form(alloc: Global) -> OpenFault
     }
 }
 
-fn told(steps: u32, mut outcome: Outcome) -> Answer
-    ensures { result ≡ answer_of_lem steps outcome }
-{
-    let line = outcome.reply.take();
-    Answer {
-        refusal: outcome.refusal.take(),
-        taken: steps,
-        line: if outcome.direct { line } else { None },
-    }
-}
-
 impl<E: Eye + Drop> Campaign<E> {
     /// The campaign of a text: its world, and no entry. `Bad` exactly where the text is off the format
     /// (`docs/CAMPAIGN.md`), with an empty path and the rule `Form` until the whole format is read.
@@ -133,26 +121,19 @@ impl<E: Eye + Drop> Campaign<E> {
         // What each player was sent is what the machine without a world prints.
         ensures sent { (p : ℕ) → IsSentAsMachine self.new.origin self.new.history p }
     {
-        let Ok((steps, outcome)) = decide(self.alloc, &self.state, &entry) else {
-            return Err(entry);
-        };
-        let Ok(changed) = changed_scene(self.alloc, &self.state, &mut self.eye, &entry, &outcome, steps) else {
-            return Err(entry);
-        };
-        let Ok(posts) = posts_after(self.alloc, &self.state, &self.fields, &entry, &outcome, &changed) else {
+        let Ok(prepared) = prepare(self.alloc, &self.state, &self.fields, &mut self.eye, &entry) else {
             return Err(entry);
         };
         if let Err(failed) = self.history.push(entry) {
             return Err(failed.value);
         }
-        match changed {
-            Some(Changed { scene, fields }) => {
-                self.state.go_on(posts, Some(scene));
-                self.fields = fields;
-            }
-            None => self.state.go_on(posts, None),
-        }
-        Ok(told(steps, outcome))
+        let Prepared {
+            posts,
+            changed,
+            answer,
+        } = prepared;
+        go_on(&mut self.state, &mut self.fields, posts, changed);
+        Ok(answer)
     }
 
     /// How many seats there are: 1 to 33.

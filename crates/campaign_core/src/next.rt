@@ -1,17 +1,18 @@
 //! The scene and the posts after an entry.
-ghost use Rattle.std.specs.Prelude.{◌≡◌, ◌==◌, None, Some, IfOk};
+ghost use Rattle.std.specs.Prelude.{◌≡◌, ◌==◌, length, None, Some, IfOk};
 ghost use Rattle.player_view.specs.Fields.{HasFields};
 ghost use Rattle.campaign_law.specs.Outcome.{seat_of};
 ghost use Rattle.command_rules.specs.Settle.{IsSettled};
 ghost use Rattle.campaign_law.specs.World.{outcome_of, steps_of, scene_after};
 ghost use Rattle.campaign_law.specs.State.{world_in, state_after};
-ghost use Rattle.campaign_core.specs.Changed.{IsChanged, scene_in};
+ghost use Rattle.campaign_law.specs.Law.{answer_of};
+ghost use Rattle.campaign_core.specs.Changed.{IsChanged, scene_in, fields_in};
 ghost use Rattle.campaign_core.specs.Glances.{AreGlances};
 
-use crate::outcome::{Outcome, own_seat};
+use crate::outcome::{Outcome, decide, own_seat};
 use crate::queues::{Glances, next_posts};
 use crate::state::{Post, State};
-use campaign_law::Entry;
+use campaign_law::{Answer, Entry};
 use command_rules::{scene_by, settle};
 use names::Memory;
 use player_view::fields_of;
@@ -25,6 +26,71 @@ use world::Scene;
 pub(crate) struct Changed {
     pub(crate) scene: Scene,
     pub(crate) fields: Fields,
+}
+
+/// All that an entry makes, before any of it is put in its place.
+#[derive(Drop)]
+pub(crate) struct Prepared {
+    pub(crate) posts: Vec<Post>,
+    pub(crate) changed: Option<Changed>,
+    pub(crate) answer: Answer,
+}
+
+/// What the entry makes of the state.
+pub(crate) fn prepare<E: Eye>(
+    alloc: Global,
+    state: &State,
+    fields: &Fields,
+    eye: &mut E,
+    entry: &Entry,
+) -> Result<Prepared, Memory>
+    requires settled { IsSettled state.now.scene }
+    requires fields { HasFields state.now.scene fields.now }
+    ensures state { IfOk result (λ p. record { posts = p.posts.items; scene = scene_in state.now.scene p.changed } ≡ state_after state.now entry.now) }
+    ensures changed { IfOk result (λ p. IsChanged (world_in state.now) entry.now p.changed) }
+    ensures answer { IfOk result (λ p. p.answer ≡ answer_of (steps_of (world_in state.now) entry.now) (outcome_of (world_in state.now) entry.now)) }
+{
+    let (steps, outcome) = decide(alloc, state, entry)?;
+    let changed = changed_scene(alloc, state, eye, entry, &outcome, steps)?;
+    let posts = posts_after(alloc, state, fields, entry, &outcome, &changed)?;
+    let answer = told(steps, outcome);
+    Ok(Prepared {
+        posts,
+        changed,
+        answer,
+    })
+}
+
+fn told(steps: u32, mut outcome: Outcome) -> Answer
+    ensures { result ≡ answer_of steps outcome }
+{
+    let line = outcome.reply.take();
+    Answer {
+        refusal: outcome.refusal.take(),
+        taken: steps,
+        line: if outcome.direct { line } else { None },
+    }
+}
+
+/// Puts what an entry made in its place. It takes no memory.
+pub(crate) fn go_on(
+    state: &mut State,
+    fields: &mut Fields,
+    posts: Vec<Post>,
+    changed: Option<Changed>,
+)
+    requires count { length posts.items ≡ length state.old.posts }
+    requires players { (scene_in state.old.scene changed).fog.players ≡ state.old.scene.fog.players }
+    ensures state { state.new ≡ record { posts = posts.items; scene = scene_in state.old.scene changed } }
+    ensures fields { fields.new ≡ fields_in fields.old changed }
+{
+    match changed {
+        Some(changed) => {
+            state.go_on(posts, Some(changed.scene));
+            *fields = changed.fields;
+        }
+        None => state.go_on(posts, None),
+    }
 }
 
 /// The scene after the entry with its fields; none, where the entry leaves it as it is.
