@@ -2,3 +2,4 @@ pub mod Unique
 pub mod PlaceLemmas
 pub mod Moves
 pub mod Settling
+pub mod GmAllowed

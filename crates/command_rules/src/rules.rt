@@ -236,7 +236,10 @@ pub fn rule_of(
         Command::Roll { .. } => Some(Refusal::BadCommand),
         Command::Move { token, path } => move_rule(scene, seat, *token, path),
         Command::Setprop {
-            token, class, name, ..
+            token,
+            class,
+            name,
+            ..
         } => setprop_rule(scene, seat, *token, *class, *name),
         Command::Light { token, light } => light_rule(scene, seat, *token, *light),
         Command::Make { tag, map, cell, .. } => make_rule(scene, seat, book, *tag, *map, *cell),
