@@ -3,3 +3,5 @@ pub mod PlaceLemmas
 pub mod Moves
 pub mod Settling
 pub mod GmAllowed
+pub mod Allowed
+pub mod GmCommands

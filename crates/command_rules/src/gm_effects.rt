@@ -159,12 +159,12 @@ fn without_wall(
 
 // ---- types
 
-fn with_light_type(scene: &Scene, name: &Tag, radius: i32) -> Result<Scene, Memory>
-    requires { light_fault scene.now.lights name.now (coordinate_lem radius) ≡ None }
-    ensures { IfOk result (λ s. s ≡ record scene.now { lights = with_type name.now (coordinate_lem radius) scene.now.lights }) }
+fn with_light_type(scene: &Scene, name: &Tag, radius: &i32) -> Result<Scene, Memory>
+    requires { light_fault scene.now.lights name.now (coordinate_lem radius.now) ≡ None }
+    ensures { IfOk result (λ s. s ≡ record scene.now { lights = with_type name.now (coordinate_lem radius.now) scene.now.lights }) }
 {
     let mut after = scene.copy()?;
-    match after.set_light_type(*name, coordinate(radius)) {
+    match after.set_light_type(*name, coordinate(*radius)) {
         Ok(()) => Ok(after),
         Err(LightFault::Memory) => Err(Memory),
         Err(LightFault::BadRadius | LightFault::TypeLimit) => unreachable!(),
@@ -174,19 +174,19 @@ fn with_light_type(scene: &Scene, name: &Tag, radius: i32) -> Result<Scene, Memo
 fn with_sight_type(
     scene: &Scene,
     name: &Tag,
-    range: i32,
-    night: i32,
-    mult: i32,
+    range: &i32,
+    night: &i32,
+    mult: &i32,
 ) -> Result<Scene, Memory>
-    requires { sight_fault scene.now.sights name.now (coordinate_lem range) (coordinate_lem night) (coordinate_lem mult) ≡ None }
-    ensures { IfOk result (λ s. s ≡ record scene.now { sights = with_type name.now (sight_by range night mult) scene.now.sights }) }
+    requires { sight_fault scene.now.sights name.now (coordinate_lem range.now) (coordinate_lem night.now) (coordinate_lem mult.now) ≡ None }
+    ensures { IfOk result (λ s. s ≡ record scene.now { sights = with_type name.now (sight_by range.now night.now mult.now) scene.now.sights }) }
 {
     let mut after = scene.copy()?;
     match after.set_sight_type(
         *name,
-        coordinate(range),
-        coordinate(night),
-        coordinate(mult),
+        coordinate(*range),
+        coordinate(*night),
+        coordinate(*mult),
     ) {
         Ok(()) => Ok(after),
         Err(SightFault::Memory) => Err(Memory),
@@ -196,11 +196,20 @@ fn with_sight_type(
 
 // ---- tokens
 
+/// How many cells wide and high a token of the size is.
+fn side_of(size: &i32) -> u8
+    requires { IsNumber 1 4 size.now }
+    ensures { result ≡ coordinate_lem size.now }
+{
+    *size as u8
+}
+
 /// The scene once the game master, whose seat this is, made the token.
 fn with_gm_token(
     alloc: Global,
     scene: &Scene,
-    id: TokenId,
+    seat: SeatNo,
+    tag: &Tag,
     map: &Tag,
     place: (i32, i32),
     name: &Text,
@@ -208,8 +217,12 @@ fn with_gm_token(
     layer: Layer,
 ) -> Result<Scene, Memory>
     requires { MayStand scene.now map.now size place }
-    ensures { IfOk result (λ s. s ≡ with_new_lem (new_token_lem id.maker id.tag map.now place name.now size layer 0) scene.now) }
+    ensures { IfOk result (λ s. s ≡ with_new_lem (new_token_lem seat tag.now map.now place name.now size layer 0) scene.now) }
 {
+    let id = TokenId {
+        maker: seat,
+        tag: *tag,
+    };
     let cell = cell_on(scene, map, size, place);
     let token = new_token(alloc, id, *map, cell, name, size, layer, Owners::none())?;
     with_new(scene, token)
@@ -321,13 +334,13 @@ pub(crate) fn gm_scene_by(
         Command::Terrain { map, rect, kind } => Ok(Some(with_letters(scene, map, *rect, *kind)?)),
         Command::Wall { map, kind, a, b } => Ok(Some(with_wall(scene, map, *kind, *a, *b)?)),
         Command::Unwall { map, kind, a, b } => Ok(Some(without_wall(scene, map, *kind, *a, *b)?)),
-        Command::Lighttype { name, radius } => Ok(Some(with_light_type(scene, name, *radius)?)),
+        Command::Lighttype { name, radius } => Ok(Some(with_light_type(scene, name, radius)?)),
         Command::Sighttype {
             name,
             range,
             night,
             mult,
-        } => Ok(Some(with_sight_type(scene, name, *range, *night, *mult)?)),
+        } => Ok(Some(with_sight_type(scene, name, range, night, mult)?)),
         Command::Token {
             tag,
             map,
@@ -336,11 +349,8 @@ pub(crate) fn gm_scene_by(
             size,
             layer,
         } => {
-            let id = TokenId {
-                maker: seat,
-                tag: *tag,
-            };
-            Ok(Some(with_gm_token(alloc, scene, id, map, *cell, name, *size as u8, *layer)?))
+            let side = side_of(size);
+            Ok(Some(with_gm_token(alloc, scene, seat, tag, map, *cell, name, side, *layer)?))
         }
         Command::Own {
             token,

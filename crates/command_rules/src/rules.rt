@@ -129,10 +129,9 @@ fn type_rule(scene: &Scene, seat: SeatNo, light: Option<Tag>) -> Option<Refusal>
 fn light_rule(scene: &Scene, seat: SeatNo, token: TokenId, light: Option<Tag>) -> Option<Refusal>
     ensures { (seats : ℕ) → let asked = asked_of seats scene.now seat in result ≡ light_rule_lem asked seat light (asked.mine token) }
 {
-    if mine(scene, seat, token).is_none() {
-        Some(no_token(seat))
-    } else {
-        type_rule(scene, seat, light)
+    match mine(scene, seat, token) {
+        Some(_) => type_rule(scene, seat, light),
+        None => Some(no_token(seat)),
     }
 }
 
