@@ -8,8 +8,8 @@ use Rattle.command_json.specs.declared.command.Command.TheVariants as C
 
 -- a number from least to most
 pub record IsWithin (least most n : ℕ) : Type 0 where
-  pub least : least ≤ n
-  pub most : n ≤ most
+  pub at_least : least ≤ n
+  pub at_most : n ≤ most
 
 -- a whole number from least to most
 abbrev pub IsNumber : ℕ → ℕ → ℤ → Type 0

@@ -2,3 +2,6 @@ pub mod Unique
 pub mod PlaceLemmas
 pub mod Moves
 pub mod Settling
+pub mod GmAllowed
+pub mod Allowed
+pub mod GmCommands

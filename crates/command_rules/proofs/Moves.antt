@@ -34,7 +34,7 @@ pub one_token : (s : Scene) (seat : ℕ) (id : TokenId) (t : Token) → in_order
 one_token s seat id t ordered found =
     find_one id_cmp (λ (u : Token). u.id) id_eq ids_apart (λ u. has_id id u && acts_on s seat u) id (λ u h. (and_parts (has_id id u) (acts_on s seat u) h).0) s.tokens t ordered found
 
-one_map : (s : Scene) (seat : ℕ) (name : List ℕ) (m : Grid) → maps_in_order s.maps ≡ true → find (λ m. has_map seat m && has_name name m) s.maps ≡ Some m → map_of name s.maps ≡ Some m
+pub one_map : (s : Scene) (seat : ℕ) (name : List ℕ) (m : Grid) → maps_in_order s.maps ≡ true → find (λ m. has_map seat m && has_name name m) s.maps ≡ Some m → map_of name s.maps ≡ Some m
 one_map s seat name m ordered found =
     find_one tag_cmp (λ (n : Grid). n.name) bytes_eq names_apart (λ n. has_map seat n && has_name name n) name (λ n h. (and_parts (has_map seat n) (has_name name n) h).1) s.maps m ordered found
 
@@ -74,7 +74,7 @@ may_move s seat id path is ordered allowed = moving allowed.seats s seat id path
 
 -- ---- where the token goes
 
-fits_there : (size : Extent) (side : ℕ) (place : ℤ × ℤ) → fits_at size side place ≡ true → fits size (cell_at place) side ≡ true
+pub fits_there : (size : Extent) (side : ℕ) (place : ℤ × ℤ) → fits_at size side place ≡ true → fits size (cell_at place) side ≡ true
 fits_there size side place h = and_from _ _ (within (coordinate place.0) side size.w (column size side place h).1) (within (coordinate place.1) side size.h (row size side place h).1)
   where
     within : (n side most : ℕ) → n + side ≤ most → nat_le (n + side) most ≡ true

@@ -271,9 +271,7 @@ pub fn scene_by(
             map,
             cell,
             name,
-        } => Ok(Some(with_players_token(
-            alloc, scene, seat, tag, map, *cell, name,
-        )?)),
+        } => Ok(Some(with_players_token(alloc, scene, seat, tag, map, *cell, name)?)),
         Command::Remove { token } => Ok(Some(without(scene, token)?)),
         _ => gm_scene_by(alloc, scene, seat, command),
     }

@@ -179,13 +179,7 @@ fn light_type_rule(scene: &Scene, name: Tag, radius: i32) -> Option<Refusal>
     }
 }
 
-fn sight_type_rule(
-    scene: &Scene,
-    name: Tag,
-    range: i32,
-    night: i32,
-    mult: i32,
-) -> Option<Refusal>
+fn sight_type_rule(scene: &Scene, name: Tag, range: i32, night: i32, mult: i32) -> Option<Refusal>
     ensures { result ≡ option_map of_sight_fault_lem (sight_fault scene.now.sights name (coordinate_lem range) (coordinate_lem night) (coordinate_lem mult)) }
 {
     let sights = scene.sights();
@@ -323,12 +317,7 @@ fn secret_rule(scene: &Scene, token: TokenId, name: Tag) -> Option<Refusal>
 
 // ---- fog
 
-fn fog_rule(
-    scene: &Scene,
-    seat: SeatNo,
-    map: Tag,
-    rect: (i32, i32, i32, i32),
-) -> Option<Refusal>
+fn fog_rule(scene: &Scene, seat: SeatNo, map: Tag, rect: (i32, i32, i32, i32)) -> Option<Refusal>
     ensures { result ≡ then_rule (player_rule_lem scene.now.fog.players seat) (map_rule (rect_rule_lem rect) (map_of map scene.now.maps)) }
 {
     match player_rule(scene, seat) {

@@ -2,7 +2,9 @@
 #![tactic(auto)]
 
 mod effects;
+mod gm_effects;
 mod gm_rules;
+mod making;
 mod places;
 mod refusal;
 mod rules;

@@ -132,10 +132,9 @@ fn type_rule(scene: &Scene, seat: SeatNo, light: Option<Tag>) -> Option<Refusal>
 fn light_rule(scene: &Scene, seat: SeatNo, token: TokenId, light: Option<Tag>) -> Option<Refusal>
     ensures { (seats : ℕ) → let asked = asked_of seats scene.now seat in result ≡ light_rule_lem asked seat light (asked.mine token) }
 {
-    if mine(scene, seat, token).is_none() {
-        Some(no_token(seat))
-    } else {
-        type_rule(scene, seat, light)
+    match mine(scene, seat, token) {
+        Some(_) => type_rule(scene, seat, light),
+        None => Some(no_token(seat)),
     }
 }
 
@@ -274,7 +273,10 @@ pub fn rule_of(
         Command::Roll { dice, to } => roll_rule(alloc, seats, dice, *to)?,
         Command::Move { token, path } => move_rule(scene, seat, *token, path),
         Command::Setprop {
-            token, class, name, ..
+            token,
+            class,
+            name,
+            ..
         } => setprop_rule(scene, seat, *token, *class, *name),
         Command::Light { token, light } => light_rule(scene, seat, *token, *light),
         Command::Make { tag, map, cell, .. } => make_rule(scene, seat, book, *tag, *map, *cell),
