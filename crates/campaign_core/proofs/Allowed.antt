@@ -14,11 +14,12 @@ use Rattle.player_view.specs.Asked.{Asked}
 use Rattle.command_rules.specs.declared.refusal.Refusal.{Refusal}
 use Rattle.command_rules.specs.declared.refusal.Refusal.TheVariants.{NoHello}
 use Rattle.command_rules.specs.Rules.{rule_of}
+use Rattle.command_rules.specs.GmRules.{then_rule}
 use Rattle.command_rules.specs.Allowed.{IsAllowed}
 use Rattle.campaign_law.specs.declared.entry.Entry.{Entry}
 use Rattle.campaign_law.specs.declared.entry.Entry.TheVariants.{Join, Line, Taken}
 use Rattle.campaign_law.specs.Seat.{Seat}
-use Rattle.campaign_law.specs.Outcome.{Outcome, outcome_at, join_outcome, read_outcome, decided, refused_direct, seat_of}
+use Rattle.campaign_law.specs.Outcome.{Outcome, outcome_at, join_outcome, read_outcome, broken_rule, roll_rule, dice_in, decided, refused_direct, seat_of}
 use Rattle.campaign_law.specs.World.{World, asked_of, seat_at}
 
 -- a command that was done broke no rule, and keeps its limits
@@ -27,15 +28,19 @@ record BrokeNone (asked : Asked) (seat : ℕ) (c : Command) : Type 0 where
   rule : rule_of asked seat book.tags c ≡ None
   form : IsCommand c
 
-decided_none : (asked : Asked) (steps seat : ℕ) (b : Book) (command c : Command) (r : Option Refusal) → IsCommand command → rule_of asked seat b.tags command ≡ r → (decided steps seat b command r).done ≡ Some c → BrokeNone asked seat c
+first_none : (first second : Option Refusal) → then_rule first second ≡ None → first ≡ None
+first_none None second h = refl
+first_none (Some r) second h = cc
+
+decided_none : (asked : Asked) (steps seat : ℕ) (b : Book) (command c : Command) (r : Option Refusal) → IsCommand command → broken_rule asked seat b command ≡ r → (decided steps seat b command r).done ≡ Some c → BrokeNone asked seat c
 decided_none asked steps seat b command c None form e h =
     let same : command ≡ c = cc in
-    record { book = b; rule = ap (rule_of asked seat b.tags) (sym same) ∙ e; form = subst IsCommand same form }
+    record { book = b; rule = ap (rule_of asked seat b.tags) (sym same) ∙ first_none (rule_of asked seat b.tags command) (roll_rule (dice_in command)) e; form = subst IsCommand same form }
 decided_none asked steps seat b command c (Some r) form e h = cc
 
 read_none : (asked : Asked) (steps seat : ℕ) (b : Book) (c : Command) (r : Result Command LineFault) → ((command : Command) → r ≡ Ok command → IsCommand command) → (read_outcome asked steps seat b r).done ≡ Some c → BrokeNone asked seat c
 read_none asked steps seat b c (Err fault) keeps h = cc
-read_none asked steps seat b c (Ok command) keeps h = decided_none asked steps seat b command c (rule_of asked seat b.tags command) (keeps command refl) refl h
+read_none asked steps seat b c (Ok command) keeps h = decided_none asked steps seat b command c (broken_rule asked seat b command) (keeps command refl) refl h
 
 line_none : (asked : Asked) (steps seat : ℕ) (b : Book) (c : Command) (bytes : List ℕ) (j : Bool) → (cond j (read_outcome asked steps seat b (command_of bytes (eqb seat 0))) (refused_direct 0 NoHello)).done ≡ Some c → BrokeNone asked seat c
 line_none asked steps seat b c bytes true h = read_none asked steps seat b c (command_of bytes (eqb seat 0)) (keeps_limits bytes (eqb seat 0)) h

@@ -3,11 +3,11 @@ ghost use Rattle.std.specs.Prelude.{◌≡◌, ◌<◌, ◌≤◌, ◌∷◌, []
 ghost use Rattle.seats.specs.Book.{join_refusal, left};
 ghost use Rattle.player_view.specs.Asked.{Asked};
 ghost use Rattle.command_json.specs.Commands.{command_of};
-ghost use Rattle.campaign_law.specs.Outcome.{nothing as nothing_lem, refused_direct as refused_direct_lem, refused_line as refused_line_lem, refusal_of_join as refusal_of_join_lem, join_outcome as join_outcome_lem, is_bye as is_bye_lem, is_look as is_look_lem, is_move as is_move_lem, tag_made as tag_made_lem, using_tag, dice_in, rolling, said, book_done as book_done_lem, reply_name as reply_name_lem, reply_line as reply_line_lem, message_by as message_by_lem, accepted as accepted_lem, command_outcome as command_outcome_lem, refusal_of_line as refusal_of_line_lem, read_outcome as read_outcome_lem, outcome_at, absent_outcome as absent_outcome_lem, present_outcome as present_outcome_lem, seat_of as seat_of_lem, count_if_joined as count_if_joined_lem};
+ghost use Rattle.campaign_law.specs.Outcome.{nothing as nothing_lem, refused_direct as refused_direct_lem, refused_line as refused_line_lem, refusal_of_join as refusal_of_join_lem, join_outcome as join_outcome_lem, is_bye as is_bye_lem, is_look as is_look_lem, is_move as is_move_lem, tag_made as tag_made_lem, using_tag, dice_in, rolling, broken_rule as broken_rule_lem, said, book_done as book_done_lem, reply_name as reply_name_lem, reply_line as reply_line_lem, message_by as message_by_lem, accepted as accepted_lem, command_outcome as command_outcome_lem, refusal_of_line as refusal_of_line_lem, read_outcome as read_outcome_lem, outcome_at, absent_outcome as absent_outcome_lem, present_outcome as present_outcome_lem, seat_of as seat_of_lem, count_if_joined as count_if_joined_lem};
 ghost use Rattle.campaign_law.specs.World.{asked_of, steps_of as steps_of_lem, outcome_of, seat_at};
 ghost use Rattle.campaign_law.specs.State.{world_in};
 
-use crate::rolls::roll_dice;
+use crate::rolls::{roll_dice, roll_rule};
 use crate::state::State;
 use crate::texts::{hello_line, moved_line, ok_line, refusal_line};
 use chat::{To, message_line};
@@ -304,6 +304,24 @@ fn accepted(
     Ok(outcome)
 }
 
+/// The first broken rule of a command.
+#[tactic(auto, unfolding(player_view::specs::Asked::asked_of))]
+fn broken_rule(
+    alloc: Global,
+    state: &State,
+    seat: SeatNo,
+    book: &SeatBook,
+    command: &Command,
+) -> Result<Option<Refusal>, Memory>
+    requires seat { seat < length state.now.posts }
+    ensures { IfOk result (λ r. r ≡ broken_rule_lem (asked_of (world_in state.now) seat) seat book.now command.now) }
+{
+    match rule_of(state.scene(), state.seats(), seat, book, command) {
+        Some(refusal) => Ok(Some(refusal)),
+        None => roll_rule(alloc, command),
+    }
+}
+
 fn command_outcome(
     alloc: Global,
     state: &State,
@@ -316,7 +334,7 @@ fn command_outcome(
     requires seat { seat < length state.now.posts }
     ensures { IfOk result (λ o. o ≡ command_outcome_lem (asked_of (world_in state.now) seat) steps seat book.now command) }
 {
-    match rule_of(alloc, state.scene(), state.seats(), seat, book, &command)? {
+    match broken_rule(alloc, state, seat, book, &command)? {
         Some(refusal) => refused_line(alloc, book, refusal),
         None => accepted(alloc, steps, seat, book, command),
     }

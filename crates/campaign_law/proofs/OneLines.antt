@@ -24,9 +24,8 @@ use Rattle.view_change.specs.declared.change.Change.{Change}
 use Rattle.view_change.specs.Lines.{full_line, full_tree, change_tree, change_line as line_of}
 use Rattle.player_view.specs.View.{view_of}
 use Rattle.campaign_law.specs.Views.{change_line}
-use Rattle.command_rules.specs.Rules.{rule_of}
 use Rattle.campaign_law.specs.Seat.{Seat}
-use Rattle.campaign_law.specs.Outcome.{Outcome, refused_direct, refused_line, refusal_of_join, count_if_joined, join_outcome, is_move, said, reply_name, reply_line, Message, message_by, decided, read_outcome, outcome_at, seat_of}
+use Rattle.campaign_law.specs.Outcome.{Outcome, broken_rule, refused_direct, refused_line, refusal_of_join, count_if_joined, join_outcome, is_move, said, reply_name, reply_line, Message, message_by, decided, read_outcome, outcome_at, seat_of}
 use Rattle.campaign_law.specs.World.{World, addressed, is_to, view_lines, some_to_list, entry_lines, is_present, lines_of, step, scene_after, outcome_of, steps_of, asked_of, seat_at, sent}
 
 abbrev pub AreOneLine : List (List ℕ) → Type 0
@@ -119,7 +118,7 @@ decided_one steps seat b c None = record { reply = (reply_one steps _ c, tt); me
 
 read_one : (asked : Asked) (steps seat : ℕ) (b : Book) (r : Result Command LineFault) → SendsOneLine (read_outcome asked steps seat b r)
 read_one asked steps seat b (Err fault) = refused_one b _
-read_one asked steps seat b (Ok c) = decided_one steps seat b c (rule_of asked seat b.tags c)
+read_one asked steps seat b (Ok c) = decided_one steps seat b c (broken_rule asked seat b c)
 
 line_one : (asked : Asked) (steps seat : ℕ) (b : Book) (bytes : List ℕ) (j : Bool) → SendsOneLine (cond j (read_outcome asked steps seat b (command_of bytes (eqb seat 0))) (refused_direct 0 NoHello))
 line_one asked steps seat b bytes true = read_one asked steps seat b (command_of bytes (eqb seat 0))

@@ -14,8 +14,7 @@ use Rattle.command_rules.specs.declared.refusal.Refusal.TheVariants.{NoHello}
 use Rattle.player_view.specs.Asked.{Asked}
 use Rattle.command_json.specs.Commands.{command_of}
 use Rattle.campaign_law.specs.Seat.{Seat, blank_seat, was_joined}
-use Rattle.campaign_law.specs.Outcome.{Outcome, nothing, outcome_at, join_outcome, read_outcome, is_bye, tag_made, using_tag, rolling, dice_in, with_total, words_in, message_by, book_done, accepted, decided, refused_direct, refused_line, refusal_of_join, blank_entry, seat_of}
-use Rattle.command_rules.specs.Rules.{rule_of}
+use Rattle.campaign_law.specs.Outcome.{Outcome, broken_rule, nothing, outcome_at, join_outcome, read_outcome, is_bye, tag_made, using_tag, rolling, dice_in, with_total, words_in, message_by, book_done, accepted, decided, refused_direct, refused_line, refusal_of_join, blank_entry, seat_of}
 use Rattle.campaign_law.specs.World.{changed, is_present, queued_reply}
 use Rattle.seats.proofs.Books.{is_joined-blank, counted-blank, joined-blank, left-blank, join_refusal-blank}
 
@@ -62,7 +61,7 @@ decided-blank steps seat b c (Some r) = refused_line-blank b r
 
 read_outcome-blank : (asked : Asked) (steps seat : ℕ) (b : Book) (r : Result Command LineFault) → read_outcome asked steps seat (blank_book b) r ≡ blank_outcome (read_outcome asked steps seat b r)
 read_outcome-blank asked steps seat b (Err fault) = refused_line-blank b _
-read_outcome-blank asked steps seat b (Ok command) = decided-blank steps seat b command (rule_of asked seat b.tags command)
+read_outcome-blank asked steps seat b (Ok command) = decided-blank steps seat b command (broken_rule asked seat b command)
 
 line_if-blank : (j : Bool) (o o' : Outcome) → o' ≡ blank_outcome o → cond j o' (refused_direct 0 NoHello) ≡ blank_outcome (cond j o (refused_direct 0 NoHello))
 line_if-blank true o o' h = h
@@ -137,7 +136,7 @@ decided_fits steps seat s c (Some r) j = joined_fits s (refused_line s.book r) j
 
 read_fits : (asked : Asked) (steps seat : ℕ) (s : Seat) (r : Result Command LineFault) → is_joined s.book.state ≡ true → IsFit s (read_outcome asked steps seat s.book r)
 read_fits asked steps seat s (Err fault) j = joined_fits s (read_outcome asked steps seat s.book (Err fault)) j refl (omega arith)
-read_fits asked steps seat s (Ok command) j = decided_fits steps seat s command (rule_of asked seat s.book.tags command) j
+read_fits asked steps seat s (Ok command) j = decided_fits steps seat s command (broken_rule asked seat s.book command) j
 
 line_fits : (asked : Asked) (steps seat : ℕ) (s : Seat) (bytes : List ℕ) (j : Bool) → is_joined s.book.state ≡ j → IsFit s (cond j (read_outcome asked steps seat s.book (command_of bytes (eqb seat 0))) (refused_direct 0 NoHello))
 line_fits asked steps seat s bytes true e = read_fits asked steps seat s (command_of bytes (eqb seat 0)) e

@@ -16,9 +16,8 @@ use Rattle.player_view.specs.View.{view_of}
 use Rattle.player_view.specs.Asked.{Asked}
 use Rattle.command_json.specs.Commands.{command_of}
 use Rattle.world.specs.Scene.{Scene}
-use Rattle.command_rules.specs.Rules.{rule_of}
 use Rattle.campaign_law.specs.Seat.{Seat, settled, taken_to}
-use Rattle.campaign_law.specs.Outcome.{Outcome, refused_direct, refused_line, refusal_of_join, count_if_joined, join_outcome, decided, read_outcome, outcome_at, seat_of}
+use Rattle.campaign_law.specs.Outcome.{broken_rule, Outcome, refused_direct, refused_line, refusal_of_join, count_if_joined, join_outcome, decided, read_outcome, outcome_at, seat_of}
 use Rattle.campaign_law.specs.World.{World, seat_at, addressed, view_lines, some_to_list, queued_lines, queued_reply, is_present, changed, seat_by, seat_after, replay, scene_after, outcome_of, steps_of, asked_of}
 use Rattle.campaign_law.specs.Session.{session}
 use Rattle.campaign_law.specs.Law.{IsOpening, refused_seat, RefusedChangesLittle}
@@ -43,7 +42,7 @@ decided_refuses steps seat s c None h = cc
 
 read_refuses : (asked : Asked) (steps seat : ℕ) (s : Seat) (r : Result Command LineFault) → is_some (read_outcome asked steps seat s.book r).refusal ≡ true → Refuses (Some s) (read_outcome asked steps seat s.book r)
 read_refuses asked steps seat s (Err fault) h = the_line s _ refl refl
-read_refuses asked steps seat s (Ok c) h = decided_refuses steps seat s c (rule_of asked seat s.book.tags c) h
+read_refuses asked steps seat s (Ok c) h = decided_refuses steps seat s c (broken_rule asked seat s.book c) h
 
 line_refuses : (asked : Asked) (steps seat : ℕ) (s : Seat) (bytes : List ℕ) (j : Bool) → let o = cond j (read_outcome asked steps seat s.book (command_of bytes (eqb seat 0))) (refused_direct 0 NoHello) in is_some o.refusal ≡ true → Refuses (Some s) o
 line_refuses asked steps seat s bytes true h = read_refuses asked steps seat s (command_of bytes (eqb seat 0)) h

@@ -4,6 +4,7 @@ use Rattle.std.specs.Fmt.{signed_decimal}
 use Rattle.seat_random.specs.Stream.{word_of, after}
 use Rattle.dice_parse.specs.declared.parts.Term.{Term}
 use Rattle.dice_parse.specs.declared.texts.DiceFault.{DiceFault}
+use Rattle.dice_parse.specs.declared.texts.DiceFault.TheVariants as dice_faults
 use Rattle.dice_parse.specs.Answers.{dice_of}
 use Rattle.dice_roll.specs.Rolling.{total_of, words_used}
 use Rattle.seats.specs.Book.{Book, joined, left, counted, join_refusal, with_tag, stream_of, with_stream}
@@ -17,10 +18,11 @@ use Rattle.command_json.specs.declared.command.Command.TheVariants.{Hello, Bye, 
 use Rattle.command_json.specs.declared.command.LineFault.{LineFault}
 use Rattle.command_json.specs.declared.command.LineFault.TheVariants as faults
 use Rattle.command_rules.specs.declared.refusal.Refusal.{Refusal}
-use Rattle.command_rules.specs.declared.refusal.Refusal.TheVariants.{BadJson, BadCommand, GmOnly, BadField, BadKey, SeatTaken, Spent, NoHello}
+use Rattle.command_rules.specs.declared.refusal.Refusal.TheVariants.{BadJson, BadCommand, GmOnly, BadField, BadDice, DiceLimit, BadKey, SeatTaken, Spent, NoHello}
 use Rattle.player_view.specs.Asked.{Asked}
 use Rattle.command_json.specs.Commands.{command_of}
 use Rattle.command_rules.specs.Rules.{rule_of}
+use Rattle.command_rules.specs.GmRules.{then_rule}
 use Rattle.chat.specs.declared.to.To.{To}
 use Rattle.chat.specs.Messages.{message_line}
 use Rattle.campaign_law.specs.Texts.{hello_line, ok_line, moved_line, refusal_line}
@@ -201,13 +203,32 @@ accepted steps seat b c = record nothing {
   done = Some c;
 }
 
+-- what is wrong with dice: want of memory is no answer of reading
+abbrev pub dice_refusal : DiceFault → Refusal
+dice_refusal (dice_faults.BadDice at) = BadDice at
+dice_refusal dice_faults.DiceLimit = DiceLimit
+dice_refusal dice_faults.Memory = DiceLimit
+
+abbrev pub dice_rule : Result (List Term) DiceFault → Option Refusal
+dice_rule (Ok terms) = None
+dice_rule (Err fault) = Some (dice_refusal fault)
+
+-- the rule of the dice that a command rolls
+abbrev pub roll_rule : Option (List ℕ) → Option Refusal
+roll_rule None = None
+roll_rule (Some dice) = dice_rule (dice_of dice)
+
+-- the first broken rule
+abbrev pub broken_rule : Asked → ℕ → Book → Command → Option Refusal
+broken_rule asked seat b c = then_rule (rule_of asked seat b.tags c) (roll_rule (dice_in c))
+
 -- by the first broken rule
 abbrev pub decided : ℕ → ℕ → Book → Command → Option Refusal → Outcome
 decided steps seat b c None = accepted steps seat b c
 decided steps seat b c (Some refusal) = refused_line b refusal
 
 abbrev pub command_outcome : Asked → ℕ → ℕ → Book → Command → Outcome
-command_outcome asked steps seat b c = decided steps seat b c (rule_of asked seat b.tags c)
+command_outcome asked steps seat b c = decided steps seat b c (broken_rule asked seat b c)
 
 -- ---- lines
 

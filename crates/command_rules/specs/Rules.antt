@@ -1,5 +1,5 @@
 -- The first broken rule of a player's command, from what it asks.
-use Rattle.std.specs.Prelude.{ℕ, ◌==◌, ◌||◌, not, Bool, if◌then◌else◌, List, [], Option, Some, None, Result, Ok, Err, ℤ}
+use Rattle.std.specs.Prelude.{ℕ, ◌==◌, ◌||◌, not, Bool, if◌then◌else◌, List, [], Option, Some, None, ℤ}
 use Rattle.std.specs.List.{list_all}
 use Rattle.cells.specs.Cells.{has}
 use Rattle.names.specs.declared.kinds.PropClass.{PropClass}
@@ -8,19 +8,15 @@ use Rattle.seats.specs.Book.{tag_used, tags_spent}
 use Rattle.tokens.specs.Properties.{Property}
 use Rattle.chat.specs.declared.to.To.{To}
 use Rattle.chat.specs.Addresses.{is_within}
-use Rattle.dice_parse.specs.declared.parts.Term.{Term}
-use Rattle.dice_parse.specs.declared.texts.DiceFault.{DiceFault}
-use Rattle.dice_parse.specs.declared.texts.DiceFault.TheVariants as faults
-use Rattle.dice_parse.specs.Answers.{dice_of}
 use Rattle.command_json.specs.declared.command.Command.{Command}
 use Rattle.command_json.specs.declared.command.Command.TheVariants.{Hello, Bye, Look, Say, Roll, Move, Setprop, Light, Make, Remove}
 use Rattle.player_view.specs.View.{is_gm}
 use Rattle.player_view.specs.Asked.{Asked, Mine, Known}
 use Rattle.world.specs.Scene.{Scene}
 use Rattle.command_rules.specs.declared.refusal.Refusal.{Refusal}
-use Rattle.command_rules.specs.declared.refusal.Refusal.TheVariants.{BadCommand, GmOnly, NotYours, NotMaker, MapNotShown, OffMap, BadPath, TagUsed, TagsSpent, NotExposed, UnknownLight, NoSuchSeat, PropertyLimit, BadDice, DiceLimit, SeatTaken, NoSuchToken, PlayersOnly}
+use Rattle.command_rules.specs.declared.refusal.Refusal.TheVariants.{GmOnly, NotYours, NotMaker, MapNotShown, OffMap, BadPath, TagUsed, TagsSpent, NotExposed, UnknownLight, NoSuchSeat, PropertyLimit, SeatTaken, NoSuchToken, PlayersOnly}
 use Rattle.command_rules.specs.Places.{fits_at, cell_at, are_king_steps}
-use Rattle.command_rules.specs.GmRules.{room_rule, then_rule, gm_rule}
+use Rattle.command_rules.specs.GmRules.{room_rule, gm_rule}
 
 -- ---- tokens
 
@@ -84,28 +80,18 @@ make_rule asked seat tags tag map place = if is_gm seat then Some PlayersOnly el
 abbrev pub address_rule : ℕ → To → Option Refusal
 address_rule seats to = if is_within to seats then None else Some NoSuchSeat
 
--- what is wrong with dice: want of memory is no answer of reading
-abbrev pub dice_refusal : DiceFault → Refusal
-dice_refusal (faults.BadDice at) = BadDice at
-dice_refusal faults.DiceLimit = DiceLimit
-dice_refusal faults.Memory = DiceLimit
-
-abbrev pub dice_rule : Result (List Term) DiceFault → Option Refusal
-dice_rule (Ok terms) = None
-dice_rule (Err fault) = Some (dice_refusal fault)
-
 -- a game master's command is decided over the whole scene, which a player may not ask
 abbrev pub by_scene : List (List ℕ) → Command → Option Scene → Option Refusal
 by_scene tags c None = Some GmOnly
 by_scene tags c (Some s) = gm_rule s tags c
 
--- the first broken rule of a command of a Joined seat that used these tags
+-- the first broken rule of a command of a Joined seat that used these tags; dice have a rule of their own
 unfoldable pub rule_of : Asked → ℕ → List (List ℕ) → Command → Option Refusal
 rule_of asked seat tags (Hello named key) = Some SeatTaken
 rule_of asked seat tags Bye = None
 rule_of asked seat tags Look = None
 rule_of asked seat tags (Say text to) = address_rule asked.seats to
-rule_of asked seat tags (Roll dice to) = then_rule (address_rule asked.seats to) (dice_rule (dice_of dice))
+rule_of asked seat tags (Roll dice to) = address_rule asked.seats to
 rule_of asked seat tags (Move token path) = move_rule asked seat path (asked.mine token)
 rule_of asked seat tags (Setprop token class name value) = setprop_rule seat class name (asked.mine token)
 rule_of asked seat tags (Light token light) = light_rule asked seat light (asked.mine token)

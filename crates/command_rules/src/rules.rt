@@ -1,24 +1,21 @@
 //! The first broken rule of a command.
-ghost use Rattle.std.specs.Prelude.{◌≡◌, ◌≢◌, ◌≤◌, ℕ, Some, None, IfOk, IfSome, IfNone, if◌then◌else◌};
-ghost use Rattle.dice_parse.specs.Answers.{dice_of};
+ghost use Rattle.std.specs.Prelude.{◌≡◌, ◌≤◌, ℕ, Some, None, if◌then◌else◌};
 ghost use Rattle.seats.specs.Book.{tags_spent as tags_spent_lem};
 ghost use Rattle.maps.specs.Maps.{map_of};
 ghost use Rattle.player_view.specs.Asked.{asked_of, mine_of, known_of};
 ghost use Rattle.player_view.specs.View.{is_gm};
-ghost use Rattle.command_rules.specs.GmRules.{room_rule as room_rule_lem, then_rule};
-ghost use Rattle.command_rules.specs.Rules.{no_token as no_token_lem, path_rule as path_rule_lem, move_rule as move_rule_lem, remove_rule as remove_rule_lem, setprop_rule as setprop_rule_lem, light_rule as light_rule_lem, type_rule as type_rule_lem, props_by as props_by_lem, make_rule as make_rule_lem, cell_rule as cell_rule_lem, address_rule as address_rule_lem, dice_refusal as dice_refusal_lem, dice_rule as dice_rule_lem, by_scene as by_scene_lem, rule_of as rule_of_lem};
+ghost use Rattle.command_rules.specs.GmRules.{room_rule as room_rule_lem};
+ghost use Rattle.command_rules.specs.Rules.{no_token as no_token_lem, path_rule as path_rule_lem, move_rule as move_rule_lem, remove_rule as remove_rule_lem, setprop_rule as setprop_rule_lem, light_rule as light_rule_lem, type_rule as type_rule_lem, props_by as props_by_lem, make_rule as make_rule_lem, cell_rule as cell_rule_lem, address_rule as address_rule_lem, by_scene as by_scene_lem, rule_of as rule_of_lem};
 
 use crate::gm_rules::gm_rule;
 use crate::places::{all_fit, are_king_steps, cell_at, fits_at};
 use crate::refusal::Refusal;
 use chat::To;
 use command_json::{CellPath, Command};
-use dice_parse::{DiceFault, read_dice};
 use maps::GridMap;
-use names::{Memory, PropClass, SeatNo, Tag, Text, TokenId};
+use names::{PropClass, SeatNo, Tag, TokenId};
 use player_view::{has_light, is_exposed, known, mine};
 use seats::SeatBook;
-use std::alloc::Global;
 use tokens::{Props, Token};
 use world::Scene;
 
@@ -208,40 +205,6 @@ fn address_rule(seats: u8, to: To) -> Option<Refusal>
     }
 }
 
-/// None for want of memory.
-fn dice_refusal(fault: DiceFault) -> Option<Refusal>
-    ensures some { IfSome result (λ r. r ≡ dice_refusal_lem fault) }
-    ensures none { IfNone result (fault ≡ DiceFault.Memory) }
-    ensures memory { IfSome result (λ r. fault ≢ DiceFault.Memory) }
-{
-    match fault {
-        DiceFault::BadDice { at } => Some(Refusal::BadDice { at }),
-        DiceFault::DiceLimit => Some(Refusal::DiceLimit),
-        DiceFault::Memory => None,
-    }
-}
-
-fn dice_rule(alloc: Global, dice: &Text) -> Result<Option<Refusal>, Memory>
-    ensures { IfOk result (λ r. r ≡ dice_rule_lem (dice_of dice.now)) }
-{
-    match read_dice(alloc, dice.text()) {
-        Ok(_) => Ok(None),
-        Err(fault) => match dice_refusal(fault) {
-            Some(refusal) => Ok(Some(refusal)),
-            None => Err(Memory),
-        },
-    }
-}
-
-fn roll_rule(alloc: Global, seats: u8, dice: &Text, to: To) -> Result<Option<Refusal>, Memory>
-    ensures { IfOk result (λ r. r ≡ then_rule (address_rule_lem seats to) (dice_rule_lem (dice_of dice.now))) }
-{
-    match address_rule(seats, to) {
-        Some(refusal) => Ok(Some(refusal)),
-        None => dice_rule(alloc, dice),
-    }
-}
-
 fn by_scene(scene: &Scene, seat: SeatNo, book: &SeatBook, command: &Command) -> Option<Refusal>
     ensures { result ≡ by_scene_lem book.now.tags command.now (if is_gm seat then Some scene.now else None) }
 {
@@ -255,22 +218,21 @@ fn by_scene(scene: &Scene, seat: SeatNo, book: &SeatBook, command: &Command) -> 
 /// The first broken rule of a command of a Joined seat that has this book, in a campaign of so many seats.
 #[tactic(auto, unfolding(crate::specs::Rules::rule_of, player_view::specs::Asked::asked_of))]
 pub fn rule_of(
-    alloc: Global,
     scene: &Scene,
     seats: u8,
     seat: SeatNo,
     book: &SeatBook,
     command: &Command,
-) -> Result<Option<Refusal>, Memory>
+) -> Option<Refusal>
     requires { seat ≤ scene.now.fog.players }
-    ensures { IfOk result (λ r. r ≡ rule_of_lem (asked_of seats scene.now seat) seat book.now.tags command.now) }
+    ensures { result ≡ rule_of_lem (asked_of seats scene.now seat) seat book.now.tags command.now }
 {
-    Ok(match command {
+    match command {
         Command::Hello { .. } => Some(Refusal::SeatTaken),
         Command::Bye => None,
         Command::Look => None,
         Command::Say { to, .. } => address_rule(seats, *to),
-        Command::Roll { dice, to } => roll_rule(alloc, seats, dice, *to)?,
+        Command::Roll { to, .. } => address_rule(seats, *to),
         Command::Move { token, path } => move_rule(scene, seat, *token, path),
         Command::Setprop {
             token,
@@ -282,5 +244,5 @@ pub fn rule_of(
         Command::Make { tag, map, cell, .. } => make_rule(scene, seat, book, *tag, *map, *cell),
         Command::Remove { token } => remove_rule(scene, seat, *token),
         _ => by_scene(scene, seat, book, command),
-    })
+    }
 }
