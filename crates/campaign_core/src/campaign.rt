@@ -8,7 +8,7 @@ ghost use Rattle.campaign_law.specs.Law.{IsOpening, IsSentAsMachine, ChangesLitt
 
 use crate::next::{Prepared, go_on, prepare};
 use crate::state::{Post, State};
-use campaign_file::{BadCampaign, FileFault, Rule, read_campaign};
+use campaign_file::{BadCampaign, FileFault, Rule, is_playable, read_campaign};
 use campaign_law::{Answer, Entry};
 use command_rules::settle;
 use names::{LineText, Memory, SeatNo, Text};
@@ -68,7 +68,8 @@ fn bad_form(alloc: Global) -> OpenFault
 
 impl<E: Eye + Drop> Campaign<E> {
     /// The campaign of a text: its world, and no entry. `Bad` exactly where the text is off the format
-    /// (`docs/CAMPAIGN.md`), with an empty path and the rule `Form` until the whole format is read.
+    /// (`docs/CAMPAIGN.md`) or has more than can be played yet, with an empty path and the rule `Form` until the whole
+    /// format is read.
     pub fn open(alloc: Global, text: &[u8], eye: E) -> Result<Campaign<E>, OpenFault>
         ensures world { IfOk result (λ c. world_of_text text.now ≡ Some c.origin) }
         ensures opening { IfOk result (λ c. IsOpening c.origin) }
@@ -77,10 +78,13 @@ impl<E: Eye + Drop> Campaign<E> {
         ensures bad { IfErr result (IsOpenFault text.now) }
     {
         match read_campaign(alloc, text) {
-            Ok(world) => match Campaign::of_world(alloc, world, eye) {
-                Ok(campaign) => Ok(campaign),
-                Err(_) => Err(OpenFault::Memory),
-            },
+            Ok(world) if is_playable(world.scene()) => {
+                match Campaign::of_world(alloc, world, eye) {
+                    Ok(campaign) => Ok(campaign),
+                    Err(_) => Err(OpenFault::Memory),
+                }
+            }
+            Ok(_) => Err(bad_form(alloc)),
             Err(FileFault::Bad(_)) => Err(bad_form(alloc)),
             Err(FileFault::Memory) => Err(OpenFault::Memory),
         }
