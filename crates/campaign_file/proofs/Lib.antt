@@ -1,2 +1,2 @@
-pub mod Each
-pub mod Lists
+pub mod Opening
+pub mod Seats

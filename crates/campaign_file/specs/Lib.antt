@@ -1,3 +1,2 @@
 pub mod Campaign
-pub mod Kinds
-pub mod Reading
+pub mod Seats
