@@ -14,7 +14,7 @@ use Rattle.campaign_json.specs.Reading.{pointer, escaped, under, each, each_memb
 
 -- ---- breaches of parts
 
-is_breach : {S : Type 0} (breach : BadCampaign) (fault : FileFault) (read : Result S BadCampaign) → read ≡ Err breach → IsBreach breach fault → Fails fault read
+pub is_breach : {S : Type 0} (breach : BadCampaign) (fault : FileFault) (read : Result S BadCampaign) → read ≡ Err breach → IsBreach breach fault → Fails fault read
 is_breach breach (Bad bad) read e is = e ∙ ap Err (sym is)
 is_breach breach Memory read e is = tt
 

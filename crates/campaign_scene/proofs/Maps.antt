@@ -1,6 +1,6 @@
 -- Maps while they are read.
 use Rattle.std.proofs.Common.{◌≡◌, ℕ, ◌+◌, ◌<◌, ◌≤◌, suc, zero, Bool, true, false, cond, nat_le, if◌then◌else◌, List, [], ◌∷◌, length, drop, get_or, ℤ, Option, Some, None, Result, Ok, is_some, option_map, refl, sym, ap, ◌∙◌, arith, subst}
-use Rattle.std.specs.Prelude.{IfSome, IsTrue}
+use Rattle.std.specs.Prelude.{IfSome}
 use Rattle.std.specs.List.{list_all}
 use Rattle.std.proofs.lemmas.List.{drop_more}
 use Rattle.names.specs.declared.kinds.Mode.{Mode}
@@ -11,9 +11,9 @@ use Rattle.topology.specs.declared.walls.WallFault.{WallFault}
 use Rattle.topology.specs.declared.walls.WallFault.TheVariants.{OffMap, DegenerateWall, WallThere, WallLimit, Memory}
 use Rattle.json_fields.specs.Objects.{◌>>=◌}
 use Rattle.cells.specs.Cells.{Extent}
-use Rattle.maps.specs.Letters.{IsOn, is_letter}
+use Rattle.maps.specs.Letters.{IsOn}
 use Rattle.maps.specs.MapFaults.{map_fault}
-use Rattle.maps.specs.Maps.{Grid, has_map, map_of, new_map, shown_if, with_letters, with_mode, with_wall_of, with_map}
+use Rattle.maps.specs.Maps.{Grid, has_map, map_of, new_map, shown_if, with_letters, with_mode, with_wall_of}
 use Rattle.maps.specs.declared.map_table.MapFault.TheVariants.{MapExists, MapLimit}
 use Rattle.maps.proofs.NameLemmas.{and_first, and_second, same_name}
 use Rattle.world.specs.Rules.{size_of}

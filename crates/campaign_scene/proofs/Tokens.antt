@@ -1,7 +1,8 @@
 -- Tokens while they are read: what belongs to a scene.
-use Rattle.std.proofs.Common.{◌≡◌, ℕ, ◌≤◌, Bool, true, false, ◌&&◌, nat_le, List, Option, Some, None, refl, sym, ap, ◌∙◌, arith}
-use Rattle.maps.proofs.NameLemmas.{and_first, and_second, both}
+use Rattle.std.proofs.Common.{◌≡◌, ℕ, ◌≤◌, true, ◌&&◌, List, Option, Some, refl, ap, ◌∙◌, arith}
+use Rattle.maps.proofs.NameLemmas.{and_first, both}
 use Rattle.cells.specs.Cells.{Extent}
+use Rattle.cells.specs.declared.cell.Cell.{Cell}
 use Rattle.tokens.specs.Owners.{with_owner}
 use Rattle.tokens.specs.declared.token.Token.{Token}
 use Rattle.world.specs.Rules.{are_players, belongs, fits, fits_on, is_known, is_player, size_of}
@@ -20,8 +21,11 @@ pub owner_more : (players owners seat : ℕ) → 1 ≤ seat → seat ≤ players
 owner_more players owners seat low high are = players_with players owners seat true (player players seat low high) are
 
 -- a token without types and owners belongs where it fits
-pub bare_belongs : (s : Scene) (t : Token) (size : Extent) → size_of t.map s.maps ≡ Some size → fits size t.cell t.size ≡ true → t.sight ≡ None → t.light ≡ None → t.owners ≡ 0 → belongs s t ≡ true
-bare_belongs s t size sized fitting no_sight no_light no_owners = rw (sized, no_sight, no_light, no_owners, fitting) (no_players s.fog.players)
+pub bare_belongs : (s : Scene) (map : List ℕ) (cell : Cell) (side owners : ℕ) (size : Extent) → size_of map s.maps ≡ Some size → fits size cell side ≡ true → owners ≡ 0
+    → (fits_on (size_of map s.maps) cell side && are_players s.fog.players owners) ≡ true
+bare_belongs s map cell side owners size sized fitting none =
+    let on : fits_on (size_of map s.maps) cell side ≡ true = ap (λ (o : Option Extent). fits_on o cell side) sized ∙ fitting in
+    both _ _ on (ap (are_players s.fog.players) none ∙ no_players s.fog.players)
 
 -- a token that stands where it stood belongs with types that are there and owners that are players
 pub marked_belongs : (s : Scene) (t u : Token) → belongs s t ≡ true → u.map ≡ t.map → u.cell ≡ t.cell → u.size ≡ t.size → is_known s.sights u.sight ≡ true → is_known s.lights u.light ≡ true

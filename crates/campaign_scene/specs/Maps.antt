@@ -1,5 +1,5 @@
 -- Maps: their cells' letters, and their walls.
-use Rattle.std.specs.Prelude.{◌≡◌, ℕ, ℤ, ◌+◌, ◌*◌, not, nat_le, Bool, List, [], ◌∷◌, length, codes, Option, Some, None, option_and_then, option_map, Result, Ok}
+use Rattle.std.specs.Prelude.{◌≡◌, ℕ, ℤ, ◌+◌, ◌*◌, not, nat_le, Bool, List, [], ◌∷◌, length, codes, Option, Some, None, Result, Ok}
 use Rattle.std.specs.List.{list_all}
 use Rattle.names.specs.Words.{wall_word}
 use Rattle.names.specs.declared.kinds.Mode.{Mode}

@@ -79,7 +79,7 @@ fn read_token(
 }
 
 /// A token that isn't shown, with nothing but an id, a name and its place.
-#[tactic(auto, using(crate::proofs::Tokens::bare_belongs), unfolding(crate::specs::Tokens::bare_token))]
+#[tactic(auto, unfolding(crate::specs::Tokens::bare_token))]
 fn bare_token(
     alloc: Global,
     books: &[SeatBook],

@@ -92,10 +92,10 @@ fn walled_at(
         return Err(broken(alloc, Rule::Cross));
     };
     let size = grid.size();
-    let Some(a) = point_on(size, first.0, first.1) else {
+    let Some(a) = point_on(size, first) else {
         return Err(broken(alloc, Rule::Cross));
     };
-    let Some(b) = point_on(size, second.0, second.1) else {
+    let Some(b) = point_on(size, second) else {
         return Err(broken(alloc, Rule::Cross));
     };
     match scene.add_wall(name, kind, a, b) {
@@ -117,10 +117,10 @@ fn wall_breach(alloc: Global, fault: WallFault) -> FileFault
 }
 
 /// The point of a map of that size with these coordinates, which are half cells.
-fn point_on(size: Size, x: i64, y: i64) -> Option<Point>
-    ensures { result ≡ point_on_lem size x y }
+fn point_on(size: Size, place: (i64, i64)) -> Option<Point>
+    ensures { result ≡ point_on_lem size place.0 place.1 }
 {
-    let x = up_to(x, 2 * size.w())?;
-    let y = up_to(y, 2 * size.h())?;
+    let x = up_to(place.0, 2 * size.w())?;
+    let y = up_to(place.1, 2 * size.h())?;
     Some(Point::new(i32::from(x), i32::from(y)).unwrap())
 }

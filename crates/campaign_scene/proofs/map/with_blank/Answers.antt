@@ -1,5 +1,4 @@
 use Rattle.std.proofs.Common.{ap, ◌∙◌}
-use Rattle.maps.specs.Maps.{has_map}
 use Rattle.world.specs.Rules.{size_of}
 use Rattle.campaign_scene.proofs.Maps.{there, new_size, moded_size}
 use Rattle.campaign_scene.proofs.map.with_blank.Goals as goal
