@@ -16,7 +16,7 @@ use Rattle.campaign_scene.specs.Maps.{maps}
 use Rattle.campaign_file.specs.Seats.{seats}
 use Rattle.campaign_scene.specs.Tokens.{tokens}
 use Rattle.campaign_scene.specs.Types.{lights, sights}
-pub use Rattle.campaign_file.specs.Seats.{IsOpening}
+pub use Rattle.campaign_file.specs.Seats.{AreFreshFrom, IsFreshAt, IsOpening}
 
 abbrev pub campaign_keys : List (List ℕ)
 campaign_keys = codes "format" ∷ codes "lights" ∷ codes "sights" ∷ codes "maps" ∷ codes "seats" ∷ codes "tokens" ∷ []
@@ -36,10 +36,10 @@ campaign d = do
   lit ← lights (bare (players_in d)) d
   sighted ← sights lit d
   mapped ← maps sighted d
-  world ← seats mapped d
-  full ← tokens world.books world.scene d
+  books ← seats d
+  full ← tokens books mapped d
   no_others ← only campaign_keys d
-  Ok (record world { scene = full })
+  Ok (record { scene = full; books = books })
 
 -- the world that a campaign text opens with, or its first breach
 unfoldable pub campaign_of : List ℕ → Result World BadCampaign

@@ -1,2 +1,3 @@
 pub mod Campaign
+pub mod Playable
 pub mod Seats

@@ -13,13 +13,14 @@ const THREE_SEATS: &str =
 const CAVE: &str =
     r#"{"format":1,"lights":{},"maps":[{"h":3,"mbl":[],"mode":"day","name":"cave","rows":["...","...","..."],"shown":true,"vbl":[[2,0,2,4]],"w":3}],"seats":[{"drawn":0,"fog":{},"key":"g","macros":{},"seed":"0000000000000000000000000000000000000000000000000000000000000000","tags":[]},{"drawn":0,"fog":{},"key":"a","macros":{},"seed":"0000000000000000000000000000000000000000000000000000000000000000","tags":["ann"]}],"sights":{"human":[10,0,2]},"tokens":[{"cell":[0,0],"id":"1:ann","layer":"token","light":null,"map":"cave","name":"Ann","own":[],"owners":[1],"props":[],"secret":[],"sight":"human","size":1,"visible":true}]}"#;
 
-/// Two maps, types, tokens and fog, in another spelling.
-const FULL: &str = r#"{"format":1, "lights":{"lamp":2, "torch":20}, "sights":{"elf":[40,20,4], "human":[10,0,2]}, "maps":[
+/// Two maps, types and tokens, in another spelling.
+const FULL: &str =
+    r#"{"format":1, "lights":{"lamp":2, "torch":20}, "sights":{"elf":[40,20,4], "human":[10,0,2]}, "maps":[
 {"name":"hall", "w":2, "h":1, "mode":"off", "shown":false, "rows":["a."], "vbl":[], "mbl":[]},
 {"name":"cave", "w":4, "h":3, "mode":"night", "shown":true, "rows":["....",".w..","...z"], "vbl":[[2,0,2,4],[8,6,0,0]], "mbl":[[2,4,2,0]]}
 ], "seats":[
 {"key":"g", "seed":"0000000000000000000000000000000000000000000000000000000000000000", "drawn":0, "tags":["orc","elk"], "macros":{}, "fog":{}},
-{"key":"a", "seed":"0000000000000000000000000000000000000000000000000000000000000000", "drawn":0, "tags":["ann"], "macros":{}, "fog":{"cave":[[0,1,3],[2,0,0],[0,2,3]], "hall":[]}},
+{"key":"a", "seed":"0000000000000000000000000000000000000000000000000000000000000000", "drawn":0, "tags":["ann"], "macros":{}, "fog":{}},
 {"key":"b", "seed":"0000000000000000000000000000000000000000000000000000000000000000", "drawn":0, "tags":[], "macros":{}, "fog":{}}
 ], "tokens":[
 {"id":"1:ann", "name":"Ann", "map":"cave", "size":2, "cell":[2,1], "layer":"hidden", "owners":[2,1], "visible":false, "sight":"elf", "light":"lamp", "props":[["hp","10"],["mp",""]], "own":[["hp","5"]], "secret":[]},
@@ -82,13 +83,17 @@ fn takes_a_cave(rt: HostRuntime) -> Result<(), Fail> {
     assert_eq!(rt; cave.shown(), true);
     assert_eq!(rt; cave.walls().count(WallKind::Vbl), 1);
     assert_eq!(rt; cave.walls().count(WallKind::Mbl), 0);
-    let ann = scene.tokens().get(TokenId::read(b"1:ann")?).ok_or("a token")?;
+    let ann = scene
+        .tokens()
+        .get(TokenId::read(b"1:ann")?)
+        .ok_or("a token")?;
     assert_eq!(rt; ann.name.text(), "Ann");
     assert_eq!(rt; ann.cell, Cell { x: 0, y: 0 });
     let player = SeatNo::new(1).ok_or("a seat")?;
     assert_eq!(rt; ann.owners.has(player), true);
     let book = world.seats().get(1).ok_or("two seats")?;
     assert_eq!(rt; book.has_tag(Tag::read(b"ann")?), true);
+    assert_eq!(rt; is_playable(scene), true);
     Ok(())
 }
 
@@ -109,13 +114,18 @@ fn takes_a_full_campaign(rt: HostRuntime) -> Result<(), Fail> {
         }
     }
     assert_eq!(rt; cave.walls().count(WallKind::Vbl), 2);
-    let exposed = scene.fog().sets().iter().map(|set| set.cells.count());
-    assert_eq!(rt; exposed.sum::<u32>(), 4);
-    let ann = scene.tokens().get(TokenId::read(b"1:ann")?).ok_or("a token")?;
+    assert_eq!(rt; is_playable(scene), false);
+    let ann = scene
+        .tokens()
+        .get(TokenId::read(b"1:ann")?)
+        .ok_or("a token")?;
     assert_eq!(rt; ann.light, Some(Tag::read(b"lamp")?));
     let hp = ann.public.find(Tag::read(b"hp")?).ok_or("a property")?;
     assert_eq!(rt; hp.text(), "10");
-    let orc = scene.tokens().get(TokenId::read(b"0:orc")?).ok_or("a token")?;
+    let orc = scene
+        .tokens()
+        .get(TokenId::read(b"0:orc")?)
+        .ok_or("a token")?;
     assert_eq!(rt; orc.secret.len(), 1);
     Ok(())
 }
@@ -231,6 +241,12 @@ fn tells_the_first_breach_of_a_seat(rt: HostRuntime) -> Result<(), Fail> {
             Rule::Range,
         ),
         (
+            "903, \"tags\":[], \"macros\":{}, \"fog\":{}",
+            "903, \"tags\":[], \"macros\":{}, \"fog\":{\"cave\":[]}",
+            "/seats/1/fog",
+            Rule::Form,
+        ),
+        (
             "\"fog\":{}",
             "\"fog\":{}, \"more\":0",
             "/seats/0",
@@ -277,8 +293,18 @@ fn tells_the_first_breach_of_a_scene(rt: HostRuntime) -> Result<(), Fail> {
         ("\"lamp\":2", "\"lamp\":21", "/lights/lamp", Rule::Range),
         ("[40,20,4]", "[40,20]", "/sights/elf", Rule::Range),
         ("[40,20,4]", "[40,20,0]", "/sights/elf/2", Rule::Range),
-        ("\"name\":\"hall\"", "\"name\":\"Hall\"", "/maps/0/name", Rule::Form),
-        ("\"name\":\"cave\"", "\"name\":\"hall\"", "/maps/1/name", Rule::Twice),
+        (
+            "\"name\":\"hall\"",
+            "\"name\":\"Hall\"",
+            "/maps/0/name",
+            Rule::Form,
+        ),
+        (
+            "\"name\":\"cave\"",
+            "\"name\":\"hall\"",
+            "/maps/1/name",
+            Rule::Twice,
+        ),
         ("\"w\":4", "\"w\":97", "/maps/1/w", Rule::Range),
         ("\"off\"", "\"dusk\"", "/maps/0/mode", Rule::Form),
         ("[\"a.\"]", "[\"a.\",\"\"]", "/maps/0/rows", Rule::Range),
@@ -290,28 +316,68 @@ fn tells_the_first_breach_of_a_scene(rt: HostRuntime) -> Result<(), Fail> {
         ("[8,6,0,0]", "[8,6,0,-1]", "/maps/1/vbl/1", Rule::Cross),
         ("[8,6,0,0]", "[8,6,8,6]", "/maps/1/vbl/1", Rule::Cross),
         ("[8,6,0,0]", "[2,4,2,0]", "/maps/1/vbl/1", Rule::Twice),
-        ("\"hall\":[]", "\"well\":[]", "/seats/1/fog/well", Rule::Cross),
-        ("\"hall\":[]", "\"/\":[]", "/seats/1/fog/~1", Rule::Cross),
-        ("[2,0,0]", "[2,0]", "/seats/1/fog/cave/1", Rule::Range),
-        ("[2,0,0]", "[3,0,0]", "/seats/1/fog/cave/1", Rule::Cross),
-        ("[2,0,0]", "[2,1,0]", "/seats/1/fog/cave/1", Rule::Cross),
         ("\"1:ann\"", "\"1:bob\"", "/tokens/0/id", Rule::Cross),
         ("\"1:ann\"", "\"0:ann\"", "/tokens/0/id", Rule::Cross),
         ("\"1:ann\"", "\"01:ann\"", "/tokens/0/id", Rule::Form),
         ("\"0:orc\"", "\"1:ann\"", "/tokens/1/id", Rule::Twice),
-        ("\"map\":\"cave\"", "\"map\":\"well\"", "/tokens/0/map", Rule::Cross),
+        (
+            "\"map\":\"cave\"",
+            "\"map\":\"well\"",
+            "/tokens/0/map",
+            Rule::Cross,
+        ),
         ("\"size\":2", "\"size\":5", "/tokens/0/size", Rule::Range),
         ("[2,1]", "[3,1]", "/tokens/0/cell", Rule::Cross),
         ("[2,1]", "[2,96]", "/tokens/0/cell/1", Rule::Range),
         ("\"hidden\"", "\"Hidden\"", "/tokens/0/layer", Rule::Form),
-        ("[2,1], \"visible\"", "[2,3], \"visible\"", "/tokens/0/owners/1", Rule::Cross),
-        ("[2,1], \"visible\"", "[2,2], \"visible\"", "/tokens/0/owners/1", Rule::Twice),
-        ("[2,1], \"visible\"", "[0], \"visible\"", "/tokens/0/owners/0", Rule::Range),
-        ("\"sight\":\"elf\"", "\"sight\":\"lamp\"", "/tokens/0/sight", Rule::Cross),
-        ("\"light\":\"lamp\"", "\"light\":0", "/tokens/0/light", Rule::Kind),
-        ("[\"mp\",\"\"]", "[\"hp\",0]", "/tokens/0/props/1/0", Rule::Twice),
-        ("[\"mp\",\"\"]", "[\"mp\",0]", "/tokens/0/props/1/1", Rule::Kind),
-        ("\"secret\":[]", "\"secret\":[], \"more\":0", "/tokens/0", Rule::Unknown),
+        (
+            "[2,1], \"visible\"",
+            "[2,3], \"visible\"",
+            "/tokens/0/owners/1",
+            Rule::Cross,
+        ),
+        (
+            "[2,1], \"visible\"",
+            "[2,2], \"visible\"",
+            "/tokens/0/owners/1",
+            Rule::Twice,
+        ),
+        (
+            "[2,1], \"visible\"",
+            "[0], \"visible\"",
+            "/tokens/0/owners/0",
+            Rule::Range,
+        ),
+        (
+            "\"sight\":\"elf\"",
+            "\"sight\":\"lamp\"",
+            "/tokens/0/sight",
+            Rule::Cross,
+        ),
+        (
+            "\"light\":\"lamp\"",
+            "\"light\":0",
+            "/tokens/0/light",
+            Rule::Kind,
+        ),
+        (
+            "[\"mp\",\"\"]",
+            "[\"hp\",0]",
+            "/tokens/0/props/1/0",
+            Rule::Twice,
+        ),
+        (
+            "[\"mp\",\"\"]",
+            "[\"mp\",0]",
+            "/tokens/0/props/1/1",
+            Rule::Kind,
+        ),
+        (
+            "\"secret\":[]",
+            "\"secret\":[], \"more\":0",
+            "/tokens/0",
+            Rule::Unknown,
+        ),
     ] {
         let text = FULL.replacen(rt.alloc(), old, new, 1)?;
         match read_campaign(rt.alloc(), text.as_bytes()) {
