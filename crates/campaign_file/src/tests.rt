@@ -3,7 +3,10 @@ use super::*;
 use cells::Cell;
 use names::{Mode, SeatNo, Tag, TokenId, WallKind};
 use seats::SeatState;
+use std::alloc::Global;
+use std::process::Abort;
 use std::test::Fail;
+use world::Scene;
 
 /// Three seats and nothing else.
 const THREE_SEATS: &str =
@@ -32,6 +35,18 @@ const TWO_SEATS: &str = r#" {"tokens":[], "sights":{}, "seats":[
 {"key":"g", "seed":"0000000000000000000000000000000000000000000000000000000000000000", "drawn":0, "tags":[], "macros":{}, "fog":{}},
 {"key":"a", "seed":"ff00000000000000000000000000000000000000000000000000000000000009", "drawn":4611686018427387903, "tags":[], "macros":{}, "fog":{}}
 ], "maps":[], "lights":{}, "format":1} "#;
+
+/// The text isn't taken, by the rule at the path.
+fn breaks(rt: &impl Abort, alloc: Global, text: &str, path: &str, rule: Rule) -> Result<(), Fail> {
+    match read_campaign(alloc, text.as_bytes()) {
+        Err(FileFault::Bad(bad)) => {
+            assert_eq!(rt; bad.path.text(), path);
+            assert_eq!(rt; bad.rule, rule);
+            Ok(())
+        }
+        _ => Err("the text is no campaign".into()),
+    }
+}
 
 #[test]
 fn takes_three_seats(rt: HostRuntime) -> Result<(), Fail> {
@@ -73,27 +88,27 @@ fn takes_a_cave(rt: HostRuntime) -> Result<(), Fail> {
     let Ok(world) = read_campaign(rt.alloc(), CAVE.as_bytes()) else {
         return Err("the text is a campaign".into());
     };
-    let scene = world.scene();
-    let human = scene.sights().sight(Tag::read(b"human")?);
-    let human = human.ok_or("a sight type")?;
-    assert_eq!(rt; (human.range, human.night, human.mult), (10, 0, 2));
-    let cave = scene.maps().get(Tag::read(b"cave")?).ok_or("a map")?;
-    assert_eq!(rt; (cave.size().w(), cave.size().h()), (3, 3));
-    assert_eq!(rt; cave.mode(), Mode::Day);
-    assert_eq!(rt; cave.shown(), true);
-    assert_eq!(rt; cave.walls().count(WallKind::Vbl), 1);
-    assert_eq!(rt; cave.walls().count(WallKind::Mbl), 0);
-    let ann = scene
-        .tokens()
-        .get(TokenId::read(b"1:ann")?)
-        .ok_or("a token")?;
-    assert_eq!(rt; ann.name.text(), "Ann");
-    assert_eq!(rt; ann.cell, Cell { x: 0, y: 0 });
-    let player = SeatNo::new(1).ok_or("a seat")?;
-    assert_eq!(rt; ann.owners.has(player), true);
+    assert_eq!(rt; is_playable(world.scene()), true);
     let book = world.seats().get(1).ok_or("two seats")?;
     assert_eq!(rt; book.has_tag(Tag::read(b"ann")?), true);
-    assert_eq!(rt; is_playable(scene), true);
+    has_a_bare_cave(&rt, world.scene())?;
+    has_ann(&rt, world.scene())
+}
+
+fn has_a_bare_cave(rt: &impl Abort, scene: &Scene) -> Result<(), Fail> {
+    let cave = scene.maps().get(Tag::read(b"cave")?).ok_or("a map")?;
+    assert_eq!(rt; (cave.size().w(), cave.size().h()), (3, 3));
+    assert_eq!(rt; (cave.mode(), cave.shown()), (Mode::Day, true));
+    assert_eq!(rt; cave.walls().count(WallKind::Vbl), 1);
+    Ok(())
+}
+
+fn has_ann(rt: &impl Abort, scene: &Scene) -> Result<(), Fail> {
+    let ann = TokenId::read(b"1:ann")?;
+    let ann = scene.tokens().get(ann).ok_or("a token")?;
+    let player = SeatNo::new(1).ok_or("a seat")?;
+    assert_eq!(rt; ann.name.text(), "Ann");
+    assert_eq!(rt; ann.owners.has(player), true);
     Ok(())
 }
 
@@ -102,31 +117,38 @@ fn takes_a_full_campaign(rt: HostRuntime) -> Result<(), Fail> {
     let Ok(world) = read_campaign(rt.alloc(), FULL.as_bytes()) else {
         return Err("the text is a campaign".into());
     };
-    let scene = world.scene();
+    assert_eq!(rt; is_playable(world.scene()), false);
+    has_types(&rt, world.scene())?;
+    has_letters(&rt, world.scene())?;
+    has_properties(&rt, world.scene())
+}
+
+fn has_types(rt: &impl Abort, scene: &Scene) -> Result<(), Fail> {
     assert_eq!(rt; scene.lights().radius(Tag::read(b"torch")?), Some(20));
+    let elf = scene.sights().sight(Tag::read(b"elf")?);
+    let elf = elf.ok_or("a sight type")?;
+    assert_eq!(rt; (elf.range, elf.night, elf.mult), (40, 20, 4));
+    Ok(())
+}
+
+fn has_letters(rt: &impl Abort, scene: &Scene) -> Result<(), Fail> {
     let cave = scene.maps().get(Tag::read(b"cave")?).ok_or("a map")?;
     for (x, y, letter) in [(1, 1, b'w'), (3, 2, b'z'), (1, 2, b'.')] {
         let cell = Cell { x, y };
-        if cave.size().has(cell) {
-            assert_eq!(rt; cave.letter(cell), letter);
-        } else {
+        if !cave.size().has(cell) {
             return Err("a cell of the map".into());
         }
+        assert_eq!(rt; cave.letter(cell), letter);
     }
-    assert_eq!(rt; cave.walls().count(WallKind::Vbl), 2);
-    assert_eq!(rt; is_playable(scene), false);
-    let ann = scene
-        .tokens()
-        .get(TokenId::read(b"1:ann")?)
-        .ok_or("a token")?;
-    assert_eq!(rt; ann.light, Some(Tag::read(b"lamp")?));
+    Ok(())
+}
+
+fn has_properties(rt: &impl Abort, scene: &Scene) -> Result<(), Fail> {
+    let ann = TokenId::read(b"1:ann")?;
+    let ann = scene.tokens().get(ann).ok_or("a token")?;
     let hp = ann.public.find(Tag::read(b"hp")?).ok_or("a property")?;
     assert_eq!(rt; hp.text(), "10");
-    let orc = scene
-        .tokens()
-        .get(TokenId::read(b"0:orc")?)
-        .ok_or("a token")?;
-    assert_eq!(rt; orc.secret.len(), 1);
+    assert_eq!(rt; ann.own.len(), 1);
     Ok(())
 }
 
@@ -174,13 +196,7 @@ fn tells_the_first_breach_of_a_text(rt: HostRuntime) -> Result<(), Fail> {
             Rule::Kind,
         ),
     ] {
-        match read_campaign(rt.alloc(), text.as_bytes()) {
-            Err(FileFault::Bad(bad)) => {
-                assert_eq!(rt; bad.path.text(), path, "in {text}");
-                assert_eq!(rt; bad.rule, rule, "in {text}");
-            }
-            _ => return Err("the text is no campaign".into()),
-        }
+        breaks(&rt, rt.alloc(), text, path, rule)?;
     }
     Ok(())
 }
@@ -275,19 +291,13 @@ fn tells_the_first_breach_of_a_seat(rt: HostRuntime) -> Result<(), Fail> {
         ),
     ] {
         let text = TWO_SEATS.replacen(rt.alloc(), old, new, 1)?;
-        match read_campaign(rt.alloc(), text.as_bytes()) {
-            Err(FileFault::Bad(bad)) => {
-                assert_eq!(rt; bad.path.text(), path, "{old} as {new}");
-                assert_eq!(rt; bad.rule, rule, "{old} as {new}");
-            }
-            _ => return Err("the text is no campaign".into()),
-        }
+        breaks(&rt, rt.alloc(), &text, path, rule)?;
     }
     Ok(())
 }
 
 #[test]
-fn tells_the_first_breach_of_a_scene(rt: HostRuntime) -> Result<(), Fail> {
+fn tells_the_first_breach_of_a_map(rt: HostRuntime) -> Result<(), Fail> {
     for (old, new, path, rule) in [
         ("\"lamp\":2", "\"La/m~p\":2", "/lights/La~1m~0p", Rule::Form),
         ("\"lamp\":2", "\"lamp\":21", "/lights/lamp", Rule::Range),
@@ -316,6 +326,16 @@ fn tells_the_first_breach_of_a_scene(rt: HostRuntime) -> Result<(), Fail> {
         ("[8,6,0,0]", "[8,6,0,-1]", "/maps/1/vbl/1", Rule::Cross),
         ("[8,6,0,0]", "[8,6,8,6]", "/maps/1/vbl/1", Rule::Cross),
         ("[8,6,0,0]", "[2,4,2,0]", "/maps/1/vbl/1", Rule::Twice),
+    ] {
+        let text = FULL.replacen(rt.alloc(), old, new, 1)?;
+        breaks(&rt, rt.alloc(), &text, path, rule)?;
+    }
+    Ok(())
+}
+
+#[test]
+fn tells_the_first_breach_of_a_token(rt: HostRuntime) -> Result<(), Fail> {
+    for (old, new, path, rule) in [
         ("\"1:ann\"", "\"1:bob\"", "/tokens/0/id", Rule::Cross),
         ("\"1:ann\"", "\"0:ann\"", "/tokens/0/id", Rule::Cross),
         ("\"1:ann\"", "\"01:ann\"", "/tokens/0/id", Rule::Form),
@@ -380,13 +400,7 @@ fn tells_the_first_breach_of_a_scene(rt: HostRuntime) -> Result<(), Fail> {
         ),
     ] {
         let text = FULL.replacen(rt.alloc(), old, new, 1)?;
-        match read_campaign(rt.alloc(), text.as_bytes()) {
-            Err(FileFault::Bad(bad)) => {
-                assert_eq!(rt; bad.path.text(), path, "{old} as {new}");
-                assert_eq!(rt; bad.rule, rule, "{old} as {new}");
-            }
-            _ => return Err("the text is no campaign".into()),
-        }
+        breaks(&rt, rt.alloc(), &text, path, rule)?;
     }
     Ok(())
 }
@@ -394,12 +408,5 @@ fn tells_the_first_breach_of_a_scene(rt: HostRuntime) -> Result<(), Fail> {
 #[test]
 fn an_owner_has_a_seat(rt: HostRuntime) -> Result<(), Fail> {
     let text = CAVE.replacen(rt.alloc(), "\"owners\":[1]", "\"owners\":[5]", 1)?;
-    match read_campaign(rt.alloc(), text.as_bytes()) {
-        Err(FileFault::Bad(bad)) => {
-            assert_eq!(rt; bad.path.text(), "/tokens/0/owners/0");
-            assert_eq!(rt; bad.rule, Rule::Cross);
-            Ok(())
-        }
-        _ => Err("the text is no campaign".into()),
-    }
+    breaks(&rt, rt.alloc(), &text, "/tokens/0/owners/0", Rule::Cross)
 }
