@@ -15,9 +15,12 @@ use Rattle.campaign_core.specs.declared.campaign.OpenFault.TheVariants.{Bad, Mem
 abbrev pub opening_world : Opened → World
 opening_world opened = record { seats = map fresh_seat opened.books; scene = settled opened.scene }
 
--- a world that can't be played yet is none
+-- none, where the world can't be played yet
+abbrev pub played : Opened → Option World
+played opened = if is_playable opened.scene then Some (opening_world opened) else None
+
 abbrev pub world_of : Result Opened BadCampaign → Option World
-world_of (Ok opened) = if is_playable opened.scene then Some (opening_world opened) else None
+world_of (Ok opened) = played opened
 world_of (Err breach) = None
 
 -- none, where the text is no campaign, or one that can't be played yet
@@ -29,7 +32,7 @@ abbrev pub IsBadForm : OpenFault → Type 0
 IsBadForm (Bad bad) = bad ≡ record { path = []; rule = Form }
 IsBadForm Memory = Unit {0}
 
--- the text is no campaign, or can't be played yet, unless memory ran out. Until the whole format is read, each breach is told as one of form
-abbrev pub IsOpenFault : List ℕ → OpenFault → Type 0
-IsOpenFault text (Bad bad) = (world_of_text text ≡ None) × (bad ≡ record { path = []; rule = Form })
-IsOpenFault text Memory = Unit {0}
+-- there is no world, unless memory ran out. Until the whole format is read, each breach is told as one of form
+abbrev pub IsOpenFault : Option World → OpenFault → Type 0
+IsOpenFault world (Bad bad) = (world ≡ None) × (bad ≡ record { path = []; rule = Form })
+IsOpenFault world Memory = Unit {0}

@@ -1,7 +1,7 @@
 //! A campaign as its callers see it: the world that it opened with, and its history.
 ghost use Rattle.std.specs.Prelude.{◌≡◌, ◌<◌, ◌≤◌, ◌++◌, ◌∷◌, [], ℕ, length, Some, IfOk, OnOk, IfErr, OnErr, map, drop, option_map, is_some, true};
 ghost use Rattle.campaign_file.specs.Campaign.{IsOpening as IsOpeningList};
-ghost use Rattle.campaign_core.specs.Opening.{opening_world, world_of_text, IsOpenFault, IsBadForm};
+ghost use Rattle.campaign_core.specs.Opening.{opening_world, played, world_of_text, IsOpenFault, IsBadForm};
 ghost use Rattle.campaign_law.specs.World.{seat_at};
 ghost use Rattle.campaign_law.specs.Session.{session, waiting};
 ghost use Rattle.campaign_law.specs.Law.{IsOpening, IsSentAsMachine, ChangesLittle, world_of, answer_after};
@@ -75,18 +75,30 @@ impl<E: Eye + Drop> Campaign<E> {
         ensures opening { IfOk result (λ c. IsOpening c.origin) }
         ensures history { IfOk result (λ c. c.history ≡ []) }
         ensures seats { IfOk result (λ c. (1 ≤ length c.origin.seats) × (length c.origin.seats ≤ 33)) }
-        ensures bad { IfErr result (IsOpenFault text.now) }
+        ensures bad { IfErr result (IsOpenFault (world_of_text text.now)) }
     {
         match read_campaign(alloc, text) {
-            Ok(world) if is_playable(world.scene()) => {
-                match Campaign::of_world(alloc, world, eye) {
-                    Ok(campaign) => Ok(campaign),
-                    Err(_) => Err(OpenFault::Memory),
-                }
-            }
-            Ok(_) => Err(bad_form(alloc)),
+            Ok(world) => Campaign::played(alloc, world, eye),
             Err(FileFault::Bad(_)) => Err(bad_form(alloc)),
             Err(FileFault::Memory) => Err(OpenFault::Memory),
+        }
+    }
+
+    /// The campaign that opens with this world, if it can be played yet.
+    fn played(alloc: Global, world: World, eye: E) -> Result<Campaign<E>, OpenFault>
+        requires { IsOpeningList world.books }
+        ensures world { IfOk result (λ c. played world ≡ Some c.origin) }
+        ensures opening { IfOk result (λ c. IsOpening c.origin) }
+        ensures history { IfOk result (λ c. c.history ≡ []) }
+        ensures seats { IfOk result (λ c. length c.origin.seats ≡ length world.books) }
+        ensures bad { IfErr result (IsOpenFault (played world)) }
+    {
+        if !is_playable(world.scene()) {
+            return Err(bad_form(alloc));
+        }
+        match Campaign::of_world(alloc, world, eye) {
+            Ok(campaign) => Ok(campaign),
+            Err(_) => Err(OpenFault::Memory),
         }
     }
 
