@@ -1,3 +1,3 @@
-pub mod Each
-pub mod Lists
+pub mod Counts
 pub mod Opening
+pub mod Seats

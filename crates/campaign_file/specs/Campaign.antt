@@ -1,70 +1,46 @@
 -- The campaign text: the world that it opens with, or its first breach.
-use Rattle.std.specs.Prelude.{◌≡◌, ◌≤◌, ℕ, ◌-◌, ◌+◌, List, [], ◌∷◌, length, codes, Result, Ok}
+use Rattle.std.specs.Prelude.{ℕ, ◌-◌, List, [], ◌∷◌, codes, Option, Some, None, Result, Ok}
 use Rattle.serde_json.specs.Data.{Data}
+use Rattle.serde_json.specs.Events.{items_len}
+use Rattle.serde_json.specs.Data.{Items}
+use Rattle.json_fields.specs.Fields.{list_in}
 use Rattle.json_fields.specs.Objects.{◌>>=◌}
 use Rattle.json_fields.specs.Values.{value_of}
-use Rattle.seats.specs.Book.{Book, IsFresh, fresh_book, drawn_limit}
-use Rattle.world.specs.World.{World, opened}
-use Rattle.campaign_file.specs.declared.faults.Rule.TheVariants.{Json}
-use Rattle.campaign_file.specs.declared.faults.BadCampaign.{BadCampaign}
-use Rattle.campaign_file.specs.Reading.{needed, field, each}
-use Rattle.campaign_file.specs.Kinds.{whole, text, list, object, only, seed, empty_list, empty_object}
-
-abbrev pub seat_keys : List (List ℕ)
-seat_keys = codes "key" ∷ codes "seed" ∷ codes "drawn" ∷ codes "tags" ∷ codes "macros" ∷ codes "fog" ∷ []
-
--- the fresh book of the seat at a place
-unfoldable pub seat : ℕ → Data → Result Book BadCampaign
-seat place d = do
-  members ← object d
-  key ← field (codes "key") (text 1 64) d
-  seed ← field (codes "seed") seed d
-  drawn ← field (codes "drawn") (whole 0 (drawn_limit - 1)) d
-  tags ← field (codes "tags") empty_list d
-  macros ← field (codes "macros") empty_object d
-  fog ← field (codes "fog") empty_object d
-  no_others ← only seat_keys d
-  Ok (fresh_book place key seed drawn)
-
--- a seat's number is its place
-unfoldable pub seats : Data → Result (List Book) BadCampaign
-seats d = do
-  items ← list 1 33 d
-  each seat 0 items
+use Rattle.world.specs.Scene.{bare}
+use Rattle.world.specs.World.{World}
+use Rattle.campaign_json.specs.declared.faults.Rule.TheVariants.{Json}
+use Rattle.campaign_json.specs.declared.faults.BadCampaign.{BadCampaign}
+use Rattle.campaign_json.specs.Reading.{needed, field}
+use Rattle.campaign_json.specs.Kinds.{whole, object, only}
+use Rattle.campaign_scene.specs.Maps.{maps}
+use Rattle.campaign_file.specs.Seats.{seats}
+use Rattle.campaign_scene.specs.Tokens.{tokens}
+use Rattle.campaign_scene.specs.Types.{lights, sights}
+pub use Rattle.campaign_file.specs.Seats.{AreFreshFrom, IsFreshAt, IsOpening}
 
 abbrev pub campaign_keys : List (List ℕ)
 campaign_keys = codes "format" ∷ codes "lights" ∷ codes "sights" ∷ codes "maps" ∷ codes "seats" ∷ codes "tokens" ∷ []
+
+abbrev pub players_among : Option Items → ℕ
+players_among None = 0
+players_among (Some seats) = items_len seats - 1
+
+-- how many players a campaign has: they are counted before anything is read
+abbrev pub players_in : Data → ℕ
+players_in d = players_among (list_in (codes "seats") 1 33 d)
 
 unfoldable pub campaign : Data → Result World BadCampaign
 campaign d = do
   members ← object d
   format ← field (codes "format") (whole 1 1) d
-  lights ← field (codes "lights") empty_object d
-  sights ← field (codes "sights") empty_object d
-  maps ← field (codes "maps") empty_list d
-  books ← field (codes "seats") seats d
-  tokens ← field (codes "tokens") empty_list d
+  lit ← lights (bare (players_in d)) d
+  sighted ← sights lit d
+  mapped ← maps sighted d
+  books ← seats d
+  full ← tokens books mapped d
   no_others ← only campaign_keys d
-  Ok (opened books)
+  Ok (record { scene = full; books = books })
 
 -- the world that a campaign text opens with, or its first breach
 unfoldable pub campaign_of : List ℕ → Result World BadCampaign
 campaign_of bytes = needed Json (value_of bytes) >>= campaign
-
--- ---- what a campaign opens with
-
--- the book's seat is the one of this place, and nobody sat there yet
-pub record IsFreshAt (place : ℕ) (book : Book) : Type 0 where
-  pub seat : book.seat ≡ place
-  pub fresh : IsFresh book
-
--- fresh books, numbered from the place on
-abbrev pub AreFreshFrom : ℕ → List Book → Type 0
-AreFreshFrom place [] = Unit {0}
-AreFreshFrom place (book ∷ books) = IsFreshAt place book × AreFreshFrom (place + 1) books
-
--- 1 to 33 seats, the first of them the game master's, each numbered by its place
-pub record IsOpening (books : List Book) : Type 0 where
-  pub least : 1 ≤ length books
-  pub most : length books ≤ 33
-  pub fresh : AreFreshFrom 0 books

@@ -1,3 +1,3 @@
 pub mod Campaign
-pub mod Kinds
-pub mod Reading
+pub mod Playable
+pub mod Seats

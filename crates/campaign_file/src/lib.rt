@@ -5,17 +5,15 @@
 //! and the first breach is the answer, with its path (a JSON pointer, RFC 6901) and its rule. All else
 //! of the format is this project's own.
 //!
-//! Seats are read for now. Lights, sights, maps, tokens, and each seat's tags, macros and fog have to
-//! be empty.
+//! The macros of seats, and what is exposed to them, can't be read yet, and have to be empty.
 #![tactic(auto)]
 
-mod faults;
-mod fields;
-mod kinds;
+mod playable;
 mod root;
 mod seat;
 
-pub use faults::{BadCampaign, FileFault, Rule};
+pub use campaign_json::{BadCampaign, FileFault, Rule};
+pub use playable::is_playable;
 pub use root::read_campaign;
 
 #[cfg(test)]

@@ -1,18 +1,18 @@
 //! The campaign text whole.
-ghost use Rattle.std.specs.Prelude.{IfOk, codes};
+ghost use Rattle.std.specs.Prelude.{◌≡◌, ◌≤◌, IfOk};
 ghost use Rattle.serde_json.specs.View.{view};
 ghost use Rattle.json_fields.specs.Objects.{Gives};
-ghost use Rattle.campaign_file.specs.Reading.{Fails, field};
-ghost use Rattle.campaign_file.specs.Campaign.{campaign as campaign_lem, campaign_of, seats as seats_lem, IsOpening};
+ghost use Rattle.campaign_json.specs.Reading.{Fails};
+ghost use Rattle.campaign_file.specs.Campaign.{campaign as campaign_lem, campaign_of, players_in as players_in_lem, IsOpening};
 
-use crate::faults::{FileFault, Rule, broken};
-use crate::fields::{self, check_object, check_only};
 use crate::seat::read_seats;
+use campaign_json::fields::{self, check_object, check_only};
+use campaign_json::{FileFault, Rule, broken};
+use campaign_scene::{read_lights, read_maps, read_sights, read_tokens};
 use json_fields::{ReadFault, read_value};
-use seats::SeatBook;
 use serde_json::Value;
 use std::alloc::Global;
-use world::World;
+use world::{Scene, World};
 
 /// The keys of the whole.
 const CAMPAIGN_KEYS: [&str; 6] = ["format", "lights", "sights", "maps", "seats", "tokens"];
@@ -34,32 +34,31 @@ pub fn read_campaign(alloc: Global, text: &[u8]) -> Result<World, FileFault>
     }
 }
 
-#[tactic(auto, using(crate::proofs::Opening::opens), unfolding(crate::specs::Campaign::campaign))]
+#[tactic(auto, using(crate::proofs::Opening::is_world), unfolding(crate::specs::Campaign::campaign))]
 fn read_root(alloc: Global, value: &Value) -> Result<World, FileFault>
     ensures exact { Gives Fails (λ world. world) result (campaign_lem (view value.now)) }
     ensures opening { IfOk result (λ world. IsOpening world.books) }
 {
     check_object(alloc, value)?;
     fields::whole(alloc, value, "format", 1, 1)?;
-    fields::empty_object(alloc, value, "lights")?;
-    fields::empty_object(alloc, value, "sights")?;
-    fields::empty_list(alloc, value, "maps")?;
-    let books = seats_field(alloc, value)?;
-    fields::empty_list(alloc, value, "tokens")?;
+    let scene = Scene::open(alloc, players_in(value))?;
+    let scene = read_lights(alloc, value, scene)?;
+    let scene = read_sights(alloc, value, scene)?;
+    let scene = read_maps(alloc, value, scene)?;
+    let books = read_seats(alloc, value)?;
+    let scene = read_tokens(alloc, &books, value, scene)?;
     check_only(alloc, value, &CAMPAIGN_KEYS)?;
-    match World::open(alloc, books) {
-        Ok(world) => Ok(world),
-        Err(_) => Err(FileFault::Memory),
-    }
+    Ok(World::from_parts(scene, books))
 }
 
-fn seats_field(alloc: Global, value: &Value) -> Result<Vec<SeatBook>, FileFault>
-    ensures exact { Gives Fails (λ books. books.items) result
-        (field (codes "seats") seats_lem (view value.now)) }
-    ensures opening { IfOk result (λ books. IsOpening books.items) }
+/// How many players a campaign has, at most 32: none where its seats aren't a list of 1 to 33.
+#[tactic(auto, using(json_fields::proofs::Reading::items_len_view))]
+fn players_in(value: &Value) -> u8
+    ensures value { result ≡ players_in_lem (view value.now) }
+    ensures most { result ≤ 32 }
 {
-    match read_seats(alloc, fields::needed(alloc, value, "seats")?) {
-        Ok(books) => Ok(books),
-        Err(fault) => Err(fault.under_key(alloc, "seats")),
+    match json_fields::fields::list(value, "seats", 1, 33) {
+        Some(seats) => (seats.len() - 1) as u8,
+        None => 0,
     }
 }

@@ -7,6 +7,6 @@ use Rattle.script_play.proofs.AfterEntry.{since_is}
 use Rattle.script_play.proofs.run.enter_all.Goals as goal
 
 pub returns-in-Err-clause-stopped : goal.returns-in-Err-clause-stopped
-returns-in-Err-clause-stopped c =
+returns-in-Err-clause-stopped g c =
     let same : entries_since c.args.campaign.now c.step.new.self ≡ c.loop-entry.yielded = since_is c.args.campaign.now c.step.new.self c.loop-entry.yielded (ap (λ (x : Course). x.history) c.in-Err.ensures.unchanged ∙ c.loop-entry.invariant.history) in
     subst (λ es. IsPrefix es c.args.entries.items) (sym same) (record { rest = into_iter_items c.loop-entry.entry-iterator; is = sym c.loop-entry.invariant.whole })

@@ -3,7 +3,7 @@ use Rattle.std.specs.Vec.Iter.{into_iter_items}
 use Rattle.script_play.proofs.run.enter_all.Given as goal
 
 abbrev pub invariant-loop-entry : goal.invariant-loop-entry
-invariant-loop-entry l = record {
+invariant-loop-entry g l = record {
   origin : l.campaign.origin ≡ l.fn.campaign.origin;
   history : l.campaign.history ≡ l.fn.campaign.history ++ l.yielded;
   whole : l.yielded ++ into_iter_items l.entry-iterator ≡ l.fn.entries.items;

@@ -1,0 +1,4 @@
+pub mod Fog
+pub mod Maps
+pub mod Tokens
+pub mod Types

@@ -1,0 +1,245 @@
+//! Maps: their names, sizes, modes and letters.
+ghost use Rattle.std.specs.Prelude.{◌≡◌, ◌<◌, ◌≤◌, true, false, IfOk, IfErr, None, Some, codes, length};
+ghost use Rattle.std.specs.List.{list_all};
+ghost use Rattle.serde_json.specs.View.{view, items_view};
+ghost use Rattle.json_fields.specs.Objects.{Gives};
+ghost use Rattle.maps.specs.Letters.{is_letter as is_letter_lem};
+ghost use Rattle.maps.specs.MapFaults.{map_fault};
+ghost use Rattle.maps.specs.Maps.{has_map};
+ghost use Rattle.world.specs.Rules.{size_of};
+ghost use Rattle.campaign_json.specs.Reading.{Fails, here, under, each, field};
+ghost use Rattle.campaign_scene.specs.Maps.{frame, lettered, row as row_lem, row_letters as row_letters_lem, with_blank as with_blank_lem, rows as rows_lem, new_name as new_name_lem, blank_map as blank_map_lem, map as map_lem, maps as maps_lem};
+
+use crate::wall::read_walls;
+use campaign_json::fields::{self, check_object, check_only};
+use campaign_json::{FileFault, Rule, broken, broken_at, kinds};
+use cells::{Rect, Size};
+use maps::MAP_LIMIT;
+use names::{Mode, Tag, WallKind};
+use serde_json::Value;
+use std::alloc::Global;
+use world::Scene;
+
+/// The keys of a map.
+const MAP_KEYS: [&str; 8] = ["name", "w", "h", "mode", "shown", "rows", "vbl", "mbl"];
+
+/// A new map, without letters and walls, and the scene that has it.
+struct BlankMap {
+    scene: Scene,
+    name: Tag,
+    size: Size,
+}
+
+/// The scene with the maps of the campaign.
+#[tactic(auto, unfolding(crate::specs::Maps::maps))]
+pub fn read_maps(alloc: Global, value: &Value, scene: Scene) -> Result<Scene, FileFault>
+    ensures exact { Gives Fails (λ s. s) result (maps_lem scene (view value.now)) }
+    ensures players { IfOk result (λ s. s.fog.players ≡ scene.fog.players) }
+{
+    let values = fields::list(alloc, value, "maps", 0, 8)?;
+    each_map(alloc, values, scene)
+}
+
+fn each_map(alloc: Global, values: &[Value], mut scene: Scene) -> Result<Scene, FileFault>
+    ensures exact { Gives Fails (λ s. s) result
+        (under (codes "maps") (each (λ place. map_lem) 0 scene (items_view values.now))) }
+    ensures players { IfOk result (λ s. s.fog.players ≡ scene.fog.players) }
+{
+    for (place, value) in values.iter().enumerate() {
+        scene = match read_map(alloc, value, scene) {
+            Ok(next) => next,
+            Err(fault) => return Err(fault.under_item(alloc, "maps", place)),
+        };
+    }
+    Ok(scene)
+}
+
+#[tactic(auto, unfolding(crate::specs::Maps::map))]
+fn read_map(alloc: Global, value: &Value, scene: Scene) -> Result<Scene, FileFault>
+    ensures exact { Gives Fails (λ s. s) result (map_lem scene (view value.now)) }
+    ensures players { IfOk result (λ s. s.fog.players ≡ scene.fog.players) }
+{
+    let BlankMap { scene, name, size } = read_blank_map(alloc, value, scene)?;
+    let scene = read_rows(alloc, name, size, value, scene)?;
+    let scene = read_walls(alloc, name, WallKind::Vbl, value, scene)?;
+    let scene = read_walls(alloc, name, WallKind::Mbl, value, scene)?;
+    check_only(alloc, value, &MAP_KEYS)?;
+    Ok(scene)
+}
+
+#[tactic(auto, unfolding(crate::specs::Maps::blank_map))]
+fn read_blank_map(alloc: Global, value: &Value, scene: Scene) -> Result<BlankMap, FileFault>
+    ensures exact { Gives Fails (λ m. (m.scene, (m.name, m.size))) result (blank_map_lem scene (view value.now)) }
+    ensures players { IfOk result (λ m. m.scene.fog.players ≡ scene.fog.players) }
+    ensures size { IfOk result (λ m. size_of m.name m.scene.maps ≡ Some m.size) }
+{
+    check_object(alloc, value)?;
+    let name = new_name(alloc, value, &scene)?;
+    let w = fields::whole(alloc, value, "w", 1, 96)? as u8;
+    let h = fields::whole(alloc, value, "h", 1, 96)? as u8;
+    let mode = fields::mode(alloc, value, "mode")?;
+    let shown = fields::boolean(alloc, value, "shown")?;
+    let size = Size::new(w, h).unwrap();
+    let scene = with_blank(name, size, mode, shown, scene)?;
+    Ok(BlankMap { scene, name, size })
+}
+
+/// The scene with a new map, of a name that no map has, of that mode, shown or not.
+#[tactic(auto, using(crate::proofs::Maps::blank_size))]
+fn with_blank(
+    name: Tag,
+    size: Size,
+    mode: Mode,
+    shown: bool,
+    mut scene: Scene,
+) -> Result<Scene, FileFault>
+    requires { map_fault scene.maps name ≡ None }
+    ensures value { IfOk result (λ s. s ≡ with_blank_lem name size mode shown scene) }
+    ensures memory { IfErr result (λ fault. fault ≡ FileFault.Memory) }
+    ensures players { IfOk result (λ s. s.fog.players ≡ scene.fog.players) }
+    ensures size { IfOk result (λ s. size_of name s.maps ≡ Some size) }
+{
+    match scene.add_map(name, size) {
+        Ok(()) => {}
+        Err(_) => return Err(FileFault::Memory),
+    }
+    scene.set_mode(name, mode);
+    scene.set_shown(name, shown);
+    Ok(scene)
+}
+
+/// The name of a new map.
+fn new_name(alloc: Global, value: &Value, scene: &Scene) -> Result<Tag, FileFault>
+    ensures exact { Gives Fails (λ t. t) result (field (codes "name") (new_name_lem scene.now) (view value.now)) }
+    ensures room { IfOk result (λ t. map_fault scene.now.maps t ≡ None) }
+{
+    match checked_name(fields::needed(alloc, value, "name")?, scene) {
+        Ok(name) => Ok(name),
+        Err(rule) => Err(broken_at(alloc, "name", rule)),
+    }
+}
+
+#[tactic(auto, unfolding(crate::specs::Maps::new_name))]
+fn checked_name(value: &Value, scene: &Scene) -> Result<Tag, Rule>
+    ensures exact { here (λ t. t) result ≡ new_name_lem scene.now (view value.now) }
+    ensures room { IfOk result (λ t. map_fault scene.now.maps t ≡ None) }
+{
+    let name = kinds::tag(value)?;
+    if scene.maps().get(name).is_some() {
+        return Err(Rule::Twice);
+    }
+    if scene.maps().len() >= MAP_LIMIT {
+        return Err(Rule::Range);
+    }
+    Ok(name)
+}
+
+/// The scene with the letters of the map of that name, which is of that size.
+#[tactic(auto, unfolding(crate::specs::Maps::rows))]
+fn read_rows(
+    alloc: Global,
+    name: Tag,
+    size: Size,
+    value: &Value,
+    scene: Scene,
+) -> Result<Scene, FileFault>
+    requires { size_of name scene.maps ≡ Some size }
+    ensures exact { Gives Fails (λ s. s) result (rows_lem name size scene (view value.now)) }
+    ensures kept { IfOk result (λ s. frame name s ≡ frame name scene) }
+{
+    let rows = usize::from(size.h());
+    let values = fields::list(alloc, value, "rows", rows, rows)?;
+    each_row(alloc, name, size, values, scene)
+}
+
+fn each_row(
+    alloc: Global,
+    name: Tag,
+    size: Size,
+    values: &[Value],
+    mut scene: Scene,
+) -> Result<Scene, FileFault>
+    requires there { size_of name scene.maps ≡ Some size }
+    requires count { length values.now ≤ size.h }
+    ensures exact { Gives Fails (λ s. s) result
+        (under (codes "rows") (each (row_lem name size.w) 0 scene (items_view values.now))) }
+    ensures kept { IfOk result (λ s. frame name s ≡ frame name scene) }
+{
+    let _height = size.h();
+    for (place, value) in values.iter().enumerate() {
+        scene = match read_row(alloc, name, size, place as u8, value, scene) {
+            Ok(next) => next,
+            Err(fault) => return Err(fault.under_item(alloc, "rows", place)),
+        };
+    }
+    Ok(scene)
+}
+
+#[tactic(auto, unfolding(crate::specs::Maps::row))]
+fn read_row(
+    alloc: Global,
+    name: Tag,
+    size: Size,
+    y: u8,
+    value: &Value,
+    scene: Scene,
+) -> Result<Scene, FileFault>
+    requires there { size_of name scene.maps ≡ Some size }
+    requires row { y < size.h }
+    ensures exact { Gives Fails (λ s. s) result (row_lem name size.w y scene (view value.now)) }
+    ensures kept { IfOk result (λ s. frame name s ≡ frame name scene) }
+{
+    match row_letters(value, size) {
+        Ok(letters) => Ok(with_letters(name, size, y, letters, scene)),
+        Err(rule) => Err(broken(alloc, rule)),
+    }
+}
+
+/// The letters of a row.
+#[tactic(auto, unfolding(crate::specs::Maps::row_letters))]
+fn row_letters(value: &Value, size: Size) -> Result<&[u8], Rule>
+    ensures value { here (λ s. s.now) result ≡ row_letters_lem size.w (view value.now) }
+    ensures count { IfOk result (λ s. length s.now ≤ size.w) }
+    ensures good { IfOk result (λ s. list_all is_letter_lem s.now ≡ true) }
+{
+    let width = usize::from(size.w());
+    let letters = kinds::text(value, width, width)?.as_bytes();
+    if !are_letters(letters) {
+        return Err(Rule::Form);
+    }
+    Ok(letters)
+}
+
+fn are_letters(letters: &[u8]) -> bool
+    ensures { result ≡ list_all is_letter_lem letters.now }
+{
+    letters.iter().all(|letter| is_letter(*letter))
+}
+
+fn is_letter(letter: u8) -> bool
+    ensures { result ≡ is_letter_lem letter }
+{
+    matches!(letter, b'a'..=b'z' | b'.')
+}
+
+/// The scene with these letters in row `y` of the map of that name, which is of that size.
+fn with_letters(name: Tag, size: Size, y: u8, letters: &[u8], mut scene: Scene) -> Scene
+    requires there { size_of name scene.maps ≡ Some size }
+    requires row { y < size.h }
+    requires count { length letters.now ≤ size.w }
+    requires good { list_all is_letter_lem letters.now ≡ true }
+    ensures value { result ≡ lettered name y 0 scene letters.now }
+    ensures kept { frame name result ≡ frame name scene }
+{
+    let _width = size.w();
+    for (x, letter) in letters.iter().enumerate() {
+        let cell = Rect {
+            x: x as u8,
+            y,
+            w: 1,
+            h: 1,
+        };
+        scene.set_ground(name, cell, *letter);
+    }
+    scene
+}

@@ -1,0 +1,119 @@
+//! The types of lights and sights.
+ghost use Rattle.std.specs.Prelude.{◌≡◌, IfOk, codes};
+ghost use Rattle.serde_json.specs.View.{view, members_view};
+ghost use Rattle.json_fields.specs.Objects.{Gives};
+ghost use Rattle.campaign_json.specs.Reading.{Fails, needed, under, each_member};
+ghost use Rattle.names.specs.Tag.{tag_of};
+ghost use Rattle.campaign_scene.specs.Types.{light as light_lem, sight as sight_lem, lights as lights_lem, sights as sights_lem};
+
+use campaign_json::fields::{self, check_count};
+use campaign_json::{FileFault, Rule, broken, kinds};
+use lights::LightFault;
+use names::Tag;
+use serde_json::{Map, Value};
+use sight_types::SightFault;
+use std::alloc::Global;
+use world::Scene;
+
+/// How many types of a kind there are at most.
+const MOST_TYPES: usize = 32;
+
+/// The scene with the light types of the campaign.
+#[tactic(auto, unfolding(crate::specs::Types::lights))]
+pub fn read_lights(alloc: Global, value: &Value, scene: Scene) -> Result<Scene, FileFault>
+    ensures exact { Gives Fails (λ s. s) result (lights_lem scene (view value.now)) }
+    ensures players { IfOk result (λ s. s.fog.players ≡ scene.fog.players) }
+{
+    let members = fields::members(alloc, value, "lights", MOST_TYPES)?;
+    each_light(alloc, members, scene)
+}
+
+fn each_light(
+    alloc: Global,
+    members: &Map<String, Value>,
+    mut scene: Scene,
+) -> Result<Scene, FileFault>
+    ensures exact { Gives Fails (λ s. s) result
+        (under (codes "lights") (each_member light_lem scene (members_view members.now.entries))) }
+    ensures players { IfOk result (λ s. s.fog.players ≡ scene.fog.players) }
+{
+    for (key, value) in members {
+        scene = match read_light(alloc, key.as_str(), value, scene) {
+            Ok(next) => next,
+            Err(fault) => return Err(fault.under_member(alloc, "lights", key.as_str())),
+        };
+    }
+    Ok(scene)
+}
+
+#[tactic(auto, unfolding(crate::specs::Types::light))]
+fn read_light(alloc: Global, key: &str, value: &Value, mut scene: Scene) -> Result<Scene, FileFault>
+    ensures exact { Gives Fails (λ s. s) result (light_lem key.now scene (view value.now)) }
+    ensures players { IfOk result (λ s. s.fog.players ≡ scene.fog.players) }
+{
+    let name = type_name(alloc, key)?;
+    let radius = match kinds::whole(value, 1, 20) {
+        Ok(radius) => radius as u32,
+        Err(rule) => return Err(broken(alloc, rule)),
+    };
+    match scene.set_light_type(name, radius) {
+        Ok(()) => Ok(scene),
+        Err(LightFault::Memory) => Err(FileFault::Memory),
+        Err(_) => Err(broken(alloc, Rule::Range)),
+    }
+}
+
+/// The scene with the sight types of the campaign.
+#[tactic(auto, unfolding(crate::specs::Types::sights))]
+pub fn read_sights(alloc: Global, value: &Value, scene: Scene) -> Result<Scene, FileFault>
+    ensures exact { Gives Fails (λ s. s) result (sights_lem scene (view value.now)) }
+    ensures players { IfOk result (λ s. s.fog.players ≡ scene.fog.players) }
+{
+    let members = fields::members(alloc, value, "sights", MOST_TYPES)?;
+    each_sight(alloc, members, scene)
+}
+
+fn each_sight(
+    alloc: Global,
+    members: &Map<String, Value>,
+    mut scene: Scene,
+) -> Result<Scene, FileFault>
+    ensures exact { Gives Fails (λ s. s) result
+        (under (codes "sights") (each_member sight_lem scene (members_view members.now.entries))) }
+    ensures players { IfOk result (λ s. s.fog.players ≡ scene.fog.players) }
+{
+    for (key, value) in members {
+        scene = match read_sight(alloc, key.as_str(), value, scene) {
+            Ok(next) => next,
+            Err(fault) => return Err(fault.under_member(alloc, "sights", key.as_str())),
+        };
+    }
+    Ok(scene)
+}
+
+#[tactic(auto, unfolding(crate::specs::Types::sight))]
+fn read_sight(alloc: Global, key: &str, value: &Value, mut scene: Scene) -> Result<Scene, FileFault>
+    ensures exact { Gives Fails (λ s. s) result (sight_lem key.now scene (view value.now)) }
+    ensures players { IfOk result (λ s. s.fog.players ≡ scene.fog.players) }
+{
+    let name = type_name(alloc, key)?;
+    check_count(alloc, value, 3)?;
+    let range = fields::whole_item(alloc, value, 0, 0, 40)? as u32;
+    let night = fields::whole_item(alloc, value, 1, 0, 40)? as u32;
+    let mult = fields::whole_item(alloc, value, 2, 1, 4)? as u32;
+    match scene.set_sight_type(name, range, night, mult) {
+        Ok(()) => Ok(scene),
+        Err(SightFault::Memory) => Err(FileFault::Memory),
+        Err(_) => Err(broken(alloc, Rule::Range)),
+    }
+}
+
+/// The name of a type, which is a key.
+fn type_name(alloc: Global, key: &str) -> Result<Tag, FileFault>
+    ensures { Gives Fails (λ t. t) result (needed Rule.Form (tag_of key.now)) }
+{
+    match Tag::read(key.as_bytes()) {
+        Ok(name) => Ok(name),
+        Err(_) => Err(broken(alloc, Rule::Form)),
+    }
+}

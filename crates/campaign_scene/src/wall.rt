@@ -1,0 +1,126 @@
+//! Walls.
+ghost use Rattle.std.specs.Prelude.{◌≡◌, IfOk};
+ghost use Rattle.serde_json.specs.View.{view, items_view};
+ghost use Rattle.json_fields.specs.Objects.{Gives};
+ghost use Rattle.names.specs.Words.{wall_word};
+ghost use Rattle.campaign_json.specs.Reading.{Fails, under, each};
+ghost use Rattle.campaign_scene.specs.Maps.{IsWallBreach, point_on as point_on_lem, walled_at as walled_at_lem, wall as wall_lem, walls as walls_lem};
+
+use campaign_json::fields::{self, check_count};
+use campaign_json::kinds::up_to;
+use campaign_json::{FileFault, Rule, broken};
+use cells::Size;
+use lattice::Point;
+use names::{Tag, WallKind};
+use serde_json::Value;
+use std::alloc::Global;
+use topology::WallFault;
+use world::Scene;
+
+/// How many walls of a kind a map has at most.
+const MOST_WALLS: usize = 2048;
+
+/// The scene with the walls of that kind of the map of that name.
+#[tactic(auto, unfolding(crate::specs::Maps::walls))]
+pub(crate) fn read_walls(
+    alloc: Global,
+    name: Tag,
+    kind: WallKind,
+    value: &Value,
+    scene: Scene,
+) -> Result<Scene, FileFault>
+    ensures exact { Gives Fails (λ s. s) result (walls_lem name kind scene (view value.now)) }
+    ensures players { IfOk result (λ s. s.fog.players ≡ scene.fog.players) }
+{
+    let values = fields::list(alloc, value, kind.word(), 0, MOST_WALLS)?;
+    each_wall(alloc, name, kind, values, scene)
+}
+
+fn each_wall(
+    alloc: Global,
+    name: Tag,
+    kind: WallKind,
+    values: &[Value],
+    mut scene: Scene,
+) -> Result<Scene, FileFault>
+    ensures exact { Gives Fails (λ s. s) result
+        (under (wall_word kind) (each (λ place. wall_lem name kind) 0 scene (items_view values.now))) }
+    ensures players { IfOk result (λ s. s.fog.players ≡ scene.fog.players) }
+{
+    for (place, value) in values.iter().enumerate() {
+        scene = match read_wall(alloc, name, kind, value, scene) {
+            Ok(next) => next,
+            Err(fault) => return Err(fault.under_item(alloc, kind.word(), place)),
+        };
+    }
+    Ok(scene)
+}
+
+#[tactic(auto, unfolding(crate::specs::Maps::wall))]
+fn read_wall(
+    alloc: Global,
+    name: Tag,
+    kind: WallKind,
+    value: &Value,
+    scene: Scene,
+) -> Result<Scene, FileFault>
+    ensures exact { Gives Fails (λ s. s) result (wall_lem name kind scene (view value.now)) }
+    ensures players { IfOk result (λ s. s.fog.players ≡ scene.fog.players) }
+{
+    check_count(alloc, value, 4)?;
+    let ax = fields::integer_item(alloc, value, 0)?;
+    let ay = fields::integer_item(alloc, value, 1)?;
+    let bx = fields::integer_item(alloc, value, 2)?;
+    let by = fields::integer_item(alloc, value, 3)?;
+    walled_at(alloc, name, kind, (ax, ay), (bx, by), scene)
+}
+
+/// The scene with a wall between two points more.
+#[tactic(auto, unfolding(crate::specs::Maps::walled_at))]
+fn walled_at(
+    alloc: Global,
+    name: Tag,
+    kind: WallKind,
+    first: (i64, i64),
+    second: (i64, i64),
+    mut scene: Scene,
+) -> Result<Scene, FileFault>
+    ensures exact { Gives Fails (λ s. s) result (walled_at_lem name kind first second scene) }
+    ensures players { IfOk result (λ s. s.fog.players ≡ scene.fog.players) }
+{
+    let Some(grid) = scene.maps().get(name) else {
+        return Err(broken(alloc, Rule::Cross));
+    };
+    let size = grid.size();
+    let Some(a) = point_on(size, first) else {
+        return Err(broken(alloc, Rule::Cross));
+    };
+    let Some(b) = point_on(size, second) else {
+        return Err(broken(alloc, Rule::Cross));
+    };
+    match scene.add_wall(name, kind, a, b) {
+        Ok(()) => Ok(scene),
+        Err(fault) => Err(wall_breach(alloc, fault)),
+    }
+}
+
+/// The breach of a wall that isn't added.
+fn wall_breach(alloc: Global, fault: WallFault) -> FileFault
+    ensures { IsWallBreach fault result }
+{
+    match fault {
+        WallFault::OffMap | WallFault::DegenerateWall => broken(alloc, Rule::Cross),
+        WallFault::WallThere => broken(alloc, Rule::Twice),
+        WallFault::WallLimit => broken(alloc, Rule::Range),
+        WallFault::Memory => FileFault::Memory,
+    }
+}
+
+/// The point of a map of that size with these coordinates, which are half cells.
+fn point_on(size: Size, place: (i64, i64)) -> Option<Point>
+    ensures { result ≡ point_on_lem size place.0 place.1 }
+{
+    let x = up_to(place.0, 2 * size.w())?;
+    let y = up_to(place.1, 2 * size.h())?;
+    Some(Point::new(i32::from(x), i32::from(y)).unwrap())
+}
