@@ -1,6 +1,6 @@
 -- What an entry does to its own seat, from what it asks. A world and a player machine decide by the same definition.
 use Rattle.std.specs.Prelude.{ℕ, ◌+◌, ◌==◌, Bool, true, false, List, [], ◌∷◌, if◌then◌else◌, Option, Some, None, Result, Ok, Err, codes}
-use Rattle.seats.specs.Book.{Book, joined, left, counted, join_refusal, with_tag}
+use Rattle.seats.specs.Book.{Book, joined, left, counted, join_refusal}
 use Rattle.seats.specs.SeatState.{is_joined}
 use Rattle.seats.specs.declared.seat_state.JoinRefusal.{JoinRefusal}
 use Rattle.seats.specs.declared.seat_state.JoinRefusal.TheVariants as joins
@@ -15,6 +15,7 @@ use Rattle.command_rules.specs.declared.refusal.Refusal.TheVariants.{BadJson, Ba
 use Rattle.player_view.specs.Asked.{Asked}
 use Rattle.command_json.specs.Commands.{command_of}
 use Rattle.command_rules.specs.Rules.{rule_of}
+use Rattle.command_rules.specs.Tags.{tag_made, using_tag}
 use Rattle.chat.specs.declared.to.To.{To}
 use Rattle.chat.specs.Messages.{message_line}
 use Rattle.campaign_law.specs.Texts.{hello_line, ok_line, moved_line, refusal_line}
@@ -94,17 +95,6 @@ is_move c = false
 abbrev pub said : Command → Option (To × List ℕ)
 said (Say text to) = Some (to, text)
 said c = None
-
--- the tag of the token that a command makes
-abbrev pub tag_made : Command → Option (List ℕ)
-tag_made (Make tag map cell name) = Some tag
-tag_made (Token tag map cell name size layer) = Some tag
-tag_made c = None
-
--- the book once the tag is used
-abbrev pub using_tag : Option (List ℕ) → Book → Book
-using_tag None b = b
-using_tag (Some tag) b = with_tag b tag
 
 -- what an accepted command does to the book, the line being counted: a bye ends the session, and the tag of a made token is used
 abbrev pub book_done : Command → Book → Book
