@@ -6,3 +6,4 @@ pub mod GmAllowed
 pub mod Allowed
 pub mod GmCommands
 pub mod Unused
+pub mod Players
