@@ -1,4 +1,3 @@
 pub mod Openings
-pub mod Allowed
 pub mod Nexts
 pub mod Lines

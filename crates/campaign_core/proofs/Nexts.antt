@@ -4,16 +4,12 @@ use Rattle.std.specs.Prelude.{Option, Result, Ok, Err, IfOk}
 use Rattle.names.specs.declared.token_id.TokenId.{TokenId}
 use Rattle.tokens.specs.declared.token.Token.{Token}
 use Rattle.command_json.specs.declared.command.Command.{Command}
-use Rattle.command_json.specs.declared.command.Command.TheVariants.{Move, Setprop, Light, Make, Remove, Token as MakeToken}
 use Rattle.cells.specs.Cells.{Cells}
 use Rattle.player_view.specs.Fields.{HasFields}
 use Rattle.world.specs.Scene.{Scene}
-use Rattle.tokens.specs.Tokens.{put, has_token}
 use Rattle.command_rules.specs.Effects.{scene_by, steps_by, after_steps, own_token}
-use Rattle.command_rules.specs.GmEffects.{gm_scene_by}
-use Rattle.command_rules.specs.Making.{new_token, players_token, with_new}
-use Rattle.command_rules.specs.Places.{coordinate}
 use Rattle.command_rules.specs.Settle.{settled, IsSettled}
+use Rattle.command_rules.proofs.Players.{players_kept}
 use Rattle.campaign_law.specs.declared.entry.Entry.{Entry}
 use Rattle.campaign_law.specs.Outcome.{Outcome, outcome_at, seat_of}
 use Rattle.campaign_core.specs.declared.next.Changed.{Changed}
@@ -49,39 +45,13 @@ unfolding settled
 fields_stay s fields h = record { each = h.each }
 
 -- players stay
-steps_keep : (steps : ℕ) (id : TokenId) (path : List (ℤ × ℤ)) (o : Option Token) (s : Scene) → (after_steps steps id path o s).fog.players ≡ s.fog.players
-steps_keep steps id path None s = refl
-steps_keep steps id path (Some t) s = refl
-
-new_keeps : (t : Token) (s : Scene) → (with_new t s).fog.players ≡ s.fog.players
-new_keeps t s = by (has_token t.id s.tokens)
-  where
-    by : (b : Bool) → (cond b s (record s { tokens = put t s.tokens })).fog.players ≡ s.fog.players
-    by true = refl
-    by false = refl
-
-gm_keeps : (seat : ℕ) (s : Scene) (c : Command) → (gm_scene_by seat s c).fog.players ≡ s.fog.players
-unfolding gm_scene_by
-gm_keeps seat s (MakeToken tag map cell name size layer) = new_keeps (new_token seat tag map cell name (coordinate size) layer 0) s
-gm_keeps seat s _ = refl
-
-command_keeps : (steps seat : ℕ) (s : Scene) (c : Option Command) → (scene_by steps seat s c).fog.players ≡ s.fog.players
-unfolding scene_by
-command_keeps steps seat s None = refl
-command_keeps steps seat s (Some (Move token path)) = steps_keep steps token path (own_token s seat token) s
-command_keeps steps seat s (Some (Setprop token class name value)) = refl
-command_keeps steps seat s (Some (Light token light)) = refl
-command_keeps steps seat s (Some (Make tag map cell name)) = new_keeps (players_token seat tag map cell name) s
-command_keeps steps seat s (Some (Remove token)) = refl
-command_keeps steps seat s (Some c) = gm_keeps seat s c
-
 pub settled_keeps : (s : Scene) → (settled s).fog.players ≡ s.fog.players
 unfolding settled
 settled_keeps s = refl
 
 pub players_stay : (w : World) (e : Entry) → (scene_after w e).fog.players ≡ w.scene.fog.players
 unfolding scene_after
-players_stay w e = settled_keeps (scene_by (steps_of w e) (seat_of e) w.scene (outcome_of w e).done) ∙ command_keeps (steps_of w e) (seat_of e) w.scene (outcome_of w e).done
+players_stay w e = settled_keeps (scene_by (steps_of w e) (seat_of e) w.scene (outcome_of w e).done) ∙ players_kept (steps_of w e) (seat_of e) w.scene (outcome_of w e).done
 
 -- the scene that stands after the entry
 pub stands : (w : World) (e : Entry) (changed : Option Changed) → IsChanged w e changed → scene_in w.scene changed ≡ scene_after w e

@@ -3,7 +3,8 @@ ghost use Rattle.std.specs.Prelude.{◌≡◌, ◌<◌, ◌≤◌, ◌∷◌, []
 ghost use Rattle.seats.specs.Book.{join_refusal, left};
 ghost use Rattle.player_view.specs.Asked.{Asked};
 ghost use Rattle.command_json.specs.Commands.{command_of};
-ghost use Rattle.campaign_law.specs.Outcome.{nothing as nothing_lem, refused_direct as refused_direct_lem, refused_line as refused_line_lem, refusal_of_join as refusal_of_join_lem, join_outcome as join_outcome_lem, is_bye as is_bye_lem, is_look as is_look_lem, is_move as is_move_lem, tag_made as tag_made_lem, using_tag, dice_in, rolling, broken_rule as broken_rule_lem, said, book_done as book_done_lem, reply_name as reply_name_lem, reply_line as reply_line_lem, message_by as message_by_lem, accepted as accepted_lem, command_outcome as command_outcome_lem, refusal_of_line as refusal_of_line_lem, read_outcome as read_outcome_lem, outcome_at, absent_outcome as absent_outcome_lem, present_outcome as present_outcome_lem, seat_of as seat_of_lem, count_if_joined as count_if_joined_lem};
+ghost use Rattle.command_rules.specs.Tags.{tag_made, using_tag};
+ghost use Rattle.campaign_law.specs.Outcome.{nothing as nothing_lem, refused_direct as refused_direct_lem, refused_line as refused_line_lem, refusal_of_join as refusal_of_join_lem, join_outcome as join_outcome_lem, is_bye as is_bye_lem, is_look as is_look_lem, is_move as is_move_lem, dice_in, rolling, broken_rule as broken_rule_lem, said, book_done as book_done_lem, reply_name as reply_name_lem, reply_line as reply_line_lem, message_by as message_by_lem, accepted as accepted_lem, command_outcome as command_outcome_lem, refusal_of_line as refusal_of_line_lem, read_outcome as read_outcome_lem, outcome_at, absent_outcome as absent_outcome_lem, present_outcome as present_outcome_lem, seat_of as seat_of_lem, count_if_joined as count_if_joined_lem};
 ghost use Rattle.campaign_law.specs.World.{asked_of, steps_of as steps_of_lem, outcome_of, seat_at};
 ghost use Rattle.campaign_law.specs.State.{world_in};
 
@@ -12,7 +13,7 @@ use crate::state::State;
 use crate::texts::{hello_line, moved_line, ok_line, refusal_line};
 use chat::{To, message_line};
 use campaign_law::Entry;
-use command_rules::{Refusal, rule_of, steps_by};
+use command_rules::{Refusal, rule_of, steps_by, use_made_tag};
 use command_json::{Command, LineFault, read_line};
 use names::{LineText, Memory, SeatNo, Tag};
 use seats::{JoinRefusal, SeatBook};
@@ -171,33 +172,15 @@ fn is_move(command: &Command) -> bool
     matches!(command, Command::Move { .. })
 }
 
-/// The tag of the token that a command makes.
-fn tag_made(command: &Command) -> Option<Tag>
-    ensures { result ≡ tag_made_lem command.now }
-{
-    match command {
-        Command::Make { tag, .. } => Some(*tag),
-        Command::Token { tag, .. } => Some(*tag),
-        _ => None,
-    }
-}
-
-/// What an accepted command does to the book, the line being counted and its dice being rolled. That the tag may be
-/// used is one of the rules, so memory alone can want.
+/// What an accepted command does to the book, the line being counted and its dice being rolled.
 fn change_book(command: &Command, book: &mut SeatBook) -> Result<(), Memory>
-    ensures { OnOk result (book.new ≡ (if is_bye_lem command.now then left book.old else using_tag (tag_made_lem command.now) book.old)) }
+    ensures { OnOk result (book.new ≡ (if is_bye_lem command.now then left book.old else using_tag (tag_made command.now) book.old)) }
 {
     if is_bye(command) {
         book.leave();
         return Ok(());
     }
-    match tag_made(command) {
-        Some(tag) => match book.use_tag(tag) {
-            Ok(()) => Ok(()),
-            Err(_) => Err(Memory),
-        },
-        None => Ok(()),
-    }
+    use_made_tag(book, command)
 }
 
 /// The name of an accepted command in its reply.

@@ -9,3 +9,4 @@ pub mod Sessions
 pub mod States
 pub mod OneLines
 pub mod Refused
+pub mod Allowed

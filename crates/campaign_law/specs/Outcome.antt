@@ -7,7 +7,7 @@ use Rattle.dice_parse.specs.declared.texts.DiceFault.{DiceFault}
 use Rattle.dice_parse.specs.declared.texts.DiceFault.TheVariants as dice_faults
 use Rattle.dice_parse.specs.Answers.{dice_of}
 use Rattle.dice_roll.specs.Rolling.{total_of, words_used}
-use Rattle.seats.specs.Book.{Book, joined, left, counted, join_refusal, with_tag, stream_of, with_stream}
+use Rattle.seats.specs.Book.{Book, joined, left, counted, join_refusal, stream_of, with_stream}
 use Rattle.seats.specs.SeatState.{is_joined}
 use Rattle.seats.specs.declared.seat_state.JoinRefusal.{JoinRefusal}
 use Rattle.seats.specs.declared.seat_state.JoinRefusal.TheVariants as joins
@@ -23,6 +23,7 @@ use Rattle.player_view.specs.Asked.{Asked}
 use Rattle.command_json.specs.Commands.{command_of}
 use Rattle.command_rules.specs.Rules.{rule_of}
 use Rattle.command_rules.specs.GmRules.{then_rule}
+use Rattle.command_rules.specs.Tags.{tag_made, using_tag}
 use Rattle.chat.specs.declared.to.To.{To}
 use Rattle.chat.specs.Messages.{message_line}
 use Rattle.campaign_law.specs.Texts.{hello_line, ok_line, moved_line, refusal_line}
@@ -140,17 +141,6 @@ with_total (Some dice) b words = option_map (λ said. (said.0, rolled dice b)) w
 -- what a command of the book's seat says, and to whom
 abbrev pub said : Book → Command → Option (To × List ℕ)
 said b c = with_total (dice_in c) b (words_in c)
-
--- the tag of the token that a command makes
-abbrev pub tag_made : Command → Option (List ℕ)
-tag_made (Make tag map cell name) = Some tag
-tag_made (Token tag map cell name size layer) = Some tag
-tag_made c = None
-
--- the book once the tag is used
-abbrev pub using_tag : Option (List ℕ) → Book → Book
-using_tag None b = b
-using_tag (Some tag) b = with_tag b tag
 
 -- what an accepted command does to the book, the line being counted: a bye ends the session, a roll draws words, and the tag
 -- of a made token is used

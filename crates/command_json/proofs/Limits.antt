@@ -1,6 +1,6 @@
 -- A command that was read keeps its limits.
-use Rattle.std.proofs.Common.{◌≡◌, ◌≢◌, ℕ, ◌≤◌, Bool, true, false, cond, ◌&&◌, ◌||◌, eqb, List, [], ◌∷◌, length, Some, None, refl, sym, ◌∙◌, ap, subst, arith, ℤ, pos, negsuc}
-use Rattle.std.specs.Prelude.{Option, Result, Ok, Err, nat_le, int_le, option_and_then, option_map, IfOk, codes}
+use Rattle.std.proofs.Common.{◌≡◌, ◌≢◌, ℕ, ◌≤◌, Bool, true, false, cond, ◌&&◌, ◌||◌, eqb, List, [], ◌∷◌, length, Some, None, refl, subst, arith, ℤ, pos, negsuc}
+use Rattle.std.specs.Prelude.{Option, Result, Ok, Err, nat_le, option_and_then, option_map, IfOk, codes}
 use Rattle.std.specs.Option.{option_zip}
 use Rattle.std.specs.Char.{is_ascii_lowercase}
 use Rattle.std.specs.Str.{bytes_eq}
@@ -13,7 +13,7 @@ use Rattle.names.specs.declared.kinds.PropClass.TheVariants.{Public, Own as OwnC
 use Rattle.names.specs.declared.kinds.Layer.TheVariants.{Token}
 use Rattle.chat.specs.declared.to.To.TheVariants.{All}
 use Rattle.names.specs.Words.{class_of, class_word}
-use Rattle.json_fields.specs.Kinds.{tag_from, id_from, mode_from, layer_from, wall_kind_from, or_null, within, whole_from, between, integer_from, integer_of, sized, text_from, class_from, has_items, item_in, rectangle_from}
+use Rattle.json_fields.specs.Kinds.{tag_from, id_from, mode_from, layer_from, wall_kind_from, or_null, within, whole_from, between, integer_from, integer_of, sized, text_from, class_from, has_items, item_in}
 use Rattle.json_fields.specs.Fields.{field_in, field_or, kind_or, word_in, unknown_in}
 use Rattle.json_fields.specs.Values.{value_of}
 use Rattle.json_fields.specs.Objects.{needed, unless_unknown, ◌>>=◌, Gives}

@@ -1,7 +1,6 @@
 -- What the numbers and texts of a command keep to, by the table of commands.
 use Rattle.std.specs.Prelude.{◌≡◌, ◌≢◌, ◌≤◌, ℕ, ◌||◌, ◌==◌, true, length, ℤ, pos, negsuc, List}
 use Rattle.std.specs.Char.{is_ascii_lowercase}
-use Rattle.names.specs.declared.kinds.PropClass.{PropClass}
 use Rattle.names.specs.declared.kinds.PropClass.TheVariants.{Secret as SecretClass}
 use Rattle.command_json.specs.declared.command.Command.{Command}
 use Rattle.command_json.specs.declared.command.Command.TheVariants as C

@@ -3,17 +3,14 @@ use Rattle.std.proofs.Common.{◌≡◌, ◌≢◌, ◌≤◌, ℕ, Bool, true, 
 use Rattle.std.specs.Prelude.{Option, option_map, is_some, nat_le}
 use Rattle.std.specs.List.{find, list_any}
 use Rattle.std.specs.Str.{bytes_eq}
-use Rattle.std.specs.FinMap.Entries.{find as find_entry}
 use Rattle.std.proofs.lemmas.Bool.{and_from, and_parts}
 use Rattle.std.proofs.lemmas.Bool.Decides.{nat_tests}
 use Rattle.std.proofs.lemmas.Map.Text.{is_eq-slice_cmp}
 use Rattle.std.proofs.lemmas.Slice.Eq.{bytes_eq-Decides}
-use Rattle.names.specs.Tag.{tag_cmp}
 use Rattle.names.specs.declared.kinds.PropClass.{PropClass}
 use Rattle.names.specs.declared.kinds.PropClass.TheVariants.{Public, Own as OwnClass, Secret as SecretClass}
 use Rattle.names.specs.declared.token_id.TokenId.{TokenId}
 use Rattle.cells.specs.Cells.{has}
-use Rattle.cells.specs.declared.cell.Cell.{Cell}
 use Rattle.seats.specs.Book.{tag_used, tags_spent}
 use Rattle.maps.specs.Maps.{Grid, map_of, has_name, in_order as maps_in_order}
 use Rattle.tokens.specs.declared.token.Token.{Token}
@@ -23,15 +20,13 @@ use Rattle.tokens.specs.Owners.{with_owner}
 use Rattle.type_table.specs.Types.{type_of}
 use Rattle.command_json.specs.declared.command.Command.TheVariants.{Setprop, Light, Make}
 use Rattle.world.specs.Scene.{Scene}
-use Rattle.world.specs.Rules.{size_of, is_known, is_player, are_players, belongs, fits, fits_on}
+use Rattle.world.specs.Rules.{is_known, is_player, are_players, belongs, fits, fits_on}
 use Rattle.world.proofs.TokenRules.{players_with}
 use Rattle.player_view.specs.View.{is_gm, has_map}
 use Rattle.player_view.specs.Asked.{Known, asked_of, mine_of, known_of}
-use Rattle.command_rules.specs.declared.refusal.Refusal.{Refusal}
 use Rattle.command_rules.specs.declared.refusal.Refusal.TheVariants.{OffMap, TagUsed, TagsSpent, NotExposed, PlayersOnly, UnknownLight}
 use Rattle.command_rules.specs.Places.{fits_at, cell_at}
-use Rattle.command_rules.specs.Rules.{props_by, setprop_rule, type_rule, light_rule, cell_rule, make_on, make_rule, rule_of}
-use Rattle.command_rules.specs.GmRules.{room_rule}
+use Rattle.command_rules.specs.Rules.{setprop_rule, type_rule, light_rule, cell_rule, make_on, rule_of}
 use Rattle.command_rules.specs.Effects.{own_token}
 use Rattle.command_rules.specs.Allowed.{IsAllowed, MaySet, MayStand}
 use Rattle.command_rules.proofs.Unique.{found_passes}

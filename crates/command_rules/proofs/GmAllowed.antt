@@ -1,16 +1,12 @@
 -- What a game master's command that breaks no rule may rely on.
-use Rattle.std.proofs.Common.{◌≡◌, ℕ, Bool, true, false, cond, ◌&&◌, eqb, List, Some, None, refl, sym, ap, subst, arith, ℤ}
+use Rattle.std.proofs.Common.{◌≡◌, ℕ, Bool, true, false, cond, eqb, List, Some, None, refl, sym, ap, subst, arith, ℤ}
 use Rattle.std.specs.Prelude.{Option, option_map, is_some, IfSome, nat_le}
 use Rattle.std.proofs.lemmas.Bool.{and_parts, and_from}
 use Rattle.std.proofs.lemmas.Bool.Decides.{nat_tests}
 use Rattle.names.specs.declared.kinds.WallKind.{WallKind}
 use Rattle.names.specs.declared.kinds.PropClass.TheVariants.{Secret as SecretClass}
 use Rattle.names.specs.declared.token_id.TokenId.{TokenId}
-use Rattle.seats.specs.Book.{tag_used, tags_spent}
 use Rattle.maps.specs.Maps.{Grid, map_of, has_map}
-use Rattle.maps.specs.MapFaults.{map_fault}
-use Rattle.lights.specs.Lights.{light_fault}
-use Rattle.sight_types.specs.Sights.{sight_fault}
 use Rattle.tokens.specs.declared.token.Token.{Token}
 use Rattle.tokens.specs.Tokens.{token_of, has_token}
 use Rattle.tokens.specs.Properties.{is_full_for}
@@ -22,8 +18,8 @@ use Rattle.world.specs.Scene.{Scene}
 use Rattle.world.specs.Rules.{size_of, is_player, is_known}
 use Rattle.player_view.specs.View.{is_gm}
 use Rattle.command_rules.specs.declared.refusal.Refusal.{Refusal}
-use Rattle.command_rules.specs.declared.refusal.Refusal.TheVariants.{GmOnly, OffMap, NoSuchMap, NoSuchToken, NoSuchSeat, NotAPlayer, IdUsed, TokenLimit, NoSuchWall, UnknownSight, PropertyLimit}
-use Rattle.command_rules.specs.Places.{Numbers, coordinate, fits_at, rect_fits, point_at, point_fits}
+use Rattle.command_rules.specs.declared.refusal.Refusal.TheVariants.{OffMap, NoSuchSeat, NotAPlayer, NoSuchWall, UnknownSight, PropertyLimit}
+use Rattle.command_rules.specs.Places.{Numbers, point_at, point_fits}
 use Rattle.command_rules.specs.GmRules.{map_rule, token_rule, player_rule, then_rule, unless, rect_rule, square_rule, ends_fit, wall_rule, unwall_rule, tag_rule, new_token_rule, room_rule, gm_rule, of_wall_fault}
 use Rattle.command_rules.specs.Rules.{by_scene}
 use Rattle.command_rules.specs.Allowed.{MayStand, MayPlace, MaySet, MayFill, MayWall}

@@ -5,3 +5,4 @@ pub mod Settling
 pub mod GmAllowed
 pub mod Allowed
 pub mod GmCommands
+pub mod Players

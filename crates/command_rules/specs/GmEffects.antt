@@ -1,5 +1,5 @@
 -- What an accepted command of the game master does to the scene.
-use Rattle.std.specs.Prelude.{ℕ, Bool, true, false, List, Some, ℤ}
+use Rattle.std.specs.Prelude.{ℕ, Bool, true, false, List, ℤ}
 use Rattle.names.specs.declared.kinds.PropClass.TheVariants.{Secret as SecretClass}
 use Rattle.fog_book.specs.Exposures.{with_change}
 use Rattle.fog_book.specs.Rects.{with_rect}

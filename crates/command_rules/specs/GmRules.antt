@@ -11,7 +11,6 @@ use Rattle.maps.specs.MapFaults.{map_fault}
 use Rattle.maps.specs.declared.map_table.MapFault.{MapFault}
 use Rattle.maps.specs.declared.map_table.MapFault.TheVariants as map_faults
 use Rattle.names.specs.declared.kinds.WallKind.{WallKind}
-use Rattle.names.specs.declared.token_id.TokenId.{TokenId}
 use Rattle.seats.specs.Book.{tag_used, tags_spent}
 use Rattle.tokens.specs.Properties.{Property, is_full_for}
 use Rattle.tokens.specs.Tokens.{token_of}

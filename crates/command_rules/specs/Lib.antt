@@ -4,6 +4,7 @@ pub mod Rules
 pub mod Making
 pub mod GmEffects
 pub mod Effects
+pub mod Tags
 pub mod Settle
 pub mod Allowed
 pub mod Seen

@@ -14,7 +14,7 @@ use Rattle.player_view.specs.View.{is_gm}
 use Rattle.player_view.specs.Asked.{Asked, Mine, Known}
 use Rattle.world.specs.Scene.{Scene}
 use Rattle.command_rules.specs.declared.refusal.Refusal.{Refusal}
-use Rattle.command_rules.specs.declared.refusal.Refusal.TheVariants.{GmOnly, NotYours, NotMaker, MapNotShown, OffMap, BadPath, TagUsed, TagsSpent, NotExposed, UnknownLight, NoSuchSeat, PropertyLimit, SeatTaken, NoSuchToken, PlayersOnly}
+use Rattle.command_rules.specs.declared.refusal.Refusal.TheVariants.{GmOnly, NotYours, NotMaker, MapNotShown, OffMap, BadPath, TagUsed, TagsSpent, NotExposed, UnknownLight, NoSuchSeat, SeatTaken, NoSuchToken, PlayersOnly}
 use Rattle.command_rules.specs.Places.{fits_at, cell_at, are_king_steps}
 use Rattle.command_rules.specs.GmRules.{room_rule, gm_rule}
 

@@ -9,8 +9,10 @@ mod places;
 mod refusal;
 mod rules;
 mod sight;
+mod tags;
 
 pub use effects::{scene_by, steps_by};
 pub use refusal::Refusal;
 pub use rules::rule_of;
 pub use sight::settle;
+pub use tags::use_made_tag;

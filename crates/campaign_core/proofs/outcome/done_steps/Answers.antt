@@ -4,7 +4,7 @@ use Rattle.command_rules.specs.Allowed.{IsAllowed}
 use Rattle.command_rules.specs.Effects.{steps_by}
 use Rattle.campaign_law.specs.Outcome.{Outcome}
 use Rattle.campaign_law.specs.State.{world_in}
-use Rattle.campaign_core.proofs.Allowed.{allowed}
+use Rattle.campaign_law.proofs.Allowed.{allowed}
 use Rattle.campaign_core.proofs.Nexts.{no_steps, steps_are}
 use Rattle.campaign_core.proofs.outcome.done_steps.Goals as goal
 
