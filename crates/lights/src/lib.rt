@@ -92,6 +92,19 @@ impl LightTable {
         self.types.at(place)
     }
 
+    /// The first check that a light type to be set breaks: the fault that `set` gives, where it has memory.
+    pub fn broken_check(&self, name: Tag, radius: u32) -> Option<LightFault>
+        ensures { result ≡ light_fault self.now name radius }
+    {
+        if radius_of(radius).is_none() {
+            Some(LightFault::BadRadius)
+        } else if self.types.lacks_room(name) {
+            Some(LightFault::TypeLimit)
+        } else {
+            None
+        }
+    }
+
     /// Adds the light type with this name, or changes its radius. All other types stay.
     ///
     /// The checks are made in the order of `LightFault`; after a fault the light types are as before.
