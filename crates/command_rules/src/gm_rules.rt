@@ -67,7 +67,7 @@ fn of_sight_fault(fault: SightFault) -> Refusal
 fn new_map_rule(scene: &Scene, name: Tag) -> Option<Refusal>
     ensures { result ≡ option_map of_map_fault_lem (map_fault scene.now.maps name) }
 {
-    match scene.maps().fault_of(name) {
+    match scene.maps().broken_check(name) {
         Some(fault) => Some(of_map_fault(fault)),
         None => None,
     }
@@ -117,7 +117,7 @@ fn new_wall_rule(walls: &Walls, kind: WallKind, a: (i32, i32), b: (i32, i32)) ->
         return Some(Refusal::OffMap);
     }
     let size = walls.size();
-    match walls.fault_of(kind, point_at(size, a), point_at(size, b)) {
+    match walls.broken_check(kind, point_at(size, a), point_at(size, b)) {
         Some(fault) => Some(of_wall_fault(fault)),
         None => None,
     }
@@ -146,7 +146,7 @@ fn old_wall_rule(walls: &Walls, kind: WallKind, a: (i32, i32), b: (i32, i32)) ->
         return Some(Refusal::NoSuchWall);
     }
     let size = walls.size();
-    if walls.has_wall(kind, point_at(size, a), point_at(size, b)) {
+    if walls.has(kind, point_at(size, a), point_at(size, b)) {
         None
     } else {
         Some(Refusal::NoSuchWall)
@@ -173,7 +173,7 @@ fn unwall_rule(
 fn light_type_rule(scene: &Scene, name: Tag, radius: i32) -> Option<Refusal>
     ensures { result ≡ option_map of_light_fault_lem (light_fault scene.now.lights name (coordinate_lem radius)) }
 {
-    match scene.lights().fault_of(name, coordinate(radius)) {
+    match scene.lights().broken_check(name, coordinate(radius)) {
         Some(fault) => Some(of_light_fault(fault)),
         None => None,
     }
@@ -183,7 +183,7 @@ fn sight_type_rule(scene: &Scene, name: Tag, range: i32, night: i32, mult: i32) 
     ensures { result ≡ option_map of_sight_fault_lem (sight_fault scene.now.sights name (coordinate_lem range) (coordinate_lem night) (coordinate_lem mult)) }
 {
     let sights = scene.sights();
-    match sights.fault_of(name, coordinate(range), coordinate(night), coordinate(mult)) {
+    match sights.broken_check(name, coordinate(range), coordinate(night), coordinate(mult)) {
         Some(fault) => Some(of_sight_fault(fault)),
         None => None,
     }

@@ -92,6 +92,19 @@ impl LightTable {
         self.types.at(place)
     }
 
+    /// The first check that a light type to be set breaks: the fault that `set` gives, where it has memory.
+    pub fn broken_check(&self, name: Tag, radius: u32) -> Option<LightFault>
+        ensures { result ≡ light_fault self.now name radius }
+    {
+        if radius_of(radius).is_none() {
+            Some(LightFault::BadRadius)
+        } else if self.types.lacks_room(name) {
+            Some(LightFault::TypeLimit)
+        } else {
+            None
+        }
+    }
+
     /// Adds the light type with this name, or changes its radius. All other types stay.
     ///
     /// The checks are made in the order of `LightFault`; after a fault the light types are as before.
@@ -108,21 +121,6 @@ impl LightTable {
             Ok(()) => Ok(()),
             Err(TypeFault::TypeLimit) => Err(LightFault::TypeLimit),
             Err(TypeFault::Memory) => Err(LightFault::Memory),
-        }
-    }
-}
-
-impl LightTable {
-    /// The first check that a light type to be set would break.
-    pub fn fault_of(&self, name: Tag, radius: u32) -> Option<LightFault>
-        ensures { result ≡ light_fault self.now name radius }
-    {
-        if radius_of(radius).is_none() {
-            Some(LightFault::BadRadius)
-        } else if self.types.lacks_room(name) {
-            Some(LightFault::TypeLimit)
-        } else {
-            None
         }
     }
 }

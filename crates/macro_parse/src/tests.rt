@@ -2,19 +2,41 @@
 
 use crate::{MacroParseFault, Node, read_macro};
 
+/// Each text with the number of its pieces, or with the fault that it has.
+#[test]
+fn texts_and_what_is_read_of_them(rt: HostRuntime) {
+    let rows = [
+        ("", Ok(0)),
+        ("]", Err(MacroParseFault::MacroSyntax { at: 0 })),
+        ("[1d20]", Err(MacroParseFault::MacroSyntax { at: 1 })),
+        ("[r: ]", Err(MacroParseFault::MacroSyntax { at: 4 })),
+        ("[r: 1", Err(MacroParseFault::MacroSyntax { at: 5 })),
+        ("\\x", Err(MacroParseFault::MacroSyntax { at: 1 })),
+        ("[r: 101d6]", Err(MacroParseFault::DiceLimit)),
+        ("[r: 1; 2]", Err(MacroParseFault::MacroSyntax { at: 5 })),
+        ("[if(1): 1; 2]", Ok(1)),
+        (
+            "[r: ((((((((((((((((((((((((((((((((1))))))))))))))))))))))))))))))))]",
+            Ok(1),
+        ),
+        (
+            "[r: (((((((((((((((((((((((((((((((((1)))))))))))))))))))))))))))))))))]",
+            Err(MacroParseFault::MacroSyntax { at: 36 }),
+        ),
+    ];
+    for (text, wanted) in rows {
+        let found = match read_macro(rt.alloc(), text) {
+            Ok(read) => Ok(read.pieces().len()),
+            Err(fault) => Err(fault),
+        };
+        assert!(rt; found == wanted, "{text}");
+    }
+}
+
+/// Further texts off the grammar, each with the place where it leaves it.
 #[test]
 fn places_where_texts_leave_the_grammar(rt: HostRuntime) {
     let rows = [
-        ("]", 0),
-        ("[1d20]", 1),
-        ("[r: ]", 4),
-        ("[r: 1", 5),
-        ("\\x", 1),
-        ("[r: 1; 2]", 5),
-        (
-            "[r: (((((((((((((((((((((((((((((((((1)))))))))))))))))))))))))))))))))]",
-            36,
-        ),
         ("[r: ---------------------------------1]", 36),
         (
             "[r: abs(abs(abs(abs(abs(abs(abs(abs(abs(abs(abs(abs(abs(abs(abs(abs(abs(abs(abs(abs(abs(abs(abs(abs(abs(abs(abs(abs(abs(abs(abs(abs(abs(1)))))))))))))))))))))))))))))))))]",
@@ -52,37 +74,28 @@ fn places_where_texts_leave_the_grammar(rt: HostRuntime) {
     }
 }
 
-#[test]
-fn texts_with_dice_off_their_limits(rt: HostRuntime) {
-    let rows = [
-        "[r: 101d6]",
-        "[w(0d6): 1]",
-        "[count(1d1001): 1]",
-        "[if(1): 1; x = -(2 * 1d0)]",
-    ];
-    for text in rows {
-        let limit = matches!(
-            read_macro(rt.alloc(), text),
-            Err(MacroParseFault::DiceLimit)
-        );
-        assert!(rt; limit, "{text}");
-    }
-}
-
+/// Further texts of the grammar, and whether their dice are within the limits.
 #[test]
 fn texts_of_the_grammar(rt: HostRuntime) {
     let rows = [
-        "",
-        "plain \\[é\\] text",
-        "[if(1): 1; 2]",
-        "[r: ((((((((((((((((((((((((((((((((1))))))))))))))))))))))))))))))))]",
-        "[r: --------------------------------argc()]",
-        "[ w( 1 ) , count(2) : x = \"a\\\"b\" + prop(\"1:ann\", hp) ] and [h: min == 3 || !a && 2*3%4/5 != 6]",
-        "[gs: 4d6er1k3 >= 10]",
+        ("plain \\[é\\] text", true),
+        ("[r: --------------------------------argc()]", true),
+        (
+            "[ w( 1 ) , count(2) : x = \"a\\\"b\" + prop(\"1:ann\", hp) ] and [h: min == 3 || !a && 2*3%4/5 != 6]",
+            true,
+        ),
+        ("[gs: 4d6er1k3 >= 10]", true),
+        ("[w(0d6): 1]", false),
+        ("[count(1d1001): 1]", false),
+        ("[if(1): 1; x = -(2 * 1d0)]", false),
     ];
-    for text in rows {
-        let read = read_macro(rt.alloc(), text).is_ok();
-        assert!(rt; read, "{text}");
+    for (text, within) in rows {
+        let found = match read_macro(rt.alloc(), text) {
+            Ok(_) => Some(true),
+            Err(MacroParseFault::DiceLimit) => Some(false),
+            Err(_) => None,
+        };
+        assert!(rt; found == Some(within), "{text}");
     }
 }
 

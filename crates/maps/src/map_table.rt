@@ -96,6 +96,13 @@ impl MapTable {
         find_map(&self.maps, name)
     }
 
+    /// The first check that a new map of that name breaks: the fault that `add` gives, where it has memory.
+    pub fn broken_check(&self, name: Tag) -> Option<MapFault>
+        ensures { result ≡ map_fault self.now name }
+    {
+        broken_check(&self.maps, name)
+    }
+
     /// Adds a map in mode day, which isn't shown, with all letters `.` and no walls.
     ///
     /// The checks are made in the order of `MapFault`; after a fault the table is as before.
@@ -279,14 +286,5 @@ fn push_map(maps: &mut Vec<GridMap>, map: GridMap) -> Result<(), Memory>
     match maps.push(map) {
         Ok(()) => Ok(()),
         Err(_) => Err(Memory),
-    }
-}
-
-impl MapTable {
-    /// The first check that a new map of that name would break.
-    pub fn fault_of(&self, name: Tag) -> Option<MapFault>
-        ensures { result ≡ map_fault self.now name }
-    {
-        broken_check(&self.maps, name)
     }
 }

@@ -211,8 +211,8 @@ impl SeatBook {
         self.tags.contains(&tag)
     }
 
-    /// Whether the seat has used all the tags that it may.
-    fn tags_spent(&self) -> bool
+    /// Whether the seat has used all the tags that it may: 2,048 for seat 0, and 16 for another.
+    pub fn tags_spent(&self) -> bool
         ensures { result ≡ tags_spent_lem self.now.seat self.now.tags }
     {
         let limit = if self.seat.number() == 0 {

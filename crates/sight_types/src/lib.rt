@@ -108,6 +108,19 @@ impl SightTable {
         self.types.at(place)
     }
 
+    /// The first check that a sight type to be set breaks: the fault that `set` gives, where it has memory.
+    pub fn broken_check(&self, name: Tag, range: u32, night: u32, mult: u32) -> Option<SightFault>
+        ensures { result ≡ sight_fault self.now name range night mult }
+    {
+        if sight_of(range, night, mult).is_none() {
+            Some(SightFault::BadRange)
+        } else if self.types.lacks_room(name) {
+            Some(SightFault::TypeLimit)
+        } else {
+            None
+        }
+    }
+
     /// Adds the sight type with this name, or changes its sight. All other types stay.
     ///
     /// The checks are made in the order of `SightFault`; after a fault the sight types are as before.
@@ -124,21 +137,6 @@ impl SightTable {
             Ok(()) => Ok(()),
             Err(TypeFault::TypeLimit) => Err(SightFault::TypeLimit),
             Err(TypeFault::Memory) => Err(SightFault::Memory),
-        }
-    }
-}
-
-impl SightTable {
-    /// The first check that a sight type to be set would break.
-    pub fn fault_of(&self, name: Tag, range: u32, night: u32, mult: u32) -> Option<SightFault>
-        ensures { result ≡ sight_fault self.now name range night mult }
-    {
-        if sight_of(range, night, mult).is_none() {
-            Some(SightFault::BadRange)
-        } else if self.types.lacks_room(name) {
-            Some(SightFault::TypeLimit)
-        } else {
-            None
         }
     }
 }

@@ -78,6 +78,13 @@ impl Props {
         self.values.get(&PropName { tag: name })
     }
 
+    /// Whether the name is new and there are 64 names, so that it can't be set.
+    pub fn is_full_for(&self, name: Tag) -> bool
+        ensures { result ≡ is_full_for name self.now }
+    {
+        self.find(name).is_none() && self.values.len() >= NAME_LIMIT
+    }
+
     /// Sets a name to a value of at most 200 bytes. A name that is there keeps its place, and a new name goes last;
     /// all other names keep their places and values.
     ///
@@ -108,13 +115,6 @@ impl Props {
 
     pub(crate) fn allocator(&self) -> Global {
         *self.values.allocator()
-    }
-
-    /// Whether the name is new, and there are 64 names.
-    pub fn is_full_for(&self, name: Tag) -> bool
-        ensures { result ≡ is_full_for name self.now }
-    {
-        self.find(name).is_none() && self.values.len() >= NAME_LIMIT
     }
 }
 

@@ -121,6 +121,32 @@ impl Walls {
         (wall.first, wall.second)
     }
 
+    /// Whether the wall of that kind between two points, given in either order, is there.
+    pub fn has(&self, kind: WallKind, a: Point, b: Point) -> bool
+        ensures { result ≡ has_wall (wall_between a b) (walls_of self.now kind) }
+    {
+        contains(self.list(kind), &Wall::between(a, b))
+    }
+
+    /// The first check that a new wall of that kind between two points breaks: the fault that `add_wall` gives, where it
+    /// has memory.
+    pub fn broken_check(&self, kind: WallKind, a: Point, b: Point) -> Option<WallFault>
+        ensures { result ≡ wall_fault self.now kind a b }
+    {
+        let walls = self.list(kind);
+        if !is_on_map(self.size, a) || !is_on_map(self.size, b) {
+            Some(WallFault::OffMap)
+        } else if a == b {
+            Some(WallFault::DegenerateWall)
+        } else if contains(walls, &Wall::between(a, b)) {
+            Some(WallFault::WallThere)
+        } else if walls.len() >= MOST_WALLS {
+            Some(WallFault::WallLimit)
+        } else {
+            None
+        }
+    }
+
     /// Adds a wall of that kind between two points, in its place.
     ///
     /// The checks are made in the order of `WallFault`; after a fault the walls are as before.
@@ -167,23 +193,6 @@ impl Walls {
         ensures free { IsNone result ↔ IsFree self.now path.now }
     {
         first_blocked(self.list(WallKind::Mbl), path)
-    }
-
-    fn broken_check(&self, kind: WallKind, a: Point, b: Point) -> Option<WallFault>
-        ensures { result ≡ wall_fault self.now kind a b }
-    {
-        let walls = self.list(kind);
-        if !is_on_map(self.size, a) || !is_on_map(self.size, b) {
-            Some(WallFault::OffMap)
-        } else if a == b {
-            Some(WallFault::DegenerateWall)
-        } else if contains(walls, &Wall::between(a, b)) {
-            Some(WallFault::WallThere)
-        } else if walls.len() >= MOST_WALLS {
-            Some(WallFault::WallLimit)
-        } else {
-            None
-        }
     }
 }
 
@@ -256,20 +265,4 @@ fn is_blocked(walls: &[Wall], from: Point, to: Point) -> bool
     walls
         .iter()
         .any(|wall| meets(wall.first, wall.second, from, to))
-}
-
-impl Walls {
-    /// The first check that a wall of that kind between two points would break.
-    pub fn fault_of(&self, kind: WallKind, a: Point, b: Point) -> Option<WallFault>
-        ensures { result ≡ wall_fault self.now kind a b }
-    {
-        self.broken_check(kind, a, b)
-    }
-
-    /// Whether there is a wall of that kind between two points.
-    pub fn has_wall(&self, kind: WallKind, a: Point, b: Point) -> bool
-        ensures { result ≡ has_wall (wall_between a b) (walls_of self.now kind) }
-    {
-        contains(self.list(kind), &Wall::between(a, b))
-    }
 }

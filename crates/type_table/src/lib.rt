@@ -91,6 +91,14 @@ impl<V: Copy> TypeTable<V> {
         }
     }
 
+    /// Whether the name is new and the table has 32 types, so that it can't be set.
+    #[tactic(auto, using(crate::proofs::Entries::looked_up))]
+    pub fn lacks_room(&self, name: Tag) -> bool
+        ensures { result ≡ lacks_room name self.now }
+    {
+        !self.types.contains_key(&name) && self.types.len() >= MOST_TYPES
+    }
+
     /// Sets the type with this name, which is added where it is new. All other types stay.
     ///
     /// After a fault the table is as before.
@@ -112,13 +120,5 @@ impl<V: Copy> TypeTable<V> {
             Ok(_) => Ok(()),
             Err(_) => Err(TypeFault::Memory),
         }
-    }
-
-    /// Whether the name is new, and the table has 32 types.
-    #[tactic(auto, using(crate::proofs::Entries::looked_up))]
-    pub fn lacks_room(&self, name: Tag) -> bool
-        ensures { result ≡ lacks_room name self.now }
-    {
-        !self.types.contains_key(&name) && self.types.len() >= MOST_TYPES
     }
 }

@@ -2,3 +2,4 @@ pub mod TokenRules
 pub mod FogRules
 pub mod SceneRules
 pub mod Numbers
+pub mod Books

@@ -1,5 +1,5 @@
 -- All of a campaign: its scene and its seats' books.
-use Rattle.std.specs.Prelude.{◌≡◌, ◌≤◌, ℕ, ◌+◌, ◌-◌, List, [], ◌∷◌, length, All}
+use Rattle.std.specs.Prelude.{◌≡◌, ◌≤◌, ℕ, zero, suc, ◌+◌, ◌-◌, List, [], ◌∷◌, length, All}
 use Rattle.seats.specs.Book.{Book}
 use Rattle.seats.specs.declared.seat_state.SeatState.TheVariants.{Free}
 use Rattle.world.specs.Scene.{Scene, bare}
@@ -31,3 +31,13 @@ pub record IsOpening (books : List Book) : Type 0 where
 -- a world with these books and nothing else
 abbrev pub opened : List Book → World
 opened books = record { scene = bare (length books - 1); books = books }
+
+-- the book at that place becomes f of it, and all others stay
+abbrev pub changed_at : ℕ → (Book → Book) → List Book → List Book
+changed_at place f [] = []
+changed_at zero f (book ∷ books) = f book ∷ books
+changed_at (suc place) f (book ∷ books) = book ∷ changed_at place f books
+
+-- the book of that seat becomes f of it; all other books and the scene stay
+abbrev pub with_book : ℕ → (Book → Book) → World → World
+with_book seat f w = record w { books = changed_at seat f w.books }

@@ -8,3 +8,6 @@ mod world;
 
 pub use scene::Scene;
 pub use world::World;
+
+#[cfg(test)]
+mod tests;

@@ -23,7 +23,7 @@ use cells::{Cell, CellSet, Rect, Size};
 use fog_book::FogBook;
 use lattice::Point;
 use lights::{LightFault, LightTable};
-use maps::{MAP_LIMIT, MapFault, MapTable};
+use maps::{MapFault, MapTable};
 use names::{Layer, Memory, Mode, PropClass, SeatNo, Tag, Text, TokenId, WallKind};
 use sight_types::{SightFault, SightTable};
 use std::alloc::Global;
@@ -381,7 +381,7 @@ fn with_new_map(maps: &MapTable, name: Tag, size: Size) -> Result<MapTable, MapF
     ensures ok { OnOk result (map_fault maps.now name ≡ None) }
     ensures fault { IfErr result (IsMapFaultOf (map_fault maps.now name)) }
 {
-    if let Some(fault) = broken_check(maps, name) {
+    if let Some(fault) = maps.broken_check(name) {
         return Err(fault);
     }
     let Ok(mut table) = maps.copy() else {
@@ -389,17 +389,4 @@ fn with_new_map(maps: &MapTable, name: Tag, size: Size) -> Result<MapTable, MapF
     };
     table.add(name, size)?;
     Ok(table)
-}
-
-/// The first check that a new map's name breaks.
-fn broken_check(maps: &MapTable, name: Tag) -> Option<MapFault>
-    ensures { result ≡ map_fault maps.now name }
-{
-    if maps.get(name).is_some() {
-        Some(MapFault::MapExists)
-    } else if maps.len() >= MAP_LIMIT {
-        Some(MapFault::MapLimit)
-    } else {
-        None
-    }
 }
