@@ -1,5 +1,5 @@
 -- Lists and ranges of numbers, one item further.
-use Rattle.std.proofs.Common.{◌≡◌, ℕ, suc, ◌+◌, ◌-◌, ◌<◌, ◌≤◌, Bool, true, false, cond, ◌&&◌, List, [], ◌∷◌, length, Some, refl, sym, ◌∙◌, ap, arith, drop, get_or}
+use Rattle.std.proofs.Common.{◌≡◌, ℕ, suc, ◌+◌, ◌-◌, ◌<◌, ◌≤◌, Bool, true, false, cond, ◌&&◌, List, ◌∷◌, length, Some, refl, sym, ◌∙◌, ap, arith, drop, get_or}
 use Rattle.std.specs.Prelude.{slice_get, count_by}
 use Rattle.std.specs.Int.{from_bool}
 use Rattle.std.specs.List.{filter, list_all, range_with_len}
