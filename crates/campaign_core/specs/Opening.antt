@@ -1,7 +1,6 @@
 -- The world of a campaign text.
-use Rattle.std.specs.Prelude.{◌≡◌, ℕ, List, [], map, if◌then◌else◌, Option, Some, None, Result, Ok, Err}
+use Rattle.std.specs.Prelude.{◌≡◌, ℕ, List, [], map, Option, Some, None, Result, Ok, Err}
 use Rattle.campaign_file.specs.Campaign.{campaign_of}
-use Rattle.campaign_file.specs.Playable.{is_playable}
 use Rattle.campaign_json.specs.declared.faults.BadCampaign.{BadCampaign}
 use Rattle.campaign_json.specs.declared.faults.Rule.TheVariants.{Form}
 use Rattle.world.specs.World.{World as Opened}
@@ -15,15 +14,11 @@ use Rattle.campaign_core.specs.declared.campaign.OpenFault.TheVariants.{Bad, Mem
 abbrev pub opening_world : Opened → World
 opening_world opened = record { seats = map fresh_seat opened.books; scene = settled opened.scene }
 
--- none, where the world can't be played yet
-abbrev pub played : Opened → Option World
-played opened = if is_playable opened.scene then Some (opening_world opened) else None
-
 abbrev pub world_of : Result Opened BadCampaign → Option World
-world_of (Ok opened) = played opened
+world_of (Ok opened) = Some (opening_world opened)
 world_of (Err breach) = None
 
--- none, where the text is no campaign, or one that can't be played yet
+-- none, where the text is no campaign
 abbrev pub world_of_text : List ℕ → Option World
 world_of_text text = world_of (campaign_of text)
 

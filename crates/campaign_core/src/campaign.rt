@@ -1,14 +1,14 @@
 //! A campaign as its callers see it: the world that it opened with, and its history.
 ghost use Rattle.std.specs.Prelude.{◌≡◌, ◌<◌, ◌≤◌, ◌++◌, ◌∷◌, [], ℕ, length, Some, IfOk, OnOk, IfErr, OnErr, map, drop, option_map, is_some, true};
 ghost use Rattle.campaign_file.specs.Campaign.{IsOpening as IsOpeningList};
-ghost use Rattle.campaign_core.specs.Opening.{opening_world, played, world_of_text, IsOpenFault, IsBadForm};
+ghost use Rattle.campaign_core.specs.Opening.{opening_world, world_of_text, IsOpenFault, IsBadForm};
 ghost use Rattle.campaign_law.specs.World.{seat_at};
 ghost use Rattle.campaign_law.specs.Session.{session, waiting};
 ghost use Rattle.campaign_law.specs.Law.{IsOpening, IsSentAsMachine, ChangesLittle, world_of, answer_after};
 
 use crate::next::{Prepared, go_on, prepare};
 use crate::state::{Post, State};
-use campaign_file::{BadCampaign, FileFault, Rule, is_playable, read_campaign};
+use campaign_file::{BadCampaign, FileFault, Rule, read_campaign};
 use campaign_law::{Answer, Entry};
 use command_rules::settle;
 use names::{LineText, Memory, SeatNo, Text};
@@ -68,8 +68,7 @@ fn bad_form(alloc: Global) -> OpenFault
 
 impl<E: Eye + Drop> Campaign<E> {
     /// The campaign of a text: its world, and no entry. `Bad` exactly where the text is off the format
-    /// (`docs/CAMPAIGN.md`) or has more than can be played yet, with an empty path and the rule `Form` until the whole
-    /// format is read.
+    /// (`docs/CAMPAIGN.md`), with an empty path and the rule `Form` until the whole format is read.
     pub fn open(alloc: Global, text: &[u8], eye: E) -> Result<Campaign<E>, OpenFault>
         ensures world { IfOk result (λ c. world_of_text text.now ≡ Some c.origin) }
         ensures opening { IfOk result (λ c. IsOpening c.origin) }
@@ -78,27 +77,12 @@ impl<E: Eye + Drop> Campaign<E> {
         ensures bad { IfErr result (IsOpenFault (world_of_text text.now)) }
     {
         match read_campaign(alloc, text) {
-            Ok(world) => Campaign::played(alloc, world, eye),
+            Ok(world) => match Campaign::of_world(alloc, world, eye) {
+                Ok(campaign) => Ok(campaign),
+                Err(_) => Err(OpenFault::Memory),
+            },
             Err(FileFault::Bad(_)) => Err(bad_form(alloc)),
             Err(FileFault::Memory) => Err(OpenFault::Memory),
-        }
-    }
-
-    /// The campaign that opens with this world, if it can be played yet.
-    fn played(alloc: Global, world: World, eye: E) -> Result<Campaign<E>, OpenFault>
-        requires { IsOpeningList world.books }
-        ensures world { IfOk result (λ c. played world ≡ Some c.origin) }
-        ensures opening { IfOk result (λ c. IsOpening c.origin) }
-        ensures history { IfOk result (λ c. c.history ≡ []) }
-        ensures seats { IfOk result (λ c. length c.origin.seats ≡ length world.books) }
-        ensures bad { IfErr result (IsOpenFault (played world)) }
-    {
-        if !is_playable(world.scene()) {
-            return Err(bad_form(alloc));
-        }
-        match Campaign::of_world(alloc, world, eye) {
-            Ok(campaign) => Ok(campaign),
-            Err(_) => Err(OpenFault::Memory),
         }
     }
 

@@ -1,5 +1,5 @@
 -- Seats, read one after the other.
-use Rattle.std.proofs.Common.{◌≡◌, ℕ, ◌+◌, ◌<◌, ◌≤◌, List, [], ◌∷◌, ◌++◌, length, get_or, Bool, true, false, cond, Option, Some, None, Ok, refl, ap, subst, ◌∙◌, arith}
+use Rattle.std.proofs.Common.{◌≡◌, ℕ, ◌+◌, ◌-◌, ◌<◌, ◌≤◌, List, [], ◌∷◌, ◌++◌, length, get_or, Bool, true, false, cond, Option, Some, None, Result, Ok, Err, refl, sym, ap, subst, ◌∙◌, arith}
 use Rattle.std.specs.Prelude.{IfSome, codes, option_and_then}
 use Rattle.std.proofs.lemmas.List.{length-append}
 use Rattle.serde_json.specs.Data.{Data, Items}
@@ -10,7 +10,9 @@ use Rattle.serde_json.specs.declared.value.Value.{Value}
 use Rattle.json_fields.specs.Kinds.{counted, list_from}
 use Rattle.json_fields.specs.Objects.{◌>>=◌}
 use Rattle.json_fields.proofs.Reading.{items_len_view}
-use Rattle.seats.specs.Book.{Book, fresh_book}
+use Rattle.seats.specs.Book.{Book, IsFresh, fresh_book}
+use Rattle.world.specs.Scene.{Scene}
+use Rattle.world.specs.World.{World}
 use Rattle.campaign_json.specs.declared.faults.FileFault.{FileFault}
 use Rattle.campaign_json.specs.declared.faults.FileFault.TheVariants.{Bad, Memory}
 use Rattle.campaign_json.specs.declared.faults.Rule.TheVariants.{Missing, Kind, Range}
@@ -45,28 +47,28 @@ pushed_is true old new a e h = h
 pushed_is false old new a e h = absurd cc
 
 -- what the loop over the seats keeps at a place
-pub record AreReadTo (values : List Value) (place : ℕ) (books : List Book) : Type 0 where
-  pub read : IsReadTo {K = ℕ} seated (λ read. 0) values [] place books
+pub record AreReadTo (values : List Value) (start : Scene) (place : ℕ) (scene : Scene) (books : List Book) : Type 0 where
+  pub read : IsReadTo seated (λ w. w.scene.fog.players) values (record { scene = start; books = [] }) place (record { scene = scene; books = books })
   pub count : length books ≡ place
   pub fresh : AreFreshFrom 0 books
 
 count_more : (books : List Book) (book : Book) (n : ℕ) → length books ≡ n → length (books ++ book ∷ []) ≡ n + 1
 count_more books book n h = length-append books (book ∷ []) ∙ ap (λ (k : ℕ). k + 1) h
 
-seated_is : (place : ℕ) (books : List Book) (book : Book) (d : Data) → seat place d ≡ Ok book → seated place books d ≡ Ok (books ++ book ∷ [])
+seated_is : (place : ℕ) (scene next : Scene) (books : List Book) (book : Book) (d : Data) → seat place scene d ≡ Ok (book, next) → seated place (record { scene = scene; books = books }) d ≡ Ok (record { scene = next; books = books ++ book ∷ [] })
 unfolding seated
-seated_is place books book d e = rw e
+seated_is place scene next books book d e = rw e
 
-pub seated_fails : (place : ℕ) (books : List Book) (d : Data) (fault : FileFault) → Fails fault (seat place d) → Fails fault (seated place books d)
+pub seated_fails : (place : ℕ) (scene : Scene) (books : List Book) (d : Data) (fault : FileFault) → Fails fault (seat place scene d) → Fails fault (seated place (record { scene = scene; books = books }) d)
 unfolding seated
-seated_fails place books d (Bad bad) e = rw e
-seated_fails place books d Memory e = tt
+seated_fails place scene books d (Bad bad) e = rw e
+seated_fails place scene books d Memory e = tt
 
-pub seat_more : (values : List Value) (place : ℕ) (books : List Book) (value : Value) (book : Book) → AreReadTo values place books → place < length values → value ≡ get_or values place value
-    → seat place (view value) ≡ Ok book → IsFreshAt place book → AreReadTo values (place + 1) (books ++ book ∷ [])
-seat_more values place books value book before lt is ok fresh =
+pub seat_more : (values : List Value) (start : Scene) (place : ℕ) (scene next : Scene) (books : List Book) (value : Value) (book : Book) → AreReadTo values start place scene books → place < length values → value ≡ get_or values place value
+    → seat place scene (view value) ≡ Ok (book, next) → IsFreshAt place book → next.fog.players ≡ scene.fog.players → AreReadTo values start (place + 1) next (books ++ book ∷ [])
+seat_more values start place scene next books value book before lt is ok fresh players =
     let e : place ≡ 0 + length books = omega (arith, before.count) in record {
-      read = read_more {K = ℕ} seated (λ read. 0) values [] place books (books ++ book ∷ []) value before.read lt is (seated_is place books book (view value) ok) refl;
+      read = read_more seated (λ w. w.scene.fog.players) values (record { scene = start; books = [] }) place (record { scene = scene; books = books }) (record { scene = next; books = books ++ book ∷ [] }) value before.read lt is (seated_is place scene next books book (view value) ok) players;
       count = count_more books book place before.count;
       fresh = fresh_from 0 books book before.fresh (subst (λ (n : ℕ). IsFreshAt n book) e fresh);
     }

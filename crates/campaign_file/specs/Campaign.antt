@@ -36,10 +36,10 @@ campaign d = do
   lit ← lights (bare (players_in d)) d
   sighted ← sights lit d
   mapped ← maps sighted d
-  books ← seats d
-  full ← tokens books mapped d
+  world ← seats mapped d
+  full ← tokens world.books world.scene d
   no_others ← only campaign_keys d
-  Ok (record { scene = full; books = books })
+  Ok (record world { scene = full })
 
 -- the world that a campaign text opens with, or its first breach
 unfoldable pub campaign_of : List ℕ → Result World BadCampaign

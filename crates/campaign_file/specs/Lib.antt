@@ -1,3 +1,2 @@
 pub mod Campaign
-pub mod Playable
 pub mod Seats

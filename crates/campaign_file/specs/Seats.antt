@@ -1,12 +1,16 @@
--- Seats: their books.
-use Rattle.std.specs.Prelude.{◌≡◌, ◌≤◌, ◌==◌, ℕ, ◌-◌, ◌+◌, not, if◌then◌else◌, List, [], ◌∷◌, ◌++◌, length, codes, Result, Ok}
+-- Seats: their books, and what is exposed to them.
+use Rattle.std.specs.Prelude.{◌≡◌, ◌≤◌, ℕ, ◌-◌, ◌+◌, not, List, [], ◌∷◌, ◌++◌, length, codes, Result, Ok}
+use Rattle.names.specs.Tag.{tag_of}
 use Rattle.serde_json.specs.Data.{Data}
 use Rattle.json_fields.specs.Objects.{◌>>=◌}
 use Rattle.seats.specs.Book.{Book, IsFresh, fresh_book, drawn_limit, most_tags, tag_used, tags_spent, with_tag}
+use Rattle.world.specs.Scene.{Scene}
+use Rattle.world.specs.World.{World}
 use Rattle.campaign_json.specs.declared.faults.Rule.TheVariants.{Range, Twice}
 use Rattle.campaign_json.specs.declared.faults.BadCampaign.{BadCampaign}
 use Rattle.campaign_json.specs.Reading.{asked, field, under, each}
-use Rattle.campaign_json.specs.Kinds.{whole, text, list, members, object, only, seed, tag, empty_object}
+use Rattle.campaign_scene.specs.Fog.{fog}
+use Rattle.campaign_json.specs.Kinds.{whole, text, list, object, only, seed, tag, empty_object}
 
 -- ---- tags
 
@@ -33,40 +37,30 @@ tags book d = do
 abbrev pub seat_keys : List (List ℕ)
 seat_keys = codes "key" ∷ codes "seed" ∷ codes "drawn" ∷ codes "tags" ∷ codes "macros" ∷ codes "fog" ∷ []
 
--- nothing
-abbrev pub nothing : Data → Result (Unit {0}) BadCampaign
-nothing d = do
-  none ← members 0 d
-  Ok tt
-
--- nothing is exposed to the game master, and what is exposed to players can't be read yet
-abbrev pub no_fog : ℕ → Data → Result (Unit {0}) BadCampaign
-no_fog place d = if place == 0 then nothing d else empty_object d
-
--- the fresh book of the seat at a place
-unfoldable pub seat : ℕ → Data → Result Book BadCampaign
-seat place d = do
+-- the book of the seat at a place, and the scene with what is exposed to it
+unfoldable pub seat : ℕ → Scene → Data → Result (Book × Scene) BadCampaign
+seat place s d = do
   members ← object d
   key ← field (codes "key") (text 1 64) d
   seed ← field (codes "seed") seed d
   drawn ← field (codes "drawn") (whole 0 (drawn_limit - 1)) d
   book ← tags (fresh_book place key seed drawn) d
   macros ← field (codes "macros") empty_object d
-  fog ← field (codes "fog") (no_fog place) d
+  exposed ← fog place s d
   no_others ← only seat_keys d
-  Ok book
+  Ok (book, exposed)
 
 -- a seat more, whose number is its place
-unfoldable pub seated : ℕ → List Book → Data → Result (List Book) BadCampaign
-seated place books d = do
-  book ← seat place d
-  Ok (books ++ book ∷ [])
+unfoldable pub seated : ℕ → World → Data → Result World BadCampaign
+seated place w d = do
+  read ← seat place w.scene d
+  Ok (record { scene = read.1; books = w.books ++ read.0 ∷ [] })
 
--- the books of the seats
-unfoldable pub seats : Data → Result (List Book) BadCampaign
-seats d = do
+-- the scene with its seats
+unfoldable pub seats : Scene → Data → Result World BadCampaign
+seats s d = do
   items ← field (codes "seats") (list 1 33) d
-  under (codes "seats") (each seated 0 [] items)
+  under (codes "seats") (each seated 0 (record { scene = s; books = [] }) items)
 
 -- ---- what a campaign opens with
 

@@ -5,15 +5,13 @@
 //! and the first breach is the answer, with its path (a JSON pointer, RFC 6901) and its rule. All else
 //! of the format is this project's own.
 //!
-//! The macros of seats, and what is exposed to them, can't be read yet, and have to be empty.
+//! The macros of seats can't be read yet, and have to be empty.
 #![tactic(auto)]
 
-mod playable;
 mod root;
 mod seat;
 
 pub use campaign_json::{BadCampaign, FileFault, Rule};
-pub use playable::is_playable;
 pub use root::read_campaign;
 
 #[cfg(test)]

@@ -45,7 +45,7 @@ fn read_root(alloc: Global, value: &Value) -> Result<World, FileFault>
     let scene = read_lights(alloc, value, scene)?;
     let scene = read_sights(alloc, value, scene)?;
     let scene = read_maps(alloc, value, scene)?;
-    let books = read_seats(alloc, value)?;
+    let (scene, books) = read_seats(alloc, value, scene)?;
     let scene = read_tokens(alloc, &books, value, scene)?;
     check_only(alloc, value, &CAMPAIGN_KEYS)?;
     Ok(World::from_parts(scene, books))

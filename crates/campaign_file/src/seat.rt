@@ -2,17 +2,19 @@
 ghost use Rattle.std.specs.Prelude.{◌≡◌, ◌≤◌, ◌+◌, length, IfOk, codes, [], Some, option_map};
 ghost use Rattle.serde_json.specs.View.{view, items_view};
 ghost use Rattle.json_fields.specs.Objects.{Gives};
-ghost use Rattle.campaign_json.specs.Reading.{Fails, under, each, field};
+ghost use Rattle.campaign_json.specs.Reading.{Fails, under, each};
 ghost use Rattle.campaign_file.specs.Campaign.{players_in};
-ghost use Rattle.campaign_file.specs.Seats.{no_fog, seat as seat_lem, seated, seats as seats_lem, tags as tags_lem, used_tag, untagged, IsFreshAt, AreFreshFrom, IsOpening};
+ghost use Rattle.campaign_file.specs.Seats.{seat as seat_lem, seated, seats as seats_lem, tags as tags_lem, used_tag, untagged, IsFreshAt, AreFreshFrom, IsOpening};
 ghost use Rattle.seats.specs.Book.{most_tags as most_tags_lem};
 
 use campaign_json::fields::{self, check_object, check_only};
 use campaign_json::{FileFault, Rule, broken, kinds};
+use campaign_scene::read_fog;
 use names::{SeatNo, Text};
 use seats::{SeatBook, TagFault};
 use serde_json::Value;
 use std::alloc::Global;
+use world::Scene;
 
 /// How many words of its seed's stream a seat has drawn at most.
 const MOST_DRAWN: u64 = (1 << 62) - 1;
@@ -20,42 +22,59 @@ const MOST_DRAWN: u64 = (1 << 62) - 1;
 /// The keys of a seat.
 const SEAT_KEYS: [&str; 6] = ["key", "seed", "drawn", "tags", "macros", "fog"];
 
-/// The books of the seats, each numbered by its place.
+/// The scene with its seats, each numbered by its place.
 #[tactic(auto, using(crate::proofs::Seats::counted_seats), unfolding(crate::specs::Seats::seats))]
-pub(crate) fn read_seats(alloc: Global, value: &Value) -> Result<Vec<SeatBook>, FileFault>
-    ensures exact { Gives Fails (λ books. books.items) result (seats_lem (view value.now)) }
-    ensures opening { IfOk result (λ books. IsOpening books.items) }
-    ensures count { IfOk result (λ books. players_in (view value.now) + 1 ≡ length books.items) }
+pub(crate) fn read_seats(
+    alloc: Global,
+    value: &Value,
+    scene: Scene,
+) -> Result<(Scene, Vec<SeatBook>), FileFault>
+    ensures exact { Gives Fails (λ r. record { scene = r.0; books = r.1.items }) result (seats_lem scene (view value.now)) }
+    ensures opening { IfOk result (λ r. IsOpening r.1.items) }
+    ensures players { IfOk result (λ r. r.0.fog.players ≡ scene.fog.players) }
+    ensures count { IfOk result (λ r. players_in (view value.now) + 1 ≡ length r.1.items) }
 {
     let values = fields::list(alloc, value, "seats", 1, 33)?;
-    each_seat(alloc, values)
+    each_seat(alloc, values, scene)
 }
 
-fn each_seat(alloc: Global, values: &[Value]) -> Result<Vec<SeatBook>, FileFault>
+fn each_seat(
+    alloc: Global,
+    values: &[Value],
+    mut scene: Scene,
+) -> Result<(Scene, Vec<SeatBook>), FileFault>
     requires { length values.now ≤ 33 }
-    ensures exact { Gives Fails (λ books. books.items) result
-        (under (codes "seats") (each seated 0 [] (items_view values.now))) }
-    ensures count { IfOk result (λ books. length books.items ≡ length values.now) }
-    ensures fresh { IfOk result (λ books. AreFreshFrom 0 books.items) }
+    ensures exact { Gives Fails (λ r. record { scene = r.0; books = r.1.items }) result
+        (under (codes "seats") (each seated 0 (record { scene = scene; books = [] }) (items_view values.now))) }
+    ensures count { IfOk result (λ r. length r.1.items ≡ length values.now) }
+    ensures fresh { IfOk result (λ r. AreFreshFrom 0 r.1.items) }
+    ensures players { IfOk result (λ r. r.0.fog.players ≡ scene.fog.players) }
 {
     let mut books = Vec::new(alloc);
     for (place, value) in values.iter().enumerate() {
         let seat = SeatNo::new(place as u8).unwrap();
-        let book = match read_seat(alloc, seat, value) {
-            Ok(book) => book,
+        let (book, next) = match read_seat(alloc, seat, value, scene) {
+            Ok(read) => read,
             Err(fault) => return Err(fault.under_item(alloc, "seats", place)),
         };
+        scene = next;
         if books.push(book).is_err() {
             return Err(FileFault::Memory);
         }
     }
-    Ok(books)
+    Ok((scene, books))
 }
 
 #[tactic(auto, using(crate::proofs::Seats::fresh_at), unfolding(crate::specs::Seats::seat))]
-fn read_seat(alloc: Global, seat: SeatNo, value: &Value) -> Result<SeatBook, FileFault>
-    ensures exact { Gives Fails (λ book. book) result (seat_lem seat (view value.now)) }
-    ensures fresh { IfOk result (λ book. IsFreshAt seat book) }
+fn read_seat(
+    alloc: Global,
+    seat: SeatNo,
+    value: &Value,
+    scene: Scene,
+) -> Result<(SeatBook, Scene), FileFault>
+    ensures exact { Gives Fails (λ r. (r.0, r.1)) result (seat_lem seat scene (view value.now)) }
+    ensures fresh { IfOk result (λ r. IsFreshAt seat r.0) }
+    ensures players { IfOk result (λ r. r.1.fog.players ≡ scene.fog.players) }
 {
     check_object(alloc, value)?;
     let key = fields::text(alloc, value, "key", 1, 64)?;
@@ -64,21 +83,9 @@ fn read_seat(alloc: Global, seat: SeatNo, value: &Value) -> Result<SeatBook, Fil
     let book = SeatBook::new(alloc, seat, Text::copy(alloc, key)?, seed, drawn);
     let book = read_tags(alloc, value, book)?;
     fields::empty_object(alloc, value, "macros")?;
-    check_no_fog(alloc, seat, value)?;
+    let scene = read_fog(alloc, seat, value, scene)?;
     check_only(alloc, value, &SEAT_KEYS)?;
-    Ok(book)
-}
-
-/// The game master has no fog, and that of players has to be empty for now.
-fn check_no_fog(alloc: Global, seat: SeatNo, value: &Value) -> Result<(), FileFault>
-    ensures { Gives Fails (λ u. u) result (field (codes "fog") (no_fog seat) (view value.now)) }
-{
-    if seat.number() == 0 {
-        fields::members(alloc, value, "fog", 0)?;
-        Ok(())
-    } else {
-        fields::empty_object(alloc, value, "fog")
-    }
+    Ok((book, scene))
 }
 
 /// How many tags the seat may use.

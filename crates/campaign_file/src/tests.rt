@@ -88,7 +88,6 @@ fn takes_a_cave(rt: HostRuntime) -> Result<(), Fail> {
     let Ok(world) = read_campaign(rt.alloc(), CAVE.as_bytes()) else {
         return Err("the text is a campaign".into());
     };
-    assert_eq!(rt; is_playable(world.scene()), true);
     let book = world.seats().get(1).ok_or("two seats")?;
     assert_eq!(rt; book.has_tag(Tag::read(b"ann")?), true);
     has_a_bare_cave(&rt, world.scene())?;
@@ -117,7 +116,6 @@ fn takes_a_full_campaign(rt: HostRuntime) -> Result<(), Fail> {
     let Ok(world) = read_campaign(rt.alloc(), FULL.as_bytes()) else {
         return Err("the text is a campaign".into());
     };
-    assert_eq!(rt; is_playable(world.scene()), false);
     has_types(&rt, world.scene())?;
     has_letters(&rt, world.scene())?;
     has_properties(&rt, world.scene())
@@ -149,6 +147,33 @@ fn has_properties(rt: &impl Abort, scene: &Scene) -> Result<(), Fail> {
     let hp = ann.public.find(Tag::read(b"hp")?).ok_or("a property")?;
     assert_eq!(rt; hp.text(), "10");
     assert_eq!(rt; ann.own.len(), 1);
+    Ok(())
+}
+
+/// The full campaign with this exposed to player 1.
+fn exposing(alloc: Global, fog: &str) -> Result<String, Fail> {
+    let seat = format!(in alloc; "[\"ann\"], \"macros\":{{}}, \"fog\":{fog}")?;
+    let text = FULL.replacen(alloc, "[\"ann\"], \"macros\":{}, \"fog\":{}", &seat, 1)?;
+    Ok(text)
+}
+
+#[test]
+fn takes_what_is_exposed(rt: HostRuntime) -> Result<(), Fail> {
+    let text = exposing(
+        rt.alloc(),
+        "{\"hall\":[], \"cave\":[[1,1,3],[1,0,1],[2,3,3]]}",
+    )?;
+    let Ok(world) = read_campaign(rt.alloc(), text.as_bytes()) else {
+        return Err("the text is a campaign".into());
+    };
+    let sets = world.scene().fog().sets();
+    assert_eq!(rt; sets.len(), 4);
+    for (seat, map, count) in [(1, "cave", 5), (1, "hall", 0), (2, "cave", 0), (2, "hall", 0)] {
+        let seat = SeatNo::new(seat).ok_or("a seat")?;
+        let map = Tag::read(map.as_bytes())?;
+        let set = sets.iter().find(|set| set.seat == seat && set.map == map);
+        assert_eq!(rt; set.ok_or("a set of each player and map")?.cells.count(), count);
+    }
     Ok(())
 }
 
@@ -259,8 +284,8 @@ fn tells_the_first_breach_of_a_seat(rt: HostRuntime) -> Result<(), Fail> {
         (
             "903, \"tags\":[], \"macros\":{}, \"fog\":{}",
             "903, \"tags\":[], \"macros\":{}, \"fog\":{\"cave\":[]}",
-            "/seats/1/fog",
-            Rule::Form,
+            "/seats/1/fog/cave",
+            Rule::Cross,
         ),
         (
             "\"fog\":{}",
@@ -328,6 +353,38 @@ fn tells_the_first_breach_of_a_map(rt: HostRuntime) -> Result<(), Fail> {
         ("[8,6,0,0]", "[2,4,2,0]", "/maps/1/vbl/1", Rule::Twice),
     ] {
         let text = FULL.replacen(rt.alloc(), old, new, 1)?;
+        breaks(&rt, rt.alloc(), &text, path, rule)?;
+    }
+    Ok(())
+}
+
+#[test]
+fn tells_the_first_breach_of_what_is_exposed(rt: HostRuntime) -> Result<(), Fail> {
+    for (new, path, rule) in [
+        ("[]", "/seats/1/fog", Rule::Kind),
+        ("{\"well\":[]}", "/seats/1/fog/well", Rule::Cross),
+        ("{\"We/l\":[]}", "/seats/1/fog/We~1l", Rule::Cross),
+        ("{\"cave\":{}}", "/seats/1/fog/cave", Rule::Kind),
+        ("{\"cave\":[[0,1]]}", "/seats/1/fog/cave/0", Rule::Range),
+        (
+            "{\"cave\":[[0,0,0],[3,0,0]]}",
+            "/seats/1/fog/cave/1",
+            Rule::Cross,
+        ),
+        ("{\"cave\":[[0,0,4]]}", "/seats/1/fog/cave/0", Rule::Cross),
+        ("{\"cave\":[[0,2,1]]}", "/seats/1/fog/cave/0", Rule::Cross),
+        (
+            "{\"cave\":[[0,-1,1]]}",
+            "/seats/1/fog/cave/0",
+            Rule::Cross,
+        ),
+        (
+            "{\"cave\":[[0,1,null]]}",
+            "/seats/1/fog/cave/0/2",
+            Rule::Kind,
+        ),
+    ] {
+        let text = exposing(rt.alloc(), new)?;
         breaks(&rt, rt.alloc(), &text, path, rule)?;
     }
     Ok(())
