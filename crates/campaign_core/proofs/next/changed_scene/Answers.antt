@@ -23,7 +23,7 @@ pub scene_by-requires-clause-seat : goal.scene_by-requires-clause-seat
 scene_by-requires-clause-seat g c =
     let w = world_in c.args.state.now in
     let within = acts_within w c.args.entry.now (steps_of w c.args.entry.now) c.args.outcome.now c.in-Some.command c.requires.outcome (ap (λ (o : Outcome). o.done) (sym c.outcome.view_is) ∙ c.in-Some.is) in
-    let count : length w.seats ≡ c.args.state.now.scene.fog.players + 1 = length-map c.args.state.now.posts (λ post. post.seat) ∙ sym c.seats-_seats.ensures.value ∙ c.seats-_seats.ensures.players in
+    let count : length w.seats ≡ c.args.state.now.scene.fog.players + 1 = length-map c.args.state.now.posts (λ post. post.seat) ∙ sym c.seats-seats.ensures.value ∙ c.seats-seats.ensures.players in
     subst (λ (s : Scene). c.own_seat.result ≤ s.fog.players) (sym c.scene.ensures)
     (subst (λ (q : ℕ). q ≤ c.args.state.now.scene.fog.players) (sym c.own_seat.ensures) (omega (arith, within, count)))
 
