@@ -1,5 +1,5 @@
 -- Seats, read one after the other.
-use Rattle.std.proofs.Common.{◌≡◌, ℕ, ◌+◌, ◌-◌, ◌<◌, ◌≤◌, List, [], ◌∷◌, ◌++◌, length, get_or, Bool, true, false, cond, Option, Some, None, Result, Ok, Err, refl, sym, ap, subst, ◌∙◌, arith}
+use Rattle.std.proofs.Common.{◌≡◌, ℕ, ◌+◌, ◌<◌, ◌≤◌, List, [], ◌∷◌, ◌++◌, length, get_or, Bool, true, false, cond, Option, Some, None, Ok, ap, subst, ◌∙◌, arith}
 use Rattle.std.specs.Prelude.{IfSome, codes, option_and_then}
 use Rattle.std.proofs.lemmas.List.{length-append}
 use Rattle.serde_json.specs.Data.{Data, Items}
@@ -10,9 +10,8 @@ use Rattle.serde_json.specs.declared.value.Value.{Value}
 use Rattle.json_fields.specs.Kinds.{counted, list_from}
 use Rattle.json_fields.specs.Objects.{◌>>=◌}
 use Rattle.json_fields.proofs.Reading.{items_len_view}
-use Rattle.seats.specs.Book.{Book, IsFresh, fresh_book}
+use Rattle.seats.specs.Book.{Book, fresh_book}
 use Rattle.world.specs.Scene.{Scene}
-use Rattle.world.specs.World.{World}
 use Rattle.campaign_json.specs.declared.faults.FileFault.{FileFault}
 use Rattle.campaign_json.specs.declared.faults.FileFault.TheVariants.{Bad, Memory}
 use Rattle.campaign_json.specs.declared.faults.Rule.TheVariants.{Missing, Kind, Range}

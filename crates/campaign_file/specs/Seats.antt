@@ -1,6 +1,5 @@
 -- Seats: their books, and what is exposed to them.
 use Rattle.std.specs.Prelude.{◌≡◌, ◌≤◌, ℕ, ◌-◌, ◌+◌, not, List, [], ◌∷◌, ◌++◌, length, codes, Result, Ok}
-use Rattle.names.specs.Tag.{tag_of}
 use Rattle.serde_json.specs.Data.{Data}
 use Rattle.json_fields.specs.Objects.{◌>>=◌}
 use Rattle.seats.specs.Book.{Book, IsFresh, fresh_book, drawn_limit, most_tags, tag_used, tags_spent, with_tag}

@@ -168,11 +168,19 @@ fn takes_what_is_exposed(rt: HostRuntime) -> Result<(), Fail> {
     };
     let sets = world.scene().fog().sets();
     assert_eq!(rt; sets.len(), 4);
-    for (seat, map, count) in [(1, "cave", 5), (1, "hall", 0), (2, "cave", 0), (2, "hall", 0)] {
+    for (seat, map, count) in [
+        (1, "cave", 5),
+        (1, "hall", 0),
+        (2, "cave", 0),
+        (2, "hall", 0),
+    ] {
         let seat = SeatNo::new(seat).ok_or("a seat")?;
         let map = Tag::read(map.as_bytes())?;
         let set = sets.iter().find(|set| set.seat == seat && set.map == map);
-        assert_eq!(rt; set.ok_or("a set of each player and map")?.cells.count(), count);
+        assert_eq!(rt;
+            set.ok_or("a set of each player and map")?.cells.count(),
+            count
+        );
     }
     Ok(())
 }
@@ -373,11 +381,7 @@ fn tells_the_first_breach_of_what_is_exposed(rt: HostRuntime) -> Result<(), Fail
         ),
         ("{\"cave\":[[0,0,4]]}", "/seats/1/fog/cave/0", Rule::Cross),
         ("{\"cave\":[[0,2,1]]}", "/seats/1/fog/cave/0", Rule::Cross),
-        (
-            "{\"cave\":[[0,-1,1]]}",
-            "/seats/1/fog/cave/0",
-            Rule::Cross,
-        ),
+        ("{\"cave\":[[0,-1,1]]}", "/seats/1/fog/cave/0", Rule::Cross),
         (
             "{\"cave\":[[0,1,null]]}",
             "/seats/1/fog/cave/0/2",
