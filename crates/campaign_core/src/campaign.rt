@@ -121,7 +121,8 @@ impl<E: Eye + Drop> Campaign<E> {
         // What each player was sent is what the machine without a world prints.
         ensures sent { (p : ℕ) → IsSentAsMachine self.new.origin self.new.history p }
     {
-        let Ok(prepared) = prepare(self.alloc, &self.state, &self.fields, &mut self.eye, &entry) else {
+        let Ok(prepared) = prepare(self.alloc, &self.state, &self.fields, &mut self.eye, &entry)
+        else {
             return Err(entry);
         };
         if let Err(failed) = self.history.push(entry) {

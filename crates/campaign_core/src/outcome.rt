@@ -11,10 +11,10 @@ ghost use Rattle.campaign_law.specs.State.{world_in};
 use crate::rolls::{roll_dice, roll_rule};
 use crate::state::State;
 use crate::texts::{hello_line, moved_line, ok_line, refusal_line};
-use chat::{To, message_line};
 use campaign_law::Entry;
-use command_rules::{Refusal, rule_of, steps_by, use_made_tag};
+use chat::{To, message_line};
 use command_json::{Command, LineFault, read_line};
+use command_rules::{Refusal, rule_of, steps_by, use_made_tag};
 use names::{LineText, Memory, SeatNo, Tag};
 use seats::{JoinRefusal, SeatBook};
 use std::alloc::Global;
@@ -409,12 +409,7 @@ fn present_outcome(
 
 /// What the entry does to its own seat, where an accepted move takes so many steps.
 #[tactic(auto, using(std::proofs::lemmas::Option::slice_get_within))]
-fn outcome_with(
-    alloc: Global,
-    state: &State,
-    steps: u32,
-    entry: &Entry,
-) -> Result<Outcome, Memory>
+fn outcome_with(alloc: Global, state: &State, steps: u32, entry: &Entry) -> Result<Outcome, Memory>
     ensures { IfOk result (λ o. o ≡ outcome_at (asked_of (world_in state.now) (seat_of_lem entry.now)) steps (seat_at (world_in state.now) (seat_of_lem entry.now)) entry.now) }
 {
     match state.post(seat_of(entry)) {

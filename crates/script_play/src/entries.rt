@@ -51,7 +51,12 @@ pub(crate) fn seat_of(entry: &Entry) -> SeatNo
     }
 }
 
-fn entry_of<E: Eye + Drop>(alloc: Global, campaign: &Campaign<E>, seat: SeatNo, bytes: &[u8]) -> Result<Entry, Memory>
+fn entry_of<E: Eye + Drop>(
+    alloc: Global,
+    campaign: &Campaign<E>,
+    seat: SeatNo,
+    bytes: &[u8],
+) -> Result<Entry, Memory>
     requires { seat < length campaign.now.origin.seats }
     ensures { IfOk result (λ entry. entry ≡ entry_of_lem (world_of campaign.now) seat bytes.now) }
 {

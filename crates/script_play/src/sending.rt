@@ -172,7 +172,11 @@ fn waiting_of<E: Eye + Drop>(campaign: &Campaign<E>, seat: SeatNo) -> Result<Vec
 }
 
 // The Taken, where lines wait.
-fn taken_entry<E: Eye + Drop>(campaign: &Campaign<E>, seat: SeatNo, none_wait: bool) -> Option<Entry>
+fn taken_entry<E: Eye + Drop>(
+    campaign: &Campaign<E>,
+    seat: SeatNo,
+    none_wait: bool,
+) -> Option<Entry>
     requires there { seat < length campaign.now.origin.seats }
     requires opening { IsOpening campaign.now.origin }
     requires none { none_wait ≡ (length (waiting_lines campaign.now seat) == 0) }

@@ -13,11 +13,11 @@ ghost use Rattle.tabletop.specs.Ends.{HasEnded, JobEnds, WorldEnds, IsToldAs, ca
 use crate::endings::{Ended, fixed_line, status_of};
 use crate::words::play_file;
 use campaign_core::{Campaign, OpenFault};
-use topology::PlainEye;
 use line_io::{Desk, DeskFault, Sink, Source, write_whole};
 use names::{LineText, Memory};
 use script_play::{Played, play};
 use std::alloc::Global;
+use topology::PlainEye;
 
 /// Does what the words ask for and gives the program's status. `play FILE` plays the script on the
 /// campaign of that file and writes the lines that it sends. After a stop the last line says why. A fault

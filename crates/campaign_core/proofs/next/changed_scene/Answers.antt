@@ -37,8 +37,8 @@ returns-in_default-2 g c =
 
 pub returns : goal.returns
 returns g c = (
-      c.in_ok-settle.ensures
-          ∙ after_command (world_in c.args.state.now) c.args.entry.now c.args.outcome.now c.in-Some.command c.args.steps c.in-Some-2.scene c.requires.outcome (ap (λ (o : Outcome). o.done) (sym c.outcome.view_is) ∙ c.in-Some.is) c.requires.steps
-          (ap (λ o. unwrap_or o c.scene.result.now) (sym c.in-Some-2.is) ∙ c.in_ok-scene.ensures ∙ (λ i. scene_by c.args.steps (c.own_seat.ensures i) (c.scene.ensures i) (Some c.in-Some.command))),
-      subst (λ (s : Scene). HasFields s c.in_ok-fields.fields) (sym c.in_ok-settle.ensures) (fields_stay c.in-Some-2.scene c.in_ok-fields.fields c.in_ok-fields.ensures.fields),
-    )
+  c.in_ok-settle.ensures
+      ∙ after_command (world_in c.args.state.now) c.args.entry.now c.args.outcome.now c.in-Some.command c.args.steps c.in-Some-2.scene c.requires.outcome (ap (λ (o : Outcome). o.done) (sym c.outcome.view_is) ∙ c.in-Some.is) c.requires.steps
+      (ap (λ o. unwrap_or o c.scene.result.now) (sym c.in-Some-2.is) ∙ c.in_ok-scene.ensures ∙ (λ i. scene_by c.args.steps (c.own_seat.ensures i) (c.scene.ensures i) (Some c.in-Some.command))),
+  subst (λ (s : Scene). HasFields s c.in_ok-fields.fields) (sym c.in_ok-settle.ensures) (fields_stay c.in-Some-2.scene c.in_ok-fields.fields c.in_ok-fields.ensures.fields),
+)

@@ -43,8 +43,8 @@ invariant_of-self-2 g c =
           ∙ ap (state_of (world_in c.self.inside.origin)) (sym pushed),
       c.self.invariant.1,
       subst (λ (s : State). HasFields s.scene c.go_on.new.fields) (sym c.go_on.ensures.state)
-      (subst (HasFields (scene_in c.self.inside.state.scene c.in-Ok.prepared.changed)) (sym c.go_on.ensures.fields)
-      (keeps_fields (world_in c.self.inside.state) c.args.entry c.self.inside.fields c.in-Ok.prepared.changed c.in-Ok.ensures.changed c.self.invariant.2)),
+          (subst (HasFields (scene_in c.self.inside.state.scene c.in-Ok.prepared.changed)) (sym c.go_on.ensures.fields)
+          (keeps_fields (world_in c.self.inside.state) c.args.entry c.self.inside.fields c.in-Ok.prepared.changed c.in-Ok.ensures.changed c.self.invariant.2)),
     )
 
 pub returns-clause-answer : goal.returns-clause-answer
