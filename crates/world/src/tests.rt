@@ -138,11 +138,10 @@ fn add_wall(walls: &mut Walls, kind: WallKind, number: u32) -> Result<Answer, Fa
 }
 
 fn make(alloc: Global, tokens: &mut TokenTable, id: TokenId) -> Result<Answer, Fail> {
-    let token = token(alloc, id)?;
     if tokens.get(id).is_some() {
         return Ok(Answer::There);
     }
-    match tokens.make(token) {
+    match tokens.make(token(alloc, id)?) {
         Ok(()) => Ok(Answer::Taken),
         Err(_) => Ok(Answer::Memory),
     }
