@@ -1,5 +1,5 @@
 -- What is sent after an entry of a script is what the entry sends.
-use Rattle.std.proofs.Common.{◌≡◌, ℕ, zero, suc, ◌+◌, ◌-◌, ◌<◌, ◌≤◌, Bool, true, false, cond, eqb, List, [], ◌∷◌, ◌++◌, length, drop, Some, None, refl, sym, ◌∙◌, ap, subst, arith}
+use Rattle.std.proofs.Common.{◌≡◌, ℕ, zero, suc, ◌+◌, ◌-◌, ◌<◌, ◌≤◌, Bool, true, false, cond, List, [], ◌∷◌, ◌++◌, length, drop, Some, None, refl, sym, ◌∙◌, ap, subst, arith}
 use Rattle.std.specs.Prelude.{Option, option_map, unwrap_or, option_and_then, IfSome, slice_get, nat_lt, Result, Ok, Err}
 use Rattle.std.specs.Io.KnownBytes.{append_known}
 use Rattle.std.proofs.lemmas.List.{append-nil}
@@ -7,13 +7,13 @@ use Rattle.std.proofs.lemmas.Bool.Decides.{nat_tests}
 use Rattle.campaign_law.specs.declared.entry.Entry.{Entry}
 use Rattle.campaign_law.specs.Seat.{Seat}
 use Rattle.campaign_law.specs.Outcome.{seat_of}
-use Rattle.campaign_law.specs.World.{World, seat_at, seat_after, lines_of, step, replay}
+use Rattle.campaign_law.specs.World.{World, seat_at, seat_after, lines_of, step}
 use Rattle.campaign_law.specs.Session.{queued_of, unless_free, session}
 use Rattle.campaign_law.specs.Law.{Course, IsOpening, world_of, answer_after}
 use Rattle.campaign_law.proofs.Lists.{ap₂}
 use Rattle.campaign_law.proofs.Sessions.{IsKept, kept_at, replay_more, session_more, seat_at-after}
 use Rattle.campaign_law.proofs.Seats.{IsSound}
-use Rattle.script_play.specs.Script.{entry_by, entry_of, entry_of_line, joining_key, NothingWaits}
+use Rattle.script_play.specs.Script.{entry_of, joining_key, NothingWaits}
 use Rattle.script_play.specs.Tagged.{tagged_lines, entry_text_below, entry_text, tagged}
 use Rattle.script_play.specs.Sending.{untaken, waiting_lines, reply_to, sent_below, WroteFront, Sends}
 use Rattle.script_play.specs.Played.{IsOfLine, IsPrefix, GoesOn, entries_since, HasWritten, WroteAllButLast, played}

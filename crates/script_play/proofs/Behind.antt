@@ -1,6 +1,6 @@
 -- The lines that stand behind a seat's number are those that the seat was sent.
-use Rattle.std.proofs.Common.{◌≡◌, ◌≢◌, ℕ, zero, suc, ◌+◌, ◌<◌, ◌≤◌, ◌^◌, Bool, true, false, cond, eqb, List, [], ◌∷◌, ◌++◌, Some, None, refl, sym, ◌∙◌, ap, subst, append_assoc, arith, eq-eqb}
-use Rattle.std.specs.Prelude.{Option, All, decimal, nat_lt}
+use Rattle.std.proofs.Common.{◌≡◌, ◌≢◌, ℕ, zero, suc, ◌≤◌, Bool, true, false, cond, eqb, List, [], ◌∷◌, ◌++◌, Some, None, refl, sym, ◌∙◌, ap, append_assoc, arith, eq-eqb}
+use Rattle.std.specs.Prelude.{All, decimal, nat_lt}
 use Rattle.std.proofs.lemmas.List.Elements.{All-nil, All-cons}
 use Rattle.std.specs.List.{AllByRecursion, filter_map, cons_option}
 use Rattle.std.specs.Str.Parse.{AllDigits}
@@ -14,7 +14,6 @@ use Rattle.line_io.proofs.LinesLemmas.{lines_of-nil, lines_of-line}
 use Rattle.json_fields.specs.Lines.{IsOneLine}
 use Rattle.campaign_law.specs.declared.entry.Entry.{Entry}
 use Rattle.campaign_law.specs.World.{World, lines_of as entry_lines, step, sent}
-use Rattle.campaign_law.proofs.Lists.{ap₂}
 use Rattle.campaign_law.proofs.OneLines.{AreOneLine, lines_one}
 use Rattle.script_play.specs.Tagged.{seat_tag, tagged_line, tagged_lines, entry_text_below, entry_text, tagged, behind, lines_behind}
 

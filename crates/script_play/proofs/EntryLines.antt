@@ -1,25 +1,25 @@
 -- What an entry of a script sends, where no line waited before it: the direct reply, and the lines that wait then.
-use Rattle.std.proofs.Common.{◌≡◌, ℕ, zero, suc, ◌+◌, ◌-◌, ◌<◌, ◌≤◌, Bool, true, false, cond, ◌&&◌, ◌||◌, eqb, List, [], ◌∷◌, ◌++◌, length, drop, Some, None, refl, sym, ◌∙◌, ap, subst, arith, add-zero, length-append, append_assoc, ◌⊎◌, inl, inr}
-use Rattle.std.specs.Prelude.{Option, option_map, IfSome, IsSome, Result, Ok, Err, slice_get, if◌then◌else◌, ◌==◌}
+use Rattle.std.proofs.Common.{◌≡◌, ℕ, zero, suc, ◌+◌, ◌-◌, ◌<◌, ◌≤◌, Bool, true, false, cond, ◌&&◌, ◌||◌, eqb, List, [], ◌∷◌, ◌++◌, length, drop, Some, None, refl, sym, ◌∙◌, ap, subst, arith, add-zero, append_assoc, ◌⊎◌, inl, inr}
+use Rattle.std.specs.Prelude.{Option, Result, Ok, Err, slice_get, if◌then◌else◌, ◌==◌}
 use Rattle.std.proofs.lemmas.List.{append-nil}
 use Rattle.std.proofs.lemmas.Bool.{eqb-true, ne_eqb}
 use Rattle.seats.specs.declared.seat_state.SeatState.{SeatState}
 use Rattle.seats.specs.declared.seat_state.SeatState.TheVariants.{Free, Joined, Closing}
 use Rattle.seats.specs.declared.seat_state.JoinRefusal.{JoinRefusal}
-use Rattle.seats.specs.SeatState.{is_free, is_joined, is_closing, closed}
-use Rattle.seats.specs.Book.{Book, counted, joined, left, line_limit, join_refusal}
+use Rattle.seats.specs.SeatState.{is_free, is_joined, is_closing}
+use Rattle.seats.specs.Book.{Book, counted, left, join_refusal}
 use Rattle.campaign_law.specs.declared.entry.Entry.{Entry}
-use Rattle.campaign_law.specs.declared.entry.Entry.TheVariants.{Join, Line, Taken}
 use Rattle.command_json.specs.declared.command.Command.{Command}
-use Rattle.command_json.specs.declared.command.Command.TheVariants.{Hello, Bye, Say}
 use Rattle.command_json.specs.declared.command.LineFault.{LineFault}
 use Rattle.command_rules.specs.declared.refusal.Refusal.{Refusal}
 use Rattle.command_rules.specs.declared.refusal.Refusal.TheVariants.{NoHello}
 use Rattle.command_json.specs.Commands.{command_of}
+use Rattle.command_rules.specs.Tags.{tag_made, using_tag}
 use Rattle.player_view.specs.Asked.{Asked}
-use Rattle.campaign_law.specs.Views.{View, view_of}
+use Rattle.view_change.specs.declared.view.View.{View}
+use Rattle.player_view.specs.View.{view_of}
 use Rattle.campaign_law.specs.Seat.{Seat, freed_seat, is_let_go}
-use Rattle.campaign_law.specs.Outcome.{Outcome, outcome_at, join_outcome, read_outcome, line_outcome, decided, accepted, refused_direct, refused_line, rule_of, book_done, seat_of}
+use Rattle.campaign_law.specs.Outcome.{Outcome, outcome_at, join_outcome, read_outcome, decided, accepted, refused_direct, refused_line, broken_rule, is_bye, dice_in, rolling, book_done, seat_of}
 use Rattle.campaign_law.specs.World.{World, seat_at, asked_of, steps_of, outcome_of, scene_after, is_present, queued_reply, queued_lines, other_lines, lines_if_present, entry_lines, some_to_list, changed, seat_after, lines_of, step, replay}
 use Rattle.campaign_law.specs.Law.{first_line}
 use Rattle.campaign_law.specs.Session.{queued_of, unless_free}
@@ -27,7 +27,7 @@ use Rattle.campaign_law.specs.State.{mail_after}
 use Rattle.campaign_law.proofs.Lists.{length-mapped_from}
 use Rattle.seats.proofs.Books.{joined_not_free, is_free-closed, is_free-counted, is_free-joined}
 use Rattle.campaign_law.proofs.Seats.{grown}
-use Rattle.campaign_law.proofs.Sessions.{IsKept, Goes, goes_after, seat_at-after}
+use Rattle.campaign_law.proofs.Sessions.{IsKept, goes_after}
 use Rattle.script_play.specs.Script.{entry_by}
 use Rattle.script_play.specs.Tagged.{entry_text_below, tagged_lines}
 
@@ -43,8 +43,14 @@ free_not_joined (Closing r w) h = refl
 
 -- no command frees a seat
 book_done_free : (c : Command) (b : Book) → is_free (book_done c b).state ≡ is_free b.state
-book_done_free Bye b = is_free-closed b.state
-book_done_free _ b = refl
+book_done_free c b = by (is_bye c) (tag_made c) (dice_in c)
+  where
+    by : (leaves : Bool) (tag dice : Option (List ℕ)) → is_free (cond leaves (left b) (using_tag tag (rolling dice b))).state ≡ is_free b.state
+    by true tag dice = is_free-closed b.state
+    by false None None = refl
+    by false None (Some dice) = refl
+    by false (Some tag) None = refl
+    by false (Some tag) (Some dice) = refl
 
 -- the reply that stands in no queue
 abbrev pub direct_line : Outcome → Option (List ℕ)
@@ -76,17 +82,17 @@ join_leaves : (asked : Asked) (s : Seat) (reader writer : ℕ) (refusal : Option
 join_leaves asked s reader writer (Some refusal) = direct_leaves s _ _
 join_leaves asked s reader writer None = busy_leaves s (join_outcome asked s.book reader writer None) (is_free-joined s.book reader writer) refl
 
-decided_leaves : (steps : ℕ) (s : Seat) (c : Command) (refusal : Option Refusal) → is_joined s.book.state ≡ true → Leaves s (decided steps s.book c refusal)
-decided_leaves steps s c (Some refusal) j = busy_leaves s (refused_line s.book refusal) (is_free-counted s.book ∙ joined_not_free s.book.state j) refl
-decided_leaves steps s c None j = busy_leaves s (accepted steps s.book c) (book_done_free c (counted s.book) ∙ is_free-counted s.book ∙ joined_not_free s.book.state j) refl
+decided_leaves : (steps seat : ℕ) (s : Seat) (c : Command) (refusal : Option Refusal) → is_joined s.book.state ≡ true → Leaves s (decided steps seat s.book c refusal)
+decided_leaves steps seat s c (Some refusal) j = busy_leaves s (refused_line s.book refusal) (is_free-counted s.book ∙ joined_not_free s.book.state j) refl
+decided_leaves steps seat s c None j = busy_leaves s (accepted steps seat s.book c) (book_done_free c (counted s.book) ∙ is_free-counted s.book ∙ joined_not_free s.book.state j) refl
 
-read_leaves : (asked : Asked) (steps : ℕ) (s : Seat) (r : Result Command LineFault) → is_joined s.book.state ≡ true → Leaves s (read_outcome asked steps s.book r)
-read_leaves asked steps s (Err fault) j = busy_leaves s (refused_line s.book _) (is_free-counted s.book ∙ joined_not_free s.book.state j) refl
-read_leaves asked steps s (Ok command) j = decided_leaves steps s command (rule_of asked s.book.seat command) j
+read_leaves : (asked : Asked) (steps seat : ℕ) (s : Seat) (r : Result Command LineFault) → is_joined s.book.state ≡ true → Leaves s (read_outcome asked steps seat s.book r)
+read_leaves asked steps seat s (Err fault) j = busy_leaves s (refused_line s.book _) (is_free-counted s.book ∙ joined_not_free s.book.state j) refl
+read_leaves asked steps seat s (Ok command) j = decided_leaves steps seat s command (broken_rule asked seat s.book command) j
 
-line_leaves : (asked : Asked) (steps : ℕ) (s : Seat) (bytes : List ℕ) (j : Bool) → is_joined s.book.state ≡ j → Leaves s (cond j (read_outcome asked steps s.book (command_of bytes (eqb s.book.seat 0))) (refused_direct 0 NoHello))
-line_leaves asked steps s bytes true h = read_leaves asked steps s (command_of bytes (eqb s.book.seat 0)) h
-line_leaves asked steps s bytes false h = direct_leaves s 0 NoHello
+line_leaves : (asked : Asked) (steps seat : ℕ) (s : Seat) (bytes : List ℕ) (j : Bool) → is_joined s.book.state ≡ j → Leaves s (cond j (read_outcome asked steps seat s.book (command_of bytes (eqb seat 0))) (refused_direct 0 NoHello))
+line_leaves asked steps seat s bytes true h = read_leaves asked steps seat s (command_of bytes (eqb seat 0)) h
+line_leaves asked steps seat s bytes false h = direct_leaves s 0 NoHello
 
 entry_leaves : (w : World) (seat : ℕ) (bytes : List ℕ) (key : Option (List ℕ)) (s : Seat) → seat_at w seat ≡ Some s → Leaves s (outcome_of w (entry_by seat bytes key))
 entry_leaves w seat bytes (Some key) s is =
@@ -95,7 +101,7 @@ entry_leaves w seat bytes (Some key) s is =
 entry_leaves w seat bytes None s is =
     let e : Entry = entry_by seat bytes None in
     subst (λ b. Leaves s (outcome_at (asked_of w seat) (steps_of w e) b e)) (sym is)
-    (subst (λ j. Leaves s (cond j (read_outcome (asked_of w seat) (steps_of w e) s.book (command_of bytes (eqb s.book.seat 0))) (refused_direct 0 NoHello))) refl (line_leaves (asked_of w seat) (steps_of w e) s bytes (is_joined s.book.state) refl))
+    (line_leaves (asked_of w seat) (steps_of w e) seat s bytes (is_joined s.book.state) refl)
 
 pub seat_of_entry_by : (seat : ℕ) (bytes : List ℕ) (key : Option (List ℕ)) → seat_of (entry_by seat bytes key) ≡ seat
 seat_of_entry_by seat bytes (Some key) = refl

@@ -1,5 +1,5 @@
 -- What a line of a script does.
-use Rattle.std.proofs.Common.{◌≡◌, ℕ, zero, suc, ◌+◌, ◌<◌, ◌≤◌, Bool, true, false, cond, ◌||◌, List, [], ◌∷◌, ◌++◌, length, Some, None, refl, sym, ◌∙◌, ap, subst, append_assoc, arith}
+use Rattle.std.proofs.Common.{◌≡◌, ℕ, suc, ◌<◌, ◌≤◌, false, ◌||◌, List, [], ◌∷◌, ◌++◌, length, Some, None, sym, ◌∙◌, ap, subst, append_assoc, arith}
 use Rattle.std.specs.Prelude.{Option, Result, Ok, Err, OnOk, OnErr, IfErr, nat_lt}
 use Rattle.std.specs.Io.KnownBytes.{append_known}
 use Rattle.std.proofs.lemmas.List.{append-nil}
@@ -7,10 +7,11 @@ use Rattle.std.proofs.lemmas.Bool.Decides.{nat_tests}
 use Rattle.campaign_law.specs.declared.entry.Entry.{Entry}
 use Rattle.campaign_law.specs.World.{World, step, replay}
 use Rattle.campaign_law.specs.Law.{Course, IsOpening, world_of}
-use Rattle.campaign_law.proofs.Sessions.{replay_more}
+use Rattle.command_rules.specs.Settle.{IsSettled}
+use Rattle.campaign_law.proofs.Settled.{replay_settled, after_settled}
 use Rattle.script_play.specs.declared.run.Played.{Played}
 use Rattle.script_play.specs.declared.run.Played.TheVariants.{Done, ReadFault, WriteFault, BadLine, TooLarge, Memory}
-use Rattle.script_play.specs.Script.{Script, Ending, done, bad_line, too_large, takens, with_takens, entry_of_line, is_past_limits, script_from, NothingWaits}
+use Rattle.script_play.specs.Script.{Script, done, bad_line, too_large, takens, with_takens, entry_of_line, is_past_limits, script_from, NothingWaits}
 use Rattle.script_play.specs.Tagged.{tagged}
 use Rattle.script_play.specs.Played.{IsPrefix, GoesOn, entries_since, HasEntered, HasWritten, LeavesNothing, IsCutShort, IsLineStop, played}
 use Rattle.script_play.proofs.Fronts.{replay-append, tagged-append, prefix_all, prefix_behind, prefix_before, wrote_all}
@@ -62,7 +63,7 @@ part_entered old middle new e due a b one is part =
 pub none_waits : (old middle new : Course) (due : List Entry) → IsOpening old.origin → GoesOn old middle → GoesOn middle new → due ≡ takens (world_of middle) → entries_since middle new ≡ due → NothingWaits (world_of new)
 none_waits old middle new due opening a b is all =
     subst NothingWaits (sym (world_on middle new b ∙ ap (replay (world_of middle)) (all ∙ is)))
-    (takens_take_all (world_of middle) (all_sound middle (subst IsOpening (sym a.origin) opening)))
+    (takens_take_all (world_of middle) (replay_settled middle.origin middle.history (subst IsOpening (sym a.origin) opening).scene) (all_sound middle (subst IsOpening (sym a.origin) opening)))
 
 part_of : {A : Type 0} (r : Result A Played) (front due : List Entry) → OnOk r (front ≡ due) → OnErr r (IsPrefix front due) → IsPrefix front due
 part_of (Ok value) front due h k = subst (IsPrefix front) h (prefix_all front)
@@ -77,7 +78,8 @@ pub takens_written : {A : Type 0} (r : Result A Played) (old middle new : Course
 takens_written r old middle new e due before after a b one is ok err memory wrote =
     let front : List Entry = entries_since middle new in
     let part : IsPrefix front due = part_of r front due ok err in
-    let none : tagged (world_of middle) front ≡ [] = first_takens_send_nothing (world_of middle) front part.rest (sym is ∙ part.is) in
+    let settled : IsSettled (world_of middle).scene = subst (λ (now : World). IsSettled now.scene) (sym (world_entered old middle e a one)) (after_settled (world_of old) e) in
+    let none : tagged (world_of middle) front ≡ [] = first_takens_send_nothing (world_of middle) front part.rest settled (sym is ∙ part.is) in
     let w : World = world_of old in
     let xs : List Entry = entries_since old middle in
     let text : tagged w (entries_since old new) ≡ tagged w xs =

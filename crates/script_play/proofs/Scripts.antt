@@ -1,26 +1,15 @@
 -- Scripts read line by line.
-use Rattle.std.proofs.Common.{◌≡◌, ℕ, zero, suc, ◌+◌, ◌<◌, ◌≤◌, Bool, true, false, cond, ◌||◌, List, [], ◌∷◌, ◌++◌, length, Some, None, refl, sym, ◌∙◌, ap, subst, arith, append_assoc, add-zero, lt-ltb}
-use Rattle.std.specs.Prelude.{Option, nat_lt, nat_le}
-use Rattle.std.specs.List.{AllByRecursion, flat_map}
+use Rattle.std.proofs.Common.{◌≡◌, ℕ, suc, ◌+◌, Bool, true, false, cond, List, [], ◌∷◌, ◌++◌, length, Some, None, refl, sym, ◌∙◌, ap, subst, arith, append_assoc, add-zero}
+use Rattle.std.specs.Prelude.{Option}
 use Rattle.std.specs.Option.{option_map_or}
-use Rattle.std.specs.Io.KnownBytes.{prepend_known, IsAtEnd}
 use Rattle.std.proofs.lemmas.List.{append-nil}
-use Rattle.std.proofs.lemmas.Bool.Decides.{nat_tests}
-use Rattle.line_io.specs.declared.lines.NextLine.{NextLine}
-use Rattle.line_io.specs.declared.lines.NextLine.TheVariants.{Line, End, TooLong, ReadFault as ReaderFault, Memory as ReaderMemory}
-use Rattle.line_io.specs.Lines.{HasNoLineEnd, lines_of, first_within, next_line, line_text}
-use Rattle.line_io.specs.Reader.{still_left, bytes_to_come, Answers}
-use Rattle.line_io.specs.ReaderState.{ReaderState}
-use Rattle.line_io.specs.Told.{WhereTold}
-use Rattle.line_io.proofs.LinesLemmas.{lines_of-nil, lines_of-line}
 use Rattle.campaign_law.specs.declared.entry.Entry.{Entry}
 use Rattle.campaign_law.specs.World.{World, replay}
-use Rattle.campaign_law.specs.Law.{bytes_of}
 use Rattle.script_play.specs.declared.run.Played.{Played}
 use Rattle.script_play.specs.declared.run.Played.TheVariants.{Done, ReadFault, WriteFault, BadLine, TooLarge, Memory}
-use Rattle.script_play.specs.Script.{Script, Ending, done, bad_line, too_large, ends, after_entries, entry_of_line, with_takens, is_past_limits, script_from, script_of}
+use Rattle.script_play.specs.Script.{Script, done, bad_line, too_large, ends, after_entries, entry_of_line, with_takens, is_past_limits, script_from}
 use Rattle.script_play.specs.Played.{IsPrefix, HasEntered, IsLineStop}
-use Rattle.script_play.proofs.Fronts.{replay-append, prefix_part, prefix_before, entered_behind}
+use Rattle.script_play.proofs.Fronts.{replay-append, prefix_before}
 
 -- ---- one line more
 

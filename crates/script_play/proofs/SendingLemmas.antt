@@ -1,24 +1,20 @@
 -- Texts that are written one behind the other.
-use Rattle.std.proofs.Common.{◌≡◌, ℕ, zero, suc, ◌+◌, ◌<◌, ◌≤◌, Bool, true, false, cond, eqb, List, [], ◌∷◌, ◌++◌, length, take, drop, map, get_or, max, Some, None, refl, sym, ◌∙◌, ap, subst, append_assoc, arith, length-drop, eq-eqb, add-one}
+use Rattle.std.proofs.Common.{◌≡◌, ℕ, zero, suc, ◌+◌, ◌<◌, Bool, true, false, cond, eqb, List, [], ◌∷◌, ◌++◌, length, take, drop, map, get_or, max, Some, None, refl, sym, ◌∙◌, ap, subst, append_assoc, arith, length-drop, eq-eqb, add-one}
 use Rattle.std.specs.Prelude.{Option, Result, Ok, Err, option_map, unwrap_or, IfSome}
 use Rattle.std.specs.List.{flat_map}
-use Rattle.std.specs.Option.{option_to_list}
 use Rattle.std.specs.Io.KnownBytes.{append_known}
 use Rattle.std.proofs.lemmas.List.{append-nil, take-append-drop}
 use Rattle.std.proofs.lemmas.Bool.Decides.{nat_tests}
 use Rattle.std.proofs.lemmas.Bool.{ne_eqb, eqb-true}
 use Rattle.line_io.specs.Told.{TookPrefix}
 use Rattle.line_io.proofs.ToldLemmas.{append_known-append, append_known-nil}
-use Rattle.campaign_law.specs.declared.entry.Entry.{Entry}
 use Rattle.campaign_law.specs.declared.entry.Entry.TheVariants.{Taken}
 use Rattle.campaign_law.specs.Seat.{Seat}
-use Rattle.campaign_law.specs.World.{World, seat_at, some_to_list}
+use Rattle.campaign_law.specs.World.{World, seat_at}
 use Rattle.campaign_law.specs.Session.{session, waiting}
 use Rattle.campaign_law.specs.Law.{Course, IsOpening, world_of}
-use Rattle.campaign_law.proofs.Lists.{ap₂}
 use Rattle.campaign_law.proofs.Sessions.{IsKept, kept_at}
 use Rattle.script_play.specs.declared.run.Played.{Played}
-use Rattle.script_play.specs.declared.run.Played.TheVariants.{Done, ReadFault, WriteFault, BadLine, TooLarge, Memory}
 use Rattle.script_play.specs.Script.{taken_of, takens_below}
 use Rattle.script_play.specs.Tagged.{seat_tag, tagged_line, tagged_lines}
 use Rattle.script_play.specs.Played.{IsCutShort}

@@ -1,11 +1,11 @@
 -- What a run of a script's lines did, up to each of its ends.
-use Rattle.std.proofs.Common.{◌≡◌, ℕ, ◌+◌, ◌<◌, ◌≤◌, Bool, true, false, cond, List, [], ◌∷◌, ◌++◌, Some, None, refl, sym, ◌∙◌, ap, subst, arith}
+use Rattle.std.proofs.Common.{◌≡◌, ℕ, ◌+◌, ◌≤◌, Bool, true, false, cond, List, [], ◌∷◌, ◌++◌, Some, None, refl, sym, ◌∙◌, ap, subst, arith}
 use Rattle.std.specs.Prelude.{Option}
 use Rattle.std.specs.Io.KnownBytes.{append_known, IsAtEnd}
 use Rattle.line_io.specs.Counts.{CountRose}
 use Rattle.line_io.specs.declared.lines.NextLine.{NextLine}
 use Rattle.line_io.specs.declared.lines.NextLine.TheVariants.{Line, End, TooLong, ReadFault as ReaderFault, Memory as ReaderMemory}
-use Rattle.line_io.specs.Lines.{HasNoLineEnd, lines_of}
+use Rattle.line_io.specs.Lines.{HasNoLineEnd}
 use Rattle.line_io.specs.Reader.{bytes_to_come, Answers}
 use Rattle.line_io.specs.ReaderState.{ReaderState}
 use Rattle.line_io.specs.Told.{WhereTold}
@@ -17,10 +17,10 @@ use Rattle.script_play.specs.declared.run.Played.TheVariants.{Done, ReadFault, W
 use Rattle.script_play.specs.Script.{script_from, script_of}
 use Rattle.script_play.specs.Tagged.{tagged}
 use Rattle.script_play.specs.Played.{GoesOn, entries_since, HasEntered, HasRead, HasReadTo, HasWritten, IsLineStop}
-use Rattle.script_play.proofs.Fronts.{written_behind, wrote_all}
+use Rattle.script_play.proofs.Fronts.{written_behind}
 use Rattle.script_play.proofs.Reading.{HasCome, none_came, line_came, stops_so, done_so, too_long, read_so_far, stopped_here, told_then, told_start, told_left}
 use Rattle.script_play.proofs.AfterEntry.{nothing_since}
-use Rattle.script_play.proofs.LineRuns.{since_all, goes_both, world_on}
+use Rattle.script_play.proofs.LineRuns.{since_all, world_on}
 
 pub not_so : (b : Bool) → (b ≡ true → ⊥) → b ≡ false
 not_so true f = absurd (f refl)

@@ -1,5 +1,5 @@
 -- What a run of a script did to a campaign, and what it wrote.
-use Rattle.std.specs.Prelude.{◌≡◌, ◌≤◌, ℕ, ◌-◌, List, [], ◌∷◌, ◌++◌, length, take, drop, Option, Some, Result, Ok, Err}
+use Rattle.std.specs.Prelude.{◌≡◌, ℕ, ◌-◌, List, [], ◌++◌, length, take, drop, Option, Some, Result, Ok, Err}
 use Rattle.std.specs.Io.KnownBytes.{append_known}
 use Rattle.line_io.specs.Lines.{HasNoLineEnd, lines_of}
 use Rattle.campaign_law.specs.declared.entry.Entry.{Entry}
@@ -7,7 +7,7 @@ use Rattle.campaign_law.specs.World.{World}
 use Rattle.campaign_law.specs.Law.{Course, bytes_of}
 use Rattle.script_play.specs.declared.run.Played.{Played}
 use Rattle.script_play.specs.declared.run.Played.TheVariants.{Done, ReadFault, WriteFault, BadLine, TooLarge, Memory}
-use Rattle.script_play.specs.Script.{Script, Ending, done, bad_line, too_large, script_of, entry_of_line, NothingWaits}
+use Rattle.script_play.specs.Script.{Script, done, bad_line, too_large, script_of, entry_of_line, NothingWaits}
 use Rattle.script_play.specs.Tagged.{tagged}
 
 -- the entries that a campaign has behind those that it had

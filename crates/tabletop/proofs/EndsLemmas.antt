@@ -35,7 +35,7 @@ opening_world_of : (c : Course) → c.history ≡ [] → world_of c ≡ c.origin
 opening_world_of c h = ap (replay c.origin) h
 
 pub nothing_waits : (c : Course) → IsOpening c.origin → c.history ≡ [] → NothingWaits (world_of c)
-nothing_waits c opens h = subst NothingWaits (sym (opening_world_of c h)) (fresh_waits c.origin.seats opens)
+nothing_waits c opens h = subst NothingWaits (sym (opening_world_of c h)) (fresh_waits c.origin.seats opens.seats)
 
 -- ---- a script that was played
 
@@ -53,10 +53,10 @@ plays_on answer c new world script left out after is opens none g entered read w
         entered = subst (λ (x : World). WhereTold script left (λ text rest. HasEntered answer (script_of x text) es)) w entered;
         read = subst (λ (x : World). WhereTold script left (λ text rest. HasRead answer x es text rest)) w read;
         written = subst (λ (x : World). HasWritten answer x es out after) w written;
-        sent = λ p small.
+        sent = λ p player small.
             sent_behind c.origin es p small
             ∙ (λ i. sent (sym g.origin i) (sym all i) p)
-            ∙ sent_as p
+            ∙ sent_as p player
             ∙ (λ i. machine (opening (g.origin i) p) (trace (g.origin i) (all i) p));
       };
     }

@@ -41,9 +41,9 @@ pub record Plays (answer : Played) (origin : World) (script left out after : Opt
   pub entered : WhereTold script left (λ text rest. HasEntered answer (script_of origin text) entries)
   pub read : WhereTold script left (λ text rest. HasRead answer origin entries text rest)
   pub written : HasWritten answer origin entries out after
-  -- of all that the entries send, what stands behind a seat's number is what the player machine prints, which
-  -- holds no world: it has the seat's opening book, its own entries, others' messages to it, and its views
-  pub sent : (p : ℕ) → p ≤ 32 → lines_behind p (tagged origin entries) ≡ machine (opening origin p) (trace origin entries p)
+  -- of all that the entries send, what stands behind a player's number is what the player machine prints, which
+  -- holds no world: it has the player's opening book, its own entries, others' messages to it, and its views
+  pub sent : (p : ℕ) → 1 ≤ p → p ≤ 32 → lines_behind p (tagged origin entries) ≡ machine (opening origin p) (trace origin entries p)
 
 -- from the world of the campaign
 pub record PlaysOn (answer : Played) (world : Option World) (script left out after : Option (List ℕ)) : Type 0 where

@@ -1,8 +1,7 @@
-use Rattle.std.proofs.Common.{◌≡◌, ◌∙◌, sym, subst, List, ap}
-use Rattle.campaign_law.specs.declared.entry.Entry.{Entry}
+use Rattle.std.proofs.Common.{◌∙◌, ap}
 use Rattle.campaign_law.specs.declared.answer.Answer.{Answer}
 use Rattle.campaign_law.specs.Law.{world_of}
-use Rattle.script_play.specs.Played.{entries_since, IsPrefix}
+use Rattle.script_play.specs.Played.{entries_since}
 use Rattle.script_play.proofs.AfterEntry.{entered_written, nothing_since, prefix_none, wrote_nothing}
 use Rattle.script_play.proofs.run.enter.Goals as goal
 

@@ -1,6 +1,5 @@
-use Rattle.std.proofs.Common.{◌≡◌, ◌∙◌, sym, subst, ap, List}
+use Rattle.std.proofs.Common.{◌≡◌, ◌∙◌, sym, subst, ap}
 use Rattle.std.specs.Vec.Iter.{into_iter_items}
-use Rattle.campaign_law.specs.declared.entry.Entry.{Entry}
 use Rattle.campaign_law.specs.Law.{Course}
 use Rattle.script_play.specs.Played.{entries_since, IsPrefix}
 use Rattle.script_play.proofs.AfterEntry.{since_is}

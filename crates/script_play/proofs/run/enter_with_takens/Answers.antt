@@ -1,4 +1,3 @@
-use Rattle.std.proofs.Common.{◌≡◌, ◌∙◌, sym, subst, List, ap}
 use Rattle.campaign_law.specs.Law.{world_of}
 use Rattle.script_play.specs.Script.{takens}
 use Rattle.campaign_law.specs.World.{step}

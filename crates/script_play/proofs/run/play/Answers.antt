@@ -1,9 +1,9 @@
-use Rattle.std.proofs.Common.{◌≡◌, ◌∙◌, sym, subst, List, ℕ}
-use Rattle.campaign_law.specs.Law.{IsOpening, IsSentAsMachine, world_of}
+use Rattle.std.proofs.Common.{sym, subst}
+use Rattle.campaign_law.specs.Law.{IsOpening, world_of}
 use Rattle.campaign_law.proofs.Simulation.{sent_is_machine}
 use Rattle.script_play.specs.Script.{script_of}
 use Rattle.script_play.specs.Played.{IsPrefix, entries_since}
-use Rattle.script_play.proofs.AfterEntry.{nothing_since, prefix_none}
+use Rattle.script_play.proofs.AfterEntry.{nothing_since, prefix_none, wrote_nothing}
 use Rattle.script_play.proofs.Reading.{told_same}
 use Rattle.script_play.proofs.run.play.Goals as goal
 
@@ -18,3 +18,6 @@ pub returns-in-Err-clause-entered : goal.returns-in-Err-clause-entered
 returns-in-Err-clause-entered g c =
     told_same (λ text rest. IsPrefix (entries_since c.args.campaign.now c.args.campaign.now) (script_of (world_of c.args.campaign.now) text).entries) (g.S.Source.left c.args.script.now)
     (λ x. prefix_none _ _ (nothing_since c.args.campaign.now))
+
+pub returns-in-Err-clause-written : goal.returns-in-Err-clause-written
+returns-in-Err-clause-written g c = wrote_nothing (world_of c.args.campaign.now) _ _ (nothing_since c.args.campaign.now)

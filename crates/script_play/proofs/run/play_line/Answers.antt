@@ -1,4 +1,4 @@
-use Rattle.std.proofs.Common.{◌≡◌, ◌∙◌, sym}
+use Rattle.std.proofs.Common.{◌∙◌, sym}
 use Rattle.campaign_law.specs.Law.{world_of}
 use Rattle.script_play.proofs.AfterEntry.{nothing_since, prefix_none}
 use Rattle.script_play.proofs.LineRuns.{line_played, bad_line_played, too_many_played}

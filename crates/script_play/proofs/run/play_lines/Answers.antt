@@ -1,10 +1,8 @@
-use Rattle.std.proofs.Common.{◌≡◌, ◌≤◌, ◌+◌, ◌∷◌, [], ◌∙◌, ap, sym, subst, arith, Bool, true, false, List, ℕ}
+use Rattle.std.proofs.Common.{◌≡◌, ◌∷◌, [], ◌∙◌, ap, sym, subst, arith, true, false}
 use Rattle.std.specs.Io.KnownBytes.{append_known}
-use Rattle.line_io.specs.declared.lines.NextLine.{NextLine}
 use Rattle.line_io.specs.declared.lines.NextLine.TheVariants.{Line, End, ReadFault as ReaderFault}
 use Rattle.line_io.specs.ReaderState.{ReaderState}
 use Rattle.line_io.proofs.ToldLemmas.{append_known-nil}
-use Rattle.campaign_law.specs.declared.entry.Entry.{Entry}
 use Rattle.campaign_law.specs.Law.{world_of}
 use Rattle.script_play.specs.declared.run.Played.TheVariants.{Done}
 use Rattle.script_play.specs.Script.{script_from}

@@ -1,4 +1,4 @@
-use Rattle.std.proofs.Common.{◌≡◌, ◌≤◌, ◌<◌, ◌∙◌, ap, sym, ◌++◌, arith, length, List, ℕ}
+use Rattle.std.proofs.Common.{◌≡◌, ◌<◌, ◌∙◌, ap, sym, ◌++◌, arith, length, List, ℕ}
 use Rattle.std.specs.Io.KnownBytes.{append_known}
 use Rattle.line_io.proofs.ToldLemmas.{append_known-append}
 use Rattle.campaign_law.specs.World.{World, seat_at}

@@ -1,4 +1,4 @@
-use Rattle.std.proofs.Common.{◌≡◌, ◌∙◌, ap, sym, subst, ◌++◌, List, ℕ}
+use Rattle.std.proofs.Common.{◌∙◌, subst}
 use Rattle.script_play.specs.Sending.{WroteFront}
 use Rattle.script_play.proofs.SendingLemmas.{front_taken}
 use Rattle.script_play.proofs.sending.send_line.Goals as goal

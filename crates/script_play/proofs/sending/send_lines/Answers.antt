@@ -1,4 +1,4 @@
-use Rattle.std.proofs.Common.{◌≡◌, ◌∙◌, ap, sym, ◌++◌, suc, take, drop, List, ℕ}
+use Rattle.std.proofs.Common.{◌∙◌, ap, sym, ◌++◌, suc, take, drop, List, ℕ}
 use Rattle.std.specs.List.{flat_map}
 use Rattle.script_play.specs.Tagged.{seat_tag}
 use Rattle.script_play.proofs.SendingLemmas.{stops_behind, flat_map_from}

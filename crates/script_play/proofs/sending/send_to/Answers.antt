@@ -1,7 +1,7 @@
-use Rattle.std.proofs.Common.{◌≡◌, ◌∙◌, ap, sym, subst, ◌++◌, List, ℕ}
+use Rattle.std.proofs.Common.{sym, subst}
 use Rattle.script_play.specs.Tagged.{tagged_lines}
 use Rattle.script_play.specs.Sending.{waiting_lines, reply_to, Sends}
-use Rattle.script_play.proofs.SendingLemmas.{sends_behind, stops_before, tagged_lines-append}
+use Rattle.script_play.proofs.SendingLemmas.{sends_behind, tagged_lines-append}
 use Rattle.script_play.proofs.sending.send_to.Goals as goal
 
 pub returns-in-Ok-clause-sends : goal.returns-in-Ok-clause-sends

@@ -1,7 +1,7 @@
-use Rattle.std.proofs.Common.{◌≡◌, ◌∙◌, ap, sym, subst, ◌++◌, List, ℕ}
+use Rattle.std.proofs.Common.{◌∙◌, ap, subst, ◌++◌}
 use Rattle.std.specs.List.{flat_map}
 use Rattle.std.specs.Io.KnownBytes.{append_known}
-use Rattle.script_play.specs.Tagged.{seat_tag, tagged_lines}
+use Rattle.script_play.specs.Tagged.{seat_tag}
 use Rattle.script_play.specs.Sending.{waiting_lines, WroteFront}
 use Rattle.script_play.proofs.SendingLemmas.{tagged_ended}
 use Rattle.script_play.proofs.sending.send_waiting.Goals as goal

@@ -1,4 +1,4 @@
-use Rattle.std.proofs.Common.{◌≡◌, ◌∙◌, sym}
+use Rattle.std.proofs.Common.{◌∙◌, sym}
 use Rattle.script_play.proofs.SendingLemmas.{no_taken, one_taken}
 use Rattle.script_play.proofs.sending.taken_entry.Goals as goal
 
