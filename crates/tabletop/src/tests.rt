@@ -45,12 +45,12 @@ fn played(alloc: Global, words: &[&str], run: &Run<'_>) -> Result<(u8, Vec<u8>),
     let mut desk = MemDesk::new(alloc, texts, run.desk_fails.to_vec(alloc)?);
     let script = LineText::copy(alloc, run.script)?;
     let mut script = MemSource::new(alloc, script, 7, run.script_fails.to_vec(alloc)?);
-    let mut out = MemSink::new(alloc, 4096, 4096, run.out_fails.to_vec(alloc)?)?;
+    let mut out = MemSink::new(alloc, 8192, 4096, run.out_fails.to_vec(alloc)?)?;
     let status = tabletop(alloc, &all, &mut desk, &mut script, &mut out);
     Ok((status, out.bytes().to_vec(alloc)?))
 }
 
-const RUNS: [Run<'static>; 15] = [
+const RUNS: [Run<'static>; 17] = [
     Run {
         name: "an empty script",
         campaign: THREE_SEATS,
@@ -153,6 +153,63 @@ const RUNS: [Run<'static>; 15] = [
                 1\t{\"n\":3,\"no\":8,\"refused\":\"OffMap\"}\n\
                 1\t{\"n\":4,\"no\":9,\"refused\":\"BadPath\"}\n\
                 1\t{\"n\":5,\"no\":5,\"refused\":\"NotYours\"}\n",
+    },
+    Run {
+        name: "a wall that is cut and put back, and what is hidden",
+        campaign: CAVE,
+        script: br#"0 {"do":"hello","seat":0,"key":"g"}
+1 {"do":"hello","seat":1,"key":"a"}
+0 {"do":"unwall","map":"cave","kind":"vbl","a":[2,0],"b":[2,4]}
+0 {"do":"wall","map":"cave","kind":"vbl","a":[2,4],"b":[2,0]}
+0 {"do":"hide","seat":1,"map":"cave","rect":[0,0,3,3]}
+1 {"do":"make","tag":"bo","map":"cave","cell":[2,0],"name":"Bo"}
+1 {"do":"wall","map":"cave"}
+"#,
+        desk_fails: &[],
+        script_fails: &[],
+        out_fails: &[],
+        status: 0,
+        output: b"0\t{\"n\":1,\"ok\":\"hello\",\"seat\":0,\"seats\":2}\n\
+                0\t{\"full\":{\"lights\":{},\"maps\":[{\"ground\":[[0,0,\"...\"],[1,0,\"...\"],[2,0,\"...\"]],\"h\":3,\"mode\":\"day\",\"name\":\"cave\",\"seen\":[[0,0,2],[1,0,2],[2,0,2]],\"shown\":true,\"w\":3}],\"sights\":{\"human\":[10,0,2]},\"tokens\":[{\"cell\":[0,0],\"id\":\"1:ann\",\"layer\":\"token\",\"light\":null,\"map\":\"cave\",\"name\":\"Ann\",\"own\":[],\"owners\":[1],\"props\":[],\"secret\":[],\"sight\":\"human\",\"size\":1,\"visible\":true}]}}\n\
+                1\t{\"n\":1,\"ok\":\"hello\",\"seat\":1,\"seats\":2}\n\
+                1\t{\"full\":{\"lights\":{},\"maps\":[{\"ground\":[[0,0,\".\"],[1,0,\".\"],[2,0,\".\"]],\"h\":3,\"mode\":\"day\",\"name\":\"cave\",\"seen\":[[0,0,0],[1,0,0],[2,0,0]],\"w\":3}],\"sights\":{\"human\":[10,0,2]},\"tokens\":[{\"cell\":[0,0],\"id\":\"1:ann\",\"layer\":\"token\",\"light\":null,\"map\":\"cave\",\"name\":\"Ann\",\"own\":[],\"props\":[],\"sight\":\"human\",\"size\":1}]}}\n\
+                0\t{\"n\":2,\"ok\":\"unwall\"}\n\
+                1\t{\"change\":{\"changed\":[{\"ground\":[[0,1,\"..\"],[1,1,\"..\"],[2,1,\"..\"]],\"lit\":[[0,1,2],[1,1,2],[2,1,2]],\"name\":\"cave\"}]}}\n\
+                0\t{\"n\":3,\"ok\":\"wall\"}\n\
+                1\t{\"change\":{\"changed\":[{\"dark\":[[0,1,2],[1,1,2],[2,1,2]],\"name\":\"cave\"}]}}\n\
+                0\t{\"n\":4,\"ok\":\"hide\"}\n\
+                1\t{\"change\":{\"changed\":[{\"hidden\":[[0,1,2],[1,1,2],[2,1,2]],\"name\":\"cave\"}]}}\n\
+                1\t{\"n\":2,\"no\":12,\"refused\":\"NotExposed\"}\n\
+                1\t{\"n\":3,\"no\":3,\"refused\":\"GmOnly\"}\n",
+    },
+    Run {
+        name: "dice from each seat's own seed",
+        campaign: THREE_SEATS,
+        script: br#"1 {"do":"hello","seat":1,"key":"a"}
+2 {"do":"hello","seat":2,"key":"b"}
+1 {"do":"roll","dice":"4d6k3","to":"self"}
+2 {"do":"roll","dice":"4d6k3","to":"self"}
+1 {"do":"roll","dice":"4d6k","to":"self"}
+1 {"do":"roll","dice":"1d20","to":"self"}
+1 {"do":"say","text":"hi","to":2}
+"#,
+        desk_fails: &[],
+        script_fails: &[],
+        out_fails: &[],
+        status: 0,
+        output: b"1\t{\"n\":1,\"ok\":\"hello\",\"seat\":1,\"seats\":3}\n\
+                1\t{\"full\":{\"lights\":{},\"maps\":[],\"sights\":{},\"tokens\":[]}}\n\
+                2\t{\"n\":1,\"ok\":\"hello\",\"seat\":2,\"seats\":3}\n\
+                2\t{\"full\":{\"lights\":{},\"maps\":[],\"sights\":{},\"tokens\":[]}}\n\
+                1\t{\"n\":2,\"ok\":\"roll\"}\n\
+                1\t{\"from\":1,\"text\":\"4d6k3 = 15\",\"to\":\"self\"}\n\
+                2\t{\"n\":2,\"ok\":\"roll\"}\n\
+                2\t{\"from\":2,\"text\":\"4d6k3 = 15\",\"to\":\"self\"}\n\
+                1\t{\"at\":4,\"n\":3,\"no\":18,\"refused\":\"BadDice\"}\n\
+                1\t{\"n\":4,\"ok\":\"roll\"}\n\
+                1\t{\"from\":1,\"text\":\"1d20 = 15\",\"to\":\"self\"}\n\
+                1\t{\"n\":5,\"ok\":\"say\"}\n\
+                2\t{\"from\":1,\"text\":\"hi\",\"to\":2}\n",
     },
     Run {
         name: "no such seat",
