@@ -85,7 +85,7 @@ const RUNS: [Run<'static>; 17] = [
 1 {"do":"say","text":"hi"}
 1 {"do":"bye"}
 1 {"do":"hello","seat":1,"key":"a"}
-1 {"do":"say","text":"hi","to":"self"}
+1 {"do":"say","text":"hi","tone":"low"}
 "#,
         desk_fails: &[],
         script_fails: &[],
@@ -98,7 +98,7 @@ const RUNS: [Run<'static>; 17] = [
                 1\t{\"n\":3,\"ok\":\"bye\"}\n\
                 1\t{\"n\":4,\"ok\":\"hello\",\"seat\":1,\"seats\":2}\n\
                 1\t{\"full\":{\"lights\":{},\"maps\":[],\"sights\":{},\"tokens\":[]}}\n\
-                1\t{\"field\":\"to\",\"n\":5,\"no\":4,\"refused\":\"BadField\"}\n",
+                1\t{\"field\":\"tone\",\"n\":5,\"no\":4,\"refused\":\"BadField\"}\n",
     },
     Run {
         name: "a wrong key, a hello while Joined, and a line without hello",
