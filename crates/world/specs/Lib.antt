@@ -1,3 +1,4 @@
 pub mod Scene
 pub mod Rules
 pub mod World
+pub mod Lending

@@ -247,7 +247,7 @@ fn find(world: &World, seat: SeatNo) -> Result<(), Fail>
     }
 }
 
-/// A seat joins, uses a tag twice, has a line and leaves.
+/// A seat joins, uses a tag twice, throws a die, has a line and leaves.
 fn visit(rt: &impl Abort, world: &mut World, seat: SeatNo, tag: Tag) -> Result<(), Fail> {
     find(world, seat)?;
     assert_eq!(rt; world.join(seat, b"ann", 1, 2), Ok(()));
@@ -255,6 +255,11 @@ fn visit(rt: &impl Abort, world: &mut World, seat: SeatNo, tag: Tag) -> Result<(
     assert_eq!(rt; world.use_tag(seat, tag), Ok(()));
     find(world, seat)?;
     assert_eq!(rt; world.use_tag(seat, tag), Err(TagFault::TagUsed));
+    find(world, seat)?;
+    // The first word of the zero seed is ade0b876 (RFC 8439, appendix A.1, test vector 1).
+    assert_eq!(rt; world.stream(seat).die(6), 5);
+    find(world, seat)?;
+    assert_eq!(rt; world.seat(seat).drawn(), 1);
     find(world, seat)?;
     let left = world.seat(seat).lines() < 16384;
     assert!(rt; left);

@@ -1,5 +1,6 @@
 //! All of a campaign.
 ghost use Rattle.std.specs.Prelude.{◌≡◌, ◌<◌, ◌≤◌, ◌+◌, ◌↔◌, ◌++◌, ◌∷◌, [], IsTrue, true, false, length, slice_get, Err, None, Some, IfOk, IfErr, IfSome, OnOk, OnErr, IsErr};
+ghost use Rattle.std.specs.Borrow.{sem};
 ghost use Rattle.std.specs.Result.{result_err};
 ghost use Rattle.fog_book.specs.Exposures.{AddsMap, ChangesOnly, joined as cells_joined, with_change};
 ghost use Rattle.fog_book.specs.Rects.{with_rect};
@@ -7,7 +8,7 @@ ghost use Rattle.lights.specs.Lights.{IsFaultOf as IsLightFaultOf, light_fault};
 ghost use Rattle.maps.specs.Letters.{IsOn, is_letter};
 ghost use Rattle.maps.specs.Maps.{has_map, map_of, shown_if as map_shown_if, with_letters, with_mode, with_wall_of, without_wall_of};
 ghost use Rattle.maps.specs.MapFaults.{IsMapFaultOf, map_fault};
-ghost use Rattle.seats.specs.Book.{counted, freed, join_refusal, joined, left, tag_used, tags_spent, with_tag};
+ghost use Rattle.seats.specs.Book.{counted, freed, join_refusal, joined, left, stream_of, tag_used, tags_spent, with_tag};
 ghost use Rattle.seats.specs.declared.tag_fault.TagFault.TheVariants.{TagUsed, TagsSpent};
 ghost use Rattle.sight_types.specs.Sights.{IsFaultOf as IsSightFaultOf, sight_fault};
 ghost use Rattle.tokens.specs.Properties.{is_full_for, value_limit};
@@ -17,21 +18,24 @@ ghost use Rattle.topology.specs.Order.{wall_between};
 ghost use Rattle.topology.specs.WallFaults.{IsFaultOf as IsWallFaultOf, wall_fault};
 ghost use Rattle.topology.specs.WallLists.{has_wall, walls_of};
 ghost use Rattle.type_table.specs.Types.{with_type};
-ghost use Rattle.world.specs.Rules.{belongs, fits_on, is_known, is_player, size_of};
+ghost use Rattle.world.specs.Lending.{LendsStream};
+ghost use Rattle.world.specs.Rules.{IsScene, belongs, fits_on, is_known, is_player, size_of};
 ghost use Rattle.world.specs.Scene.{with_grid, with_new_map, with_token};
 ghost use Rattle.world.specs.World.{IsOpening, IsWorld, opened, with_book};
 
 use crate::scene::Scene;
 use cells::{Cell, CellSet, Rect, Size};
+use fog_book::FogBook;
 use lattice::Point;
-use lights::LightFault;
-use maps::MapFault;
+use lights::{LightFault, LightTable};
+use maps::{MapFault, MapTable};
 use names::{Layer, Memory, Mode, PropClass, SeatNo, Tag, Text, TokenId, WallKind};
+use seat_random::SeatStream;
 use seats::{JoinRefusal, SeatBook, TagFault};
-use sight_types::SightFault;
+use sight_types::{SightFault, SightTable};
 use std::alloc::Global;
 use std::marker::Model;
-use tokens::{PropFault, Token};
+use tokens::{PropFault, Token, TokenTable};
 use topology::{NoSuchWall, WallFault};
 
 /// A campaign's scene and its seats' books: 1 to 33 seats, the game master's and those of the scene's players, numbered
@@ -96,6 +100,46 @@ impl World {
         ensures fitting { IsWorld self.now }
     {
         &self.scene
+    }
+
+    /// The maps, in byte order of their names.
+    pub fn maps(&self) -> &MapTable
+        ensures value { result.now ≡ self.now.scene.maps }
+        ensures fitting { IsScene self.now.scene }
+    {
+        self.scene.maps()
+    }
+
+    /// The tokens, in order of their ids.
+    pub fn tokens(&self) -> &TokenTable
+        ensures value { result.now ≡ self.now.scene.tokens }
+        ensures fitting { IsScene self.now.scene }
+    {
+        self.scene.tokens()
+    }
+
+    /// The light types.
+    pub fn lights(&self) -> &LightTable
+        ensures value { result.now ≡ self.now.scene.lights }
+        ensures fitting { IsScene self.now.scene }
+    {
+        self.scene.lights()
+    }
+
+    /// The sight types.
+    pub fn sights(&self) -> &SightTable
+        ensures value { result.now ≡ self.now.scene.sights }
+        ensures fitting { IsScene self.now.scene }
+    {
+        self.scene.sights()
+    }
+
+    /// What is exposed to each player.
+    pub fn fog(&self) -> &FogBook
+        ensures value { result.now ≡ self.now.scene.fog }
+        ensures fitting { IsScene self.now.scene }
+    {
+        self.scene.fog()
     }
 
     /// How many seats there are, 1 to 33.
@@ -399,6 +443,16 @@ impl World {
         ensures { self.new ≡ with_book seat counted self.old }
     {
         self.seats[seat.number() as usize].count_line();
+    }
+
+    /// The stream of the dice of a seat, which is in the world, to be drawn from. All else stays.
+    pub fn stream(&mut self, seat: SeatNo) -> &mut SeatStream
+        requires { seat < length self.old.books }
+        ensures* lent { sem 𝓛 (LendsStream self.entry seat result) }
+        ensures value { IfSome (slice_get self.old.books seat) (λ book. result.now ≡ stream_of book) }
+    {
+        let book = &mut self.seats[seat.number() as usize];
+        book.stream()
     }
 
     /// A seat, which is in the world, uses the tag. All else stays.
