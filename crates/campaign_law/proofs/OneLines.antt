@@ -18,10 +18,10 @@ use Rattle.command_rules.specs.declared.refusal.Refusal.TheVariants.{NoHello, Ba
 use Rattle.player_view.specs.Asked.{Asked}
 use Rattle.command_json.specs.Commands.{command_of}
 use Rattle.campaign_law.specs.Texts.{hello_line, hello_tree, ok_line, ok_tree, moved_line, moved_tree, refusal_line, refusal_tree}
-use Rattle.view_change.specs.declared.view.View.{View}
+use Rattle.views.specs.declared.view.View.{View}
 use Rattle.view_change.specs.Change.{change_of}
-use Rattle.view_change.specs.declared.change.Change.{Change}
-use Rattle.view_change.specs.Lines.{full_line, full_tree, change_tree, change_line as line_of}
+use Rattle.views.specs.declared.change.Change.{Change}
+use Rattle.view_lines.specs.Lines.{full_line, full_tree, change_tree, change_line as line_of}
 use Rattle.player_view.specs.View.{view_of}
 use Rattle.campaign_law.specs.Views.{change_line}
 use Rattle.campaign_law.specs.Seat.{Seat}

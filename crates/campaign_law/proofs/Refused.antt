@@ -11,7 +11,7 @@ use Rattle.command_json.specs.declared.command.Command.{Command}
 use Rattle.command_json.specs.declared.command.LineFault.{LineFault}
 use Rattle.command_rules.specs.declared.refusal.Refusal.{Refusal}
 use Rattle.command_rules.specs.declared.refusal.Refusal.TheVariants.{NoHello, BadKey}
-use Rattle.view_change.specs.declared.view.View.{View}
+use Rattle.views.specs.declared.view.View.{View}
 use Rattle.player_view.specs.View.{view_of}
 use Rattle.player_view.specs.Asked.{Asked}
 use Rattle.command_json.specs.Commands.{command_of}

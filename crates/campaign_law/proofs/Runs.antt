@@ -2,8 +2,8 @@
 use Rattle.std.proofs.Common.{◌≡◌, ℕ, ◌+◌, Bool, true, false, cond, List, [], ◌∷◌, ◌++◌, map, length, Some, None, refl, sym, ◌∙◌, ap, append_assoc, arith}
 use Rattle.std.specs.Prelude.{is_some, option_map, Option, IfSome}
 use Rattle.seats.specs.SeatState.{is_joined}
-use Rattle.view_change.specs.declared.view.View.{View}
-use Rattle.view_change.specs.Lines.{full_line}
+use Rattle.views.specs.declared.view.View.{View}
+use Rattle.view_lines.specs.Lines.{full_line}
 use Rattle.campaign_law.specs.Views.{change_line}
 use Rattle.campaign_law.specs.Seat.{Seat, settled}
 use Rattle.campaign_law.specs.World.{view_lines, some_to_list}

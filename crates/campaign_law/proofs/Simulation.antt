@@ -7,7 +7,7 @@ use Rattle.seats.specs.Book.{Book, blank_book}
 use Rattle.seats.specs.SeatState.{is_free, is_joined, is_closing}
 use Rattle.seats.proofs.Books.{is_joined-blank}
 use Rattle.campaign_law.specs.declared.entry.Entry.{Entry}
-use Rattle.view_change.specs.declared.view.View.{View}
+use Rattle.views.specs.declared.view.View.{View}
 use Rattle.player_view.specs.View.{view_of, no_view}
 use Rattle.player_view.specs.Asked.{Asked, asked_of_view, asked_of as asked_of_scene}
 use Rattle.player_view.proofs.Alike.{asked_alike as asked_alike_of}

@@ -1,9 +1,9 @@
 -- Laws of the lines that show views.
 use Rattle.std.proofs.Common.{◌≡◌, Some, None, refl, ap}
 use Rattle.std.specs.Prelude.{Option, option_map}
-use Rattle.view_change.specs.declared.view.View.{View}
+use Rattle.views.specs.declared.view.View.{View}
 use Rattle.view_change.specs.Change.{change_of}
-use Rattle.view_change.specs.Lines.{change_line as line_of}
+use Rattle.view_lines.specs.Lines.{change_line as line_of}
 use Rattle.view_change.proofs.ChangeLemmas.{none_if_same}
 use Rattle.campaign_law.specs.Views.{change_line}
 

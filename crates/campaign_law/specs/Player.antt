@@ -2,7 +2,7 @@
 use Rattle.std.specs.Prelude.{ℕ, ◌==◌, ◌&&◌, ◌||◌, Bool, true, false, List, [], ◌∷◌, ◌++◌, length, map, if◌then◌else◌, Option, option_map, is_some}
 use Rattle.seats.specs.Book.{Book, blank_book}
 use Rattle.campaign_law.specs.declared.entry.Entry.{Entry}
-use Rattle.view_change.specs.declared.view.View.{View}
+use Rattle.views.specs.declared.view.View.{View}
 use Rattle.player_view.specs.View.{view_of, no_view}
 use Rattle.player_view.specs.Asked.{asked_of_view}
 use Rattle.campaign_law.specs.Views.{change_line}

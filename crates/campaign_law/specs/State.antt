@@ -3,7 +3,7 @@ use Rattle.std.specs.Prelude.{ℕ, ◌==◌, ◌-◌, Bool, List, ◌++◌, [], 
 use Rattle.seats.specs.Book.{Book}
 use Rattle.seats.specs.SeatState.{is_free}
 use Rattle.campaign_law.specs.declared.entry.Entry.{Entry}
-use Rattle.view_change.specs.declared.view.View.{View}
+use Rattle.views.specs.declared.view.View.{View}
 use Rattle.world.specs.Scene.{Scene}
 use Rattle.player_view.specs.View.{view_of}
 use Rattle.campaign_law.specs.Seat.{Seat, fresh_seat}

@@ -1,8 +1,8 @@
 -- Worlds, steps and what is sent.
 use Rattle.std.specs.Prelude.{ℕ, suc, ◌==◌, ◌&&◌, ◌||◌, Bool, List, [], ◌∷◌, ◌++◌, length, map, filter, slice_get, if◌then◌else◌, Option, Some, None, unwrap_or}
 use Rattle.campaign_law.specs.declared.entry.Entry.{Entry}
-use Rattle.view_change.specs.declared.view.View.{View}
-use Rattle.view_change.specs.Lines.{full_line}
+use Rattle.views.specs.declared.view.View.{View}
+use Rattle.view_lines.specs.Lines.{full_line}
 use Rattle.world.specs.Scene.{Scene}
 use Rattle.player_view.specs.View.{view_of}
 use Rattle.player_view.specs.Asked.{Asked, asked_of as asked_of_scene}

@@ -10,10 +10,10 @@ use Rattle.tokens.specs.declared.token.Token.{Token}
 use Rattle.tokens.specs.Tokens.{has_id}
 use Rattle.tokens.specs.Properties.{Property}
 use Rattle.names.specs.TokenId.{id_eq}
-use Rattle.view_change.specs.declared.view.View.{View}
-use Rattle.view_change.specs.declared.view.MapView.{MapView}
-use Rattle.view_change.specs.declared.view.TokenView.{TokenView}
-use Rattle.view_change.specs.declared.view.OwnedPart.{OwnedPart}
+use Rattle.views.specs.declared.view.View.{View}
+use Rattle.views.specs.declared.view.MapView.{MapView}
+use Rattle.views.specs.declared.view.TokenView.{TokenView}
+use Rattle.views.specs.declared.view.OwnedPart.{OwnedPart}
 use Rattle.player_view.specs.View.{is_gm, acts_on, has_map, exposed_to}
 use Rattle.world.specs.Scene.{Scene}
 

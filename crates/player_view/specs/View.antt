@@ -6,12 +6,12 @@ use Rattle.maps.specs.Maps.{Grid, letter_at}
 use Rattle.sight_types.specs.declared.Sight.{Sight}
 use Rattle.tokens.specs.declared.token.Token.{Token}
 use Rattle.tokens.specs.Owners.{seats_of}
-use Rattle.view_change.specs.Keys.{Named, Letter}
-use Rattle.view_change.specs.declared.view.View.{View}
-use Rattle.view_change.specs.declared.view.MapView.{MapView}
-use Rattle.view_change.specs.declared.view.TokenView.{TokenView}
-use Rattle.view_change.specs.declared.view.OwnedPart.{OwnedPart}
-use Rattle.view_change.specs.declared.view.GmPart.{GmPart}
+use Rattle.views.specs.Keys.{Named, Letter}
+use Rattle.views.specs.declared.view.View.{View}
+use Rattle.views.specs.declared.view.MapView.{MapView}
+use Rattle.views.specs.declared.view.TokenView.{TokenView}
+use Rattle.views.specs.declared.view.OwnedPart.{OwnedPart}
+use Rattle.views.specs.declared.view.GmPart.{GmPart}
 use Rattle.player_view.specs.Sight.{owns, visible}
 use Rattle.player_view.specs.Shown.{exposed, is_shown}
 use Rattle.world.specs.Scene.{Scene}

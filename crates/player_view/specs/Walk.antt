@@ -7,7 +7,7 @@ use Rattle.cells.specs.Cells.{Cells, cells_where}
 use Rattle.maps.specs.Maps.{Grid}
 use Rattle.sight_types.specs.declared.Sight.{Sight}
 use Rattle.tokens.specs.declared.token.Token.{Token}
-use Rattle.view_change.specs.declared.view.MapView.{MapView}
+use Rattle.views.specs.declared.view.MapView.{MapView}
 use Rattle.player_view.specs.Sight.{is_on, named_type, owns, shows_cell}
 use Rattle.player_view.specs.Shown.{touches}
 use Rattle.world.specs.Scene.{Scene}

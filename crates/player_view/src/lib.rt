@@ -8,12 +8,12 @@ mod laws;
 mod looks;
 mod map_views;
 mod reads;
+mod seat_view;
 mod token_views;
-mod views;
 
 pub use keeping::fields_of;
 pub use laws::{asked_alike, tests_tell};
 pub use looks::visible_of;
 pub use map_views::is_exposed;
 pub use reads::{has_light, known, mine};
-pub use views::view_of;
+pub use seat_view::view_of;

@@ -14,7 +14,7 @@ use cells::{Cell, CellSet};
 use maps::GridMap;
 use names::{Memory, SeatNo};
 use std::alloc::Global;
-use view_change::{Letters, MapView, MapViews};
+use views::{Letters, MapView, MapViews};
 use vision::Fields;
 use world::Scene;
 

@@ -14,9 +14,7 @@ use cells::{Cell, CellSet};
 use names::{Layer, Memory, SeatNo, Tag, Text};
 use std::alloc::Global;
 use tokens::{Owners, Props, Token};
-use view_change::{
-    GmPart, MapView, MapViews, OwnedPart, PropTexts, SeatNos, TokenView, TokenViews,
-};
+use views::{GmPart, MapView, MapViews, OwnedPart, PropTexts, SeatNos, TokenView, TokenViews};
 use world::Scene;
 
 fn add_prop(

@@ -16,7 +16,7 @@ use Rattle.command_rules.specs.declared.refusal.Refusal.TheVariants.{NoHello}
 use Rattle.command_json.specs.Commands.{command_of}
 use Rattle.command_rules.specs.Tags.{tag_made, using_tag}
 use Rattle.player_view.specs.Asked.{Asked}
-use Rattle.view_change.specs.declared.view.View.{View}
+use Rattle.views.specs.declared.view.View.{View}
 use Rattle.player_view.specs.View.{view_of}
 use Rattle.campaign_law.specs.Seat.{Seat, freed_seat, is_let_go}
 use Rattle.campaign_law.specs.Outcome.{Outcome, outcome_at, join_outcome, read_outcome, decided, accepted, refused_direct, refused_line, broken_rule, is_bye, dice_in, rolling, book_done, seat_of}

@@ -8,8 +8,8 @@ use Rattle.std.proofs.lemmas.Bool.Decides.{nat_tests}
 use Rattle.campaign_law.specs.declared.entry.Entry.{Entry}
 use Rattle.campaign_law.specs.declared.entry.Entry.TheVariants.{Taken}
 use Rattle.player_view.specs.Asked.{Asked}
-use Rattle.view_change.specs.declared.view.View.{View}
-use Rattle.view_change.specs.Lines.{full_line}
+use Rattle.views.specs.declared.view.View.{View}
+use Rattle.view_lines.specs.Lines.{full_line}
 use Rattle.player_view.specs.View.{view_of}
 use Rattle.command_rules.specs.Settle.{IsSettled}
 use Rattle.campaign_law.specs.Views.{change_line}

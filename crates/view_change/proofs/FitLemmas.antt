@@ -8,8 +8,8 @@ use Rattle.std.proofs.lemmas.List.Elements.{All-cons}
 use Rattle.std.proofs.lemmas.Bool.{eqb-true}
 use Rattle.cells.specs.Cells.{Extent}
 use Rattle.names.specs.Tag.{tag_cmp}
-use Rattle.view_change.specs.declared.view.MapView.{MapView}
-use Rattle.view_change.specs.Keys.{map_name}
+use Rattle.views.specs.declared.view.MapView.{MapView}
+use Rattle.views.specs.Keys.{map_name}
 use Rattle.view_change.specs.Views.{fits_test, HaveOneSize, FitsAmong}
 use Rattle.view_change.proofs.OrderLemmas.{tag_total, tag_anti}
 use Rattle.view_change.proofs.KeyedLemmas.{at-all, at-key}

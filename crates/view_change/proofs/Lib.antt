@@ -1,11 +1,8 @@
 pub mod KeyedLemmas
-pub mod SameLemmas
 pub mod DeltaLemmas
 pub mod OrderLemmas
 pub mod ChangeLemmas
 pub mod SetLemmas
-pub mod NoFloat
-pub mod SameLoops
 pub mod MapLoops
 pub mod ChangeShape
 pub mod FitLemmas

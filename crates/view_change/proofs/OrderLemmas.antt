@@ -15,7 +15,7 @@ use Rattle.std.specs.FinMap.{IsAntisymmetric, nat_cmp-IsAntisymmetric, slice_cmp
 use Rattle.names.specs.declared.token_id.TokenId.{TokenId}
 use Rattle.names.specs.Tag.{tag_cmp}
 use Rattle.names.specs.TokenId.{id_cmp, id_eq}
-use Rattle.view_change.specs.Keys.{cell_cmp}
+use Rattle.views.specs.Keys.{cell_cmp}
 
 pub tag_total : IsTotalOrder tag_cmp
 tag_total = nat_list_cmp_total

@@ -5,10 +5,10 @@ use Rattle.cells.specs.Cells.{Extent, has, IsToldByCells}
 use Rattle.cells.specs.declared.cell.Cell.{Cell}
 use Rattle.names.specs.Tag.{tag_cmp}
 use Rattle.names.specs.TokenId.{id_cmp}
-use Rattle.view_change.specs.declared.view.MapView.{MapView}
-use Rattle.view_change.specs.declared.view.TokenView.{TokenView}
-use Rattle.view_change.specs.declared.view.View.{View}
-use Rattle.view_change.specs.Keys.{Letter, cell_cmp, name_of, cell_of, map_name, token_id}
+use Rattle.views.specs.declared.view.MapView.{MapView}
+use Rattle.views.specs.declared.view.TokenView.{TokenView}
+use Rattle.views.specs.declared.view.View.{View}
+use Rattle.views.specs.Keys.{Letter, cell_cmp, name_of, cell_of, map_name, token_id}
 use Rattle.view_change.specs.Keyed.{at, in_order}
 
 -- the item with this name

@@ -4,21 +4,19 @@ ghost use Rattle.std.specs.List.{cons_option, list_all};
 ghost use Rattle.std.specs.Str.{bytes_eq};
 ghost use Rattle.names.specs.TokenId.{id_eq};
 ghost use Rattle.names.specs.Tag.{tag_cmp};
-ghost use Rattle.view_change.specs.Keys.{map_name, change_name, token_id};
+ghost use Rattle.views.specs.Keys.{map_name, change_name, token_id};
 ghost use Rattle.view_change.specs.Keyed.{has_key, gone_from, news, is_in, puts_from, delta_from, deltas};
-ghost use Rattle.view_change.specs.Same.{same_light, same_bytes, same_letter, same_map as same_map_test, same_token as same_token_test};
+ghost use Rattle.views.specs.Same.{same_light, same_bytes, same_letter, same_map as same_map_test, same_token as same_token_test};
 ghost use Rattle.view_change.specs.Views.{at_name, fits_test, HaveOneSize, FitsAmong};
 ghost use Rattle.view_change.specs.Change.{minus as minus_cells, mode_change as mode_change_of, shown_change as shown_change_of, map_change as map_change_of, difference as difference_of, change_of as change_between};
 
-use crate::change::{Change, MapChange};
-use crate::lists::{
-    Letters, LightTexts, MapChanges, MapViews, SightTexts, Tags, TokenIds, TokenViews,
-};
-use crate::same::{same_map, same_mode, same_shown, same_token, same_view};
-use crate::view::{MapView, TokenView, View};
 use cells::{Cell, CellSet};
 use names::{Memory, Mode, Tag, TokenId};
 use std::alloc::Global;
+use views::{
+    Change, Letters, LightTexts, MapChange, MapChanges, MapView, MapViews, SightTexts, Tags,
+    TokenIds, TokenView, TokenViews, View, same_map, same_mode, same_shown, same_token, same_view,
+};
 
 fn has_light(list: &[(Tag, i64)], light: &(Tag, i64)) -> bool
     ensures { result ≡ is_in same_light list.now light.now }

@@ -5,13 +5,13 @@ ghost use Rattle.std.specs.Ordering.{nat_cmp, is_le};
 ghost use Rattle.std.specs.List.{position, insert as inserted};
 ghost use Rattle.names.specs.Tag.{tag_cmp};
 ghost use Rattle.names.specs.TokenId.{id_cmp};
-ghost use Rattle.view_change.specs.Keys.{cell_cmp, name_of, cell_of, map_name, token_id};
+ghost use Rattle.views.specs.Keys.{cell_cmp, name_of, cell_of, map_name, token_id};
 ghost use Rattle.view_change.specs.Keyed.{put as put_in, put_all as put_all_in};
 
-use crate::view::{MapView, TokenView};
 use cells::Cell;
 use names::{Memory, Tag, TokenId};
 use std::cmp::Ordering;
+use views::{MapView, TokenView};
 
 /// An item of a list that stands in the order of a key.
 pub(crate) trait Keyed: Sized + Drop {

@@ -2,7 +2,7 @@ use Rattle.std.proofs.Common.{sym, ◌∙◌, ap, subst, List, ◌&&◌, ◌||�
 use Rattle.std.specs.Prelude.{find}
 use Rattle.std.specs.Str.{bytes_eq}
 use Rattle.maps.specs.Maps.{AreMaps}
-use Rattle.view_change.specs.declared.view.MapView.{MapView}
+use Rattle.views.specs.declared.view.MapView.{MapView}
 use Rattle.player_view.specs.Sight.{owns}
 use Rattle.player_view.specs.Walk.{is_open_in}
 use Rattle.player_view.proofs.ViewLemmas.{shown_by_maps}

@@ -1,6 +1,6 @@
 use Rattle.std.proofs.Common.{◌≡◌, take}
 use Rattle.view_change.specs.Keyed.{gone_from}
-use Rattle.view_change.specs.Keys.{token_id}
+use Rattle.views.specs.Keys.{token_id}
 use Rattle.names.specs.TokenId.{id_eq}
 use Rattle.view_change.proofs.difference.gone_tokens.Given as goal
 

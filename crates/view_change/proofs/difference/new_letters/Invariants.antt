@@ -1,6 +1,6 @@
 use Rattle.std.proofs.Common.{◌≡◌, take}
 use Rattle.view_change.specs.Keyed.{puts_from}
-use Rattle.view_change.specs.Same.{same_letter}
+use Rattle.views.specs.Same.{same_letter}
 use Rattle.view_change.proofs.difference.new_letters.Given as goal
 
 abbrev pub invariant-loop-letter : goal.invariant-loop-letter

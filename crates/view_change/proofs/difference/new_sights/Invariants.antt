@@ -1,6 +1,6 @@
 use Rattle.std.proofs.Common.{◌≡◌, take}
 use Rattle.view_change.specs.Keyed.{puts_from}
-use Rattle.view_change.specs.Same.{same_bytes}
+use Rattle.views.specs.Same.{same_bytes}
 use Rattle.view_change.proofs.difference.new_sights.Given as goal
 
 abbrev pub invariant-loop-sight : goal.invariant-loop-sight

@@ -1,0 +1,6 @@
+use Rattle.std.proofs.Common.{◌≡◌, map, take}
+use Rattle.player_view.specs.View.{light_text}
+use Rattle.player_view.proofs.seat_view.light_texts.Given as goal
+
+abbrev pub invariant-loop-place : goal.invariant-loop-place
+invariant-loop-place l = l.list.items ≡ map light_text (take l.place l.scene.lights)

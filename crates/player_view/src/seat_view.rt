@@ -1,0 +1,101 @@
+//! What a seat sees of a scene.
+ghost use Rattle.std.specs.Prelude.{◌≡◌, ◌<◌, ◌≤◌, ◌+◌, ◌++◌, ◌∷◌, [], IfOk, OnOk, map, take, length};
+ghost use Rattle.player_view.specs.Fields.{HasFields};
+ghost use Rattle.player_view.specs.Told.{IsTold};
+ghost use Rattle.player_view.specs.View.{light_text, sight_text, view_of};
+
+use crate::map_views::map_views;
+use crate::reads::is_gm;
+use crate::token_views::token_views;
+use names::{Memory, SeatNo, Tag};
+use std::alloc::Global;
+use views::{LightTexts, SightTexts, View};
+use vision::Fields;
+use world::Scene;
+
+fn add_light(scene: &Scene, place: usize, list: &mut Vec<(Tag, i64)>) -> Result<(), Memory>
+    requires place { place < length scene.now.lights }
+    requires so_far { list.old.items ≡ map light_text (take place scene.now.lights) }
+    ensures { OnOk result (list.new.items ≡ map light_text (take (place + 1) scene.now.lights)) }
+{
+    let light = light_text(scene.lights().at(place));
+    push_light(list, light)?;
+    Ok(())
+}
+
+fn light_text(light: (Tag, u8)) -> (Tag, i64)
+    ensures { result ≡ light_text light }
+{
+    (light.0, i64::from(light.1))
+}
+
+fn push_light(list: &mut Vec<(Tag, i64)>, light: (Tag, i64)) -> Result<(), Memory>
+    ensures { OnOk result (list.new.items ≡ list.old.items ++ light ∷ []) }
+{
+    match list.push(light) {
+        Ok(()) => Ok(()),
+        Err(_) => Err(Memory),
+    }
+}
+
+fn light_texts(alloc: Global, scene: &Scene) -> Result<LightTexts, Memory>
+    ensures { IfOk result (λ lights. lights ≡ map light_text scene.now.lights) }
+{
+    let mut list = Vec::new(alloc);
+    for place in 0..scene.lights().len() {
+        add_light(scene, place, &mut list)?;
+    }
+    Ok(LightTexts { list })
+}
+
+fn add_sight(scene: &Scene, place: usize, list: &mut Vec<(Tag, [u8; 3])>) -> Result<(), Memory>
+    requires place { place < length scene.now.sights }
+    requires so_far { list.old.items ≡ map sight_text (take place scene.now.sights) }
+    ensures { OnOk result (list.new.items ≡ map sight_text (take (place + 1) scene.now.sights)) }
+{
+    let (name, sight) = scene.sights().at(place);
+    push_sight(list, (name, [sight.range, sight.night, sight.mult]))?;
+    Ok(())
+}
+
+fn push_sight(list: &mut Vec<(Tag, [u8; 3])>, sight: (Tag, [u8; 3])) -> Result<(), Memory>
+    ensures { OnOk result (list.new.items ≡ list.old.items ++ sight ∷ []) }
+{
+    match list.push(sight) {
+        Ok(()) => Ok(()),
+        Err(_) => Err(Memory),
+    }
+}
+
+fn sight_texts(alloc: Global, scene: &Scene) -> Result<SightTexts, Memory>
+    ensures { IfOk result (λ sights. sights ≡ map sight_text scene.now.sights) }
+{
+    let mut list = Vec::new(alloc);
+    for place in 0..scene.sights().len() {
+        add_sight(scene, place, &mut list)?;
+    }
+    Ok(SightTexts { list })
+}
+
+/// What the seat, which is in the scene, sees. `fields` has the field of each token with a sight or a light.
+#[tactic(auto, unfolding(crate::specs::View::view_of), using(crate::proofs::ToldLemmas::told))]
+pub fn view_of(alloc: Global, scene: &Scene, seat: SeatNo, fields: &Fields) -> Result<View, Memory>
+    requires seat { seat ≤ scene.now.fog.players }
+    requires fields { HasFields scene.now fields.now }
+    ensures value { IfOk result (λ view. view ≡ view_of scene.now seat) }
+
+    // Of a player's view the relations say the same.
+    ensures told { IsTold scene.now seat }
+{
+    let lights = light_texts(alloc, scene)?;
+    let sights = sight_texts(alloc, scene)?;
+    let maps = map_views(alloc, scene, seat, fields)?;
+    let tokens = token_views(alloc, scene, seat, &maps)?;
+    Ok(View {
+        gm: is_gm(seat),
+        lights,
+        sights,
+        maps,
+        tokens,
+    })
+}

@@ -1,6 +1,0 @@
-use Rattle.std.proofs.Common.{◌≡◌, take}
-use Rattle.view_change.specs.Change.{with_lettered}
-use Rattle.view_change.proofs.sets.add_lettered.Given as goal
-
-abbrev pub invariant-loop-cell : goal.invariant-loop-cell
-invariant-loop-cell l = l.cells ≡ with_lettered l.fn.cells (take l.cell-index l.letters)

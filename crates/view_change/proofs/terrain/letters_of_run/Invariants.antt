@@ -1,7 +1,0 @@
-use Rattle.std.proofs.Common.{◌≡◌, take}
-use Rattle.std.specs.Prelude.{string_bytes}
-use Rattle.view_change.specs.Lines.{letters_of_run}
-use Rattle.view_change.proofs.terrain.letters_of_run.Given as goal
-
-abbrev pub invariant-loop-cell : goal.invariant-loop-cell
-invariant-loop-cell l = string_bytes l.text ≡ letters_of_run (take l.cell-index l.letters) l.run

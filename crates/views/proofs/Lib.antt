@@ -1,0 +1,4 @@
+pub mod SameLemmas
+pub mod SameLoops
+pub mod Told
+pub mod LetteredLemmas

@@ -1,0 +1,7 @@
+use Rattle.std.proofs.Common.{◌≡◌, drop}
+use Rattle.std.specs.Cmp.Lexicographic.{pointwise}
+use Rattle.views.specs.Same.{same_map}
+use Rattle.views.proofs.same.same_maps.Given as goal
+
+abbrev pub invariant-loop-i : goal.invariant-loop-i
+invariant-loop-i l = pointwise same_map (drop l.i l.a) (drop l.i l.b) ≡ pointwise same_map l.a l.b

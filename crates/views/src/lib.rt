@@ -1,0 +1,21 @@
+//! What one seat sees of a game, and how one view differs from another: the types, their copies and the tests whether
+//! two are equal.
+//!
+//! Contracts see each small list as the list of its items.
+#![tactic(auto)]
+
+mod change;
+mod copies;
+mod lettered_cells;
+mod lists;
+mod same;
+mod view;
+
+pub use change::{Change, MapChange};
+pub use lettered_cells::lettered;
+pub use lists::{
+    Letters, LightTexts, MapChanges, MapViews, PropTexts, SeatNos, SightTexts, Tags, TokenIds,
+    TokenViews,
+};
+pub use same::{same_map, same_mode, same_shown, same_token, same_view};
+pub use view::{GmPart, MapView, OwnedPart, TokenView, View};

@@ -1,0 +1,231 @@
+//! Whether two views, or two parts of views, are equal.
+ghost use Rattle.std.specs.Prelude.{◌≡◌, ◌↔◌, IsTrue};
+ghost use Rattle.std.specs.Str.{bytes_eq};
+ghost use Rattle.std.specs.Cmp.Lexicographic.{pointwise};
+ghost use Rattle.cells.specs.Cells.{cells_eq};
+ghost use Rattle.views.specs.Same as same;
+
+use crate::lists::{Letters, LightTexts, SightTexts};
+use crate::view::{GmPart, MapView, OwnedPart, TokenView, View};
+use cells::CellSet;
+use names::{Layer, Mode, Tag, Text};
+
+/// Whether the two modes are equal.
+pub fn same_mode(a: Mode, b: Mode) -> bool
+    ensures test { result ≡ same.same_mode a b }
+    ensures tells { IsTrue result ↔ (a ≡ b) }
+{
+    same_number(a, b)
+}
+
+fn same_number(a: Mode, b: Mode) -> bool
+    ensures { result ≡ same.same_mode a b }
+{
+    a == b
+}
+
+fn same_layer(a: Layer, b: Layer) -> bool
+    ensures { result ≡ same.same_layer a b }
+{
+    a == b
+}
+
+fn same_flag(a: Option<bool>, b: Option<bool>) -> bool
+    ensures { result ≡ same.same_option same.same_bool a b }
+{
+    match (a, b) {
+        (None, None) => true,
+        (Some(a), Some(b)) => a == b,
+        _ => false,
+    }
+}
+
+/// Whether the two are equal: what a view says of whether players are shown a map.
+pub fn same_shown(a: Option<bool>, b: Option<bool>) -> bool
+    ensures test { result ≡ same.same_option same.same_bool a b }
+    ensures tells { IsTrue result ↔ (a ≡ b) }
+{
+    same_flag(a, b)
+}
+
+fn same_name(a: Option<Tag>, b: Option<Tag>) -> bool
+    ensures { result ≡ same.same_option bytes_eq a b }
+{
+    match (a, b) {
+        (None, None) => true,
+        (Some(a), Some(b)) => a == b,
+        _ => false,
+    }
+}
+
+fn same_cells(a: &CellSet, b: &CellSet) -> bool
+    ensures { result ≡ cells_eq a.now b.now }
+{
+    a.size() == b.size() && a.equals(b)
+}
+
+fn same_prop(a: &(Tag, Text), b: &(Tag, Text)) -> bool
+    ensures { result ≡ same.same_bytes a.now b.now }
+{
+    a.0 == b.0 && a.1.text() == b.1.text()
+}
+
+#[tactic(auto, using(crate::proofs::SameLoops::same_length, crate::proofs::SameLoops::same_next, crate::proofs::SameLoops::same_end))]
+fn same_props(a: &[(Tag, Text)], b: &[(Tag, Text)]) -> bool
+    ensures { result ≡ same.same_props a.now b.now }
+{
+    if a.len() != b.len() {
+        return false;
+    }
+    for i in 0..a.len() {
+        if !same_prop(&a[i], &b[i]) {
+            return false;
+        }
+    }
+    true
+}
+
+fn same_lights(a: &LightTexts, b: &LightTexts) -> bool
+    ensures { result ≡ pointwise same.same_light a.now b.now }
+{
+    a.items() == b.items()
+}
+
+fn same_sights(a: &SightTexts, b: &SightTexts) -> bool
+    ensures { result ≡ pointwise same.same_bytes a.now b.now }
+{
+    a.items() == b.items()
+}
+
+fn same_letters(a: &Letters, b: &Letters) -> bool
+    ensures { result ≡ pointwise same.same_letter a.now b.now }
+{
+    a.items() == b.items()
+}
+
+fn same_owned_part(a: &OwnedPart, b: &OwnedPart) -> bool
+    ensures { result ≡ same.same_owned a.now b.now }
+{
+    same_name(a.sight, b.sight)
+        && same_name(a.light, b.light)
+        && same_props(a.own.items(), b.own.items())
+}
+
+fn same_owned(a: &Option<OwnedPart>, b: &Option<OwnedPart>) -> bool
+    ensures { result ≡ same.same_option same.same_owned a.now b.now }
+{
+    match (a, b) {
+        (None, None) => true,
+        (Some(a), Some(b)) => same_owned_part(a, b),
+        _ => false,
+    }
+}
+
+fn same_gm_part(a: &GmPart, b: &GmPart) -> bool
+    ensures { result ≡ same.same_whole a.now b.now }
+{
+    a.owners.items() == b.owners.items()
+        && same_props(a.secret.items(), b.secret.items())
+        && a.visible == b.visible
+}
+
+fn same_whole(a: &Option<GmPart>, b: &Option<GmPart>) -> bool
+    ensures { result ≡ same.same_option same.same_whole a.now b.now }
+{
+    match (a, b) {
+        (None, None) => true,
+        (Some(a), Some(b)) => same_gm_part(a, b),
+        _ => false,
+    }
+}
+
+fn same_token_parts(a: &TokenView, b: &TokenView) -> bool
+    ensures { result ≡ same.same_token a.now b.now }
+{
+    a.id == b.id
+        && a.name.text() == b.name.text()
+        && a.map == b.map
+        && a.cell == b.cell
+        && a.size == b.size
+        && same_layer(a.layer, b.layer)
+        && same_props(a.props.items(), b.props.items())
+        && same_owned(&a.owned, &b.owned)
+        && same_whole(&a.whole, &b.whole)
+}
+
+/// Whether the two tokens are equal.
+pub fn same_token(a: &TokenView, b: &TokenView) -> bool
+    ensures test { result ≡ same.same_token a.now b.now }
+    ensures tells { IsTrue result ↔ (a.now ≡ b.now) }
+{
+    same_token_parts(a, b)
+}
+
+fn same_map_parts(a: &MapView, b: &MapView) -> bool
+    ensures { result ≡ same.same_map a.now b.now }
+{
+    a.name == b.name
+        && a.size == b.size
+        && same_mode(a.mode, b.mode)
+        && same_shown(a.shown, b.shown)
+        && same_cells(&a.seen, &b.seen)
+        && same_cells(&a.exposed, &b.exposed)
+        && same_letters(&a.letters, &b.letters)
+}
+
+/// Whether the two maps are equal.
+pub fn same_map(a: &MapView, b: &MapView) -> bool
+    ensures test { result ≡ same.same_map a.now b.now }
+    ensures tells { IsTrue result ↔ (a.now ≡ b.now) }
+{
+    same_map_parts(a, b)
+}
+
+#[tactic(auto, using(crate::proofs::SameLoops::same_length, crate::proofs::SameLoops::same_next, crate::proofs::SameLoops::same_end))]
+fn same_maps(a: &[MapView], b: &[MapView]) -> bool
+    ensures { result ≡ pointwise same.same_map a.now b.now }
+{
+    if a.len() != b.len() {
+        return false;
+    }
+    for i in 0..a.len() {
+        if !same_map_parts(&a[i], &b[i]) {
+            return false;
+        }
+    }
+    true
+}
+
+#[tactic(auto, using(crate::proofs::SameLoops::same_length, crate::proofs::SameLoops::same_next, crate::proofs::SameLoops::same_end))]
+fn same_tokens(a: &[TokenView], b: &[TokenView]) -> bool
+    ensures { result ≡ pointwise same.same_token a.now b.now }
+{
+    if a.len() != b.len() {
+        return false;
+    }
+    for i in 0..a.len() {
+        if !same_token_parts(&a[i], &b[i]) {
+            return false;
+        }
+    }
+    true
+}
+
+#[tactic(auto, unfolding(crate::specs::Same::same_view))]
+fn same_view_parts(a: &View, b: &View) -> bool
+    ensures { result ≡ same.same_view a.now b.now }
+{
+    a.gm == b.gm
+        && same_lights(&a.lights, &b.lights)
+        && same_sights(&a.sights, &b.sights)
+        && same_maps(a.maps.items(), b.maps.items())
+        && same_tokens(a.tokens.items(), b.tokens.items())
+}
+
+/// Whether the two views are equal.
+pub fn same_view(a: &View, b: &View) -> bool
+    ensures test { result ≡ same.same_view a.now b.now }
+    ensures tells { IsTrue result ↔ (a.now ≡ b.now) }
+{
+    same_view_parts(a, b)
+}
