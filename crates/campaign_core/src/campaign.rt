@@ -10,7 +10,7 @@ use crate::next::{Prepared, go_on, prepare};
 use crate::state::{Post, State};
 use campaign_file::{BadCampaign, FileFault, Rule, read_campaign};
 use campaign_law::{Answer, Entry};
-use command_rules::settle;
+use command_effects::settle;
 use names::{LineText, Memory, SeatNo, Text};
 use player_view::fields_of;
 use seats::SeatState;

@@ -2,7 +2,7 @@
 ghost use Rattle.std.specs.Prelude.{◌≡◌, ◌==◌, length, None, Some, IfOk};
 ghost use Rattle.player_view.specs.Fields.{HasFields};
 ghost use Rattle.campaign_law.specs.Outcome.{seat_of};
-ghost use Rattle.command_rules.specs.Settle.{IsSettled};
+ghost use Rattle.command_effects.specs.Settle.{IsSettled};
 ghost use Rattle.campaign_law.specs.World.{outcome_of, steps_of, scene_after};
 ghost use Rattle.campaign_law.specs.State.{world_in, state_after};
 ghost use Rattle.campaign_law.specs.Law.{answer_of};
@@ -13,7 +13,7 @@ use crate::outcome::{Outcome, decide, own_seat};
 use crate::queues::{Glances, next_posts};
 use crate::state::{Post, State};
 use campaign_law::{Answer, Entry};
-use command_rules::{scene_by, settle};
+use command_effects::{scene_by, settle};
 use names::Memory;
 use player_view::fields_of;
 use std::alloc::Global;

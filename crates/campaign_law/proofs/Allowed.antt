@@ -15,7 +15,7 @@ use Rattle.command_rules.specs.declared.refusal.Refusal.{Refusal}
 use Rattle.command_rules.specs.declared.refusal.Refusal.TheVariants.{NoHello}
 use Rattle.command_rules.specs.Rules.{rule_of}
 use Rattle.command_rules.specs.GmRules.{then_rule}
-use Rattle.command_rules.specs.Allowed.{IsAllowed}
+use Rattle.command_effects.specs.Allowed.{IsAllowed}
 use Rattle.campaign_law.specs.declared.entry.Entry.{Entry}
 use Rattle.campaign_law.specs.declared.entry.Entry.TheVariants.{Join, Line, Taken}
 use Rattle.campaign_law.specs.Seat.{Seat}

@@ -15,7 +15,7 @@ use Rattle.player_view.specs.Asked.{Asked}
 use Rattle.command_json.specs.Commands.{command_of}
 use Rattle.campaign_law.specs.Seat.{Seat, blank_seat, was_joined}
 use Rattle.campaign_law.specs.Outcome.{Outcome, broken_rule, nothing, outcome_at, join_outcome, read_outcome, is_bye, rolling, dice_in, with_total, words_in, message_by, book_done, accepted, decided, refused_direct, refused_line, refusal_of_join, blank_entry, seat_of}
-use Rattle.command_rules.specs.Tags.{tag_made, using_tag}
+use Rattle.command_effects.specs.Tags.{tag_made, using_tag}
 use Rattle.campaign_law.specs.World.{changed, is_present, queued_reply}
 use Rattle.seats.proofs.Books.{is_joined-blank, counted-blank, joined-blank, left-blank, join_refusal-blank}
 

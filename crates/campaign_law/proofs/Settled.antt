@@ -9,8 +9,8 @@ use Rattle.maps.specs.Maps.{Grid, map_of}
 use Rattle.world.specs.Scene.{Scene}
 use Rattle.player_view.specs.Sight.{visible}
 use Rattle.campaign_law.specs.declared.entry.Entry.{Entry}
-use Rattle.command_rules.specs.Effects.{scene_by}
-use Rattle.command_rules.specs.Settle.{with_sight, settled_set, settled, IsSettled}
+use Rattle.command_effects.specs.Effects.{scene_by}
+use Rattle.command_effects.specs.Settle.{with_sight, settled_set, settled, IsSettled}
 use Rattle.campaign_law.specs.Outcome.{seat_of}
 use Rattle.campaign_law.specs.World.{World, scene_after, outcome_of, steps_of, step, replay}
 

@@ -5,7 +5,7 @@ use Rattle.seats.specs.Book.{Book}
 use Rattle.campaign_law.specs.declared.entry.Entry.{Entry}
 use Rattle.world.specs.Scene.{Scene}
 use Rattle.player_view.specs.View.{view_of}
-use Rattle.command_rules.specs.Settle.{settled}
+use Rattle.command_effects.specs.Settle.{settled}
 use Rattle.campaign_law.specs.Seat.{Seat, fresh_seat}
 use Rattle.campaign_law.specs.Outcome.{Outcome, seat_of}
 use Rattle.campaign_law.specs.World.{World, seat_at, outcome_of, scene_after, seat_after, mapped_from, step, replay}

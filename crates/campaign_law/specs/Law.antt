@@ -6,7 +6,7 @@ use Rattle.campaign_law.specs.declared.answer.Answer.{Answer}
 use Rattle.seats.specs.Book.{counted}
 use Rattle.json_fields.specs.Lines.{IsOneLine}
 use Rattle.campaign_law.specs.Seat.{Seat, IsFreshSeat, settled}
-use Rattle.command_rules.specs.Settle.{IsSettled}
+use Rattle.command_effects.specs.Settle.{IsSettled}
 use Rattle.campaign_law.specs.World.{World, seat_at, sent, step, replay, outcome_of, steps_of}
 use Rattle.campaign_law.specs.Outcome.{Outcome, seat_of}
 use Rattle.campaign_law.specs.Player.{opening, trace, machine}

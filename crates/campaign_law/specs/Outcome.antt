@@ -23,7 +23,7 @@ use Rattle.player_view.specs.Asked.{Asked}
 use Rattle.command_json.specs.Commands.{command_of}
 use Rattle.command_rules.specs.Rules.{rule_of}
 use Rattle.command_rules.specs.GmRules.{then_rule}
-use Rattle.command_rules.specs.Tags.{tag_made, using_tag}
+use Rattle.command_effects.specs.Tags.{tag_made, using_tag}
 use Rattle.chat.specs.declared.to.To.{To}
 use Rattle.chat.specs.Messages.{message_line}
 use Rattle.campaign_law.specs.Texts.{hello_line, ok_line, moved_line, refusal_line}

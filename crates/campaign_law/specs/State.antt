@@ -7,7 +7,7 @@ use Rattle.views.specs.declared.view.View.{View}
 use Rattle.world.specs.Scene.{Scene}
 use Rattle.player_view.specs.View.{view_of}
 use Rattle.campaign_law.specs.Seat.{Seat, fresh_seat}
-use Rattle.command_rules.specs.Settle.{settled}
+use Rattle.command_effects.specs.Settle.{settled}
 use Rattle.campaign_law.specs.Outcome.{Outcome, seat_of}
 use Rattle.campaign_law.specs.World.{World, outcome_of, scene_after, queued_lines, seat_by, mapped_from, replay}
 use Rattle.campaign_law.specs.Session.{session}

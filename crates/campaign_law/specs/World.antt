@@ -6,8 +6,8 @@ use Rattle.view_lines.specs.Lines.{full_line}
 use Rattle.world.specs.Scene.{Scene}
 use Rattle.player_view.specs.View.{view_of}
 use Rattle.player_view.specs.Asked.{Asked, asked_of as asked_of_scene}
-use Rattle.command_rules.specs.Effects.{steps_by, scene_by}
-use Rattle.command_rules.specs.Settle.{settled as settled_scene}
+use Rattle.command_effects.specs.Effects.{steps_by, scene_by}
+use Rattle.command_effects.specs.Settle.{settled as settled_scene}
 use Rattle.campaign_law.specs.Views.{change_line}
 use Rattle.campaign_law.specs.Seat.{Seat, settled, taken_to, was_joined}
 use Rattle.chat.specs.Addresses.{is_addressed}

@@ -1,8 +1,3 @@
 pub mod Unique
 pub mod PlaceLemmas
-pub mod Moves
-pub mod Settling
-pub mod GmAllowed
-pub mod Allowed
-pub mod GmCommands
-pub mod Players
+pub mod OneMap

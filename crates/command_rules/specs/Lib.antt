@@ -1,10 +1,3 @@
 pub mod Places
 pub mod GmRules
 pub mod Rules
-pub mod Making
-pub mod GmEffects
-pub mod Effects
-pub mod Tags
-pub mod Settle
-pub mod Allowed
-pub mod Seen

@@ -1,18 +1,11 @@
-//! The rules of a Joined seat's commands and what accepted commands do to the scene.
+//! The rules of a Joined seat's commands, and the refusals of those that break one.
 #![tactic(auto)]
 
-mod effects;
-mod gm_effects;
 mod gm_rules;
-mod making;
 mod places;
 mod refusal;
 mod rules;
-mod sight;
-mod tags;
 
-pub use effects::{scene_by, steps_by};
+pub use places::{cell_at, coordinate, point_at, rect_at};
 pub use refusal::Refusal;
 pub use rules::rule_of;
-pub use sight::settle;
-pub use tags::use_made_tag;

@@ -34,7 +34,7 @@ pub(crate) fn all_fit(size: Size, side: u8, path: &[(i32, i32)]) -> bool
 
 /// The cell at a place where a square fits.
 #[tactic(auto, using(crate::proofs::PlaceLemmas::column, crate::proofs::PlaceLemmas::row))]
-pub(crate) fn cell_at(size: Size, side: u8, place: (i32, i32)) -> Cell
+pub fn cell_at(size: Size, side: u8, place: (i32, i32)) -> Cell
     requires { fits_at_lem size side place ≡ true }
     ensures { result ≡ cell_at_lem place }
 {
@@ -77,7 +77,7 @@ pub(crate) fn are_king_steps(size: Size, side: u8, from: Cell, path: &[(i32, i32
 // ---- numbers, rectangles and points
 
 /// The number, or 0 in place of a negative one.
-pub(crate) fn coordinate(number: i32) -> u32
+pub fn coordinate(number: i32) -> u32
     ensures { result ≡ coordinate_lem number }
 {
     if number < 0 { 0 } else { number as u32 }
@@ -100,7 +100,7 @@ pub(crate) fn point_fits(size: Size, point: (i32, i32)) -> bool
 
 /// The rectangle, which is on a map of the size.
 #[tactic(auto, using(crate::proofs::PlaceLemmas::columns, crate::proofs::PlaceLemmas::rows))]
-pub(crate) fn rect_at(size: Size, rect: (i32, i32, i32, i32)) -> Rect
+pub fn rect_at(size: Size, rect: (i32, i32, i32, i32)) -> Rect
     requires { rect_fits_lem size rect ≡ true }
     ensures { result ≡ rect_at_lem rect }
 {
@@ -115,7 +115,7 @@ pub(crate) fn rect_at(size: Size, rect: (i32, i32, i32, i32)) -> Rect
 
 /// The point, which is on a map of the size.
 #[tactic(auto, using(crate::proofs::PlaceLemmas::point_column, crate::proofs::PlaceLemmas::point_row))]
-pub(crate) fn point_at(size: Size, point: (i32, i32)) -> Point
+pub fn point_at(size: Size, point: (i32, i32)) -> Point
     requires { point_fits_lem size point ≡ true }
     ensures { result ≡ point_at_lem point }
 {

@@ -14,7 +14,7 @@ use Rattle.command_json.specs.declared.command.LineFault.{LineFault}
 use Rattle.command_rules.specs.declared.refusal.Refusal.{Refusal}
 use Rattle.command_rules.specs.declared.refusal.Refusal.TheVariants.{NoHello}
 use Rattle.command_json.specs.Commands.{command_of}
-use Rattle.command_rules.specs.Tags.{tag_made, using_tag}
+use Rattle.command_effects.specs.Tags.{tag_made, using_tag}
 use Rattle.player_view.specs.Asked.{Asked}
 use Rattle.views.specs.declared.view.View.{View}
 use Rattle.player_view.specs.View.{view_of}

@@ -7,7 +7,7 @@ use Rattle.std.proofs.lemmas.Bool.Decides.{nat_tests}
 use Rattle.campaign_law.specs.declared.entry.Entry.{Entry}
 use Rattle.campaign_law.specs.World.{World, step, replay}
 use Rattle.campaign_law.specs.Law.{Course, IsOpening, world_of}
-use Rattle.command_rules.specs.Settle.{IsSettled}
+use Rattle.command_effects.specs.Settle.{IsSettled}
 use Rattle.campaign_law.proofs.Settled.{replay_settled, after_settled}
 use Rattle.script_play.specs.declared.run.Played.{Played}
 use Rattle.script_play.specs.declared.run.Played.TheVariants.{Done, ReadFault, WriteFault, BadLine, TooLarge, Memory}

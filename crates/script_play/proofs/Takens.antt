@@ -11,7 +11,7 @@ use Rattle.player_view.specs.Asked.{Asked}
 use Rattle.views.specs.declared.view.View.{View}
 use Rattle.view_lines.specs.Lines.{full_line}
 use Rattle.player_view.specs.View.{view_of}
-use Rattle.command_rules.specs.Settle.{IsSettled}
+use Rattle.command_effects.specs.Settle.{IsSettled}
 use Rattle.campaign_law.specs.Views.{change_line}
 use Rattle.campaign_law.specs.Seat.{Seat, freed_seat, is_let_go, settled}
 use Rattle.campaign_law.specs.Outcome.{Outcome, outcome_at}

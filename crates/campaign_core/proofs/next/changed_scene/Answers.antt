@@ -3,8 +3,8 @@ use Rattle.std.proofs.lemmas.List.{length-map}
 use Rattle.std.specs.Prelude.{unwrap_or}
 use Rattle.world.specs.Scene.{Scene}
 use Rattle.player_view.specs.Fields.{HasFields}
-use Rattle.command_rules.specs.Allowed.{IsAllowed}
-use Rattle.command_rules.specs.Effects.{scene_by}
+use Rattle.command_effects.specs.Allowed.{IsAllowed}
+use Rattle.command_effects.specs.Effects.{scene_by}
 use Rattle.campaign_law.proofs.Allowed.{allowed, acts_within}
 use Rattle.campaign_law.specs.World.{steps_of}
 use Rattle.campaign_law.specs.Outcome.{Outcome}

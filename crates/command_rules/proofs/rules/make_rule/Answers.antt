@@ -1,7 +1,7 @@
 use Rattle.std.proofs.Common.{◌≡◌, true, ◌∙◌, sym, ap, subst}
 use Rattle.std.specs.Option.{option_copied}
 use Rattle.maps.specs.Maps.{in_order}
-use Rattle.command_rules.proofs.Allowed.{own_map}
+use Rattle.command_rules.proofs.OneMap.{own_map}
 use Rattle.command_rules.proofs.rules.make_rule.Goals as goal
 
 pub cell_rule-requires-clause-there : goal.cell_rule-requires-clause-there

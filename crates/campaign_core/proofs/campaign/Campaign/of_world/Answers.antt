@@ -1,7 +1,7 @@
 use Rattle.std.proofs.Common.{◌≡◌, ◌∙◌, sym, ap, subst, ◌+◌, length, map}
 use Rattle.world.specs.Scene.{Scene}
 use Rattle.player_view.specs.Fields.{HasFields}
-use Rattle.command_rules.specs.Settle.{settled}
+use Rattle.command_effects.specs.Settle.{settled}
 use Rattle.campaign_law.specs.State.{State, world_in, state_of, opening_post, opening_state}
 use Rattle.campaign_law.specs.Law.{IsOpening}
 use Rattle.campaign_law.proofs.States.{opened}

@@ -1,7 +1,7 @@
 use Rattle.std.proofs.Common.{◌≡◌, ◌∙◌, sym, ap, subst, ◌++◌, ◌∷◌, [], length, rules}
 use Rattle.std.specs.Prelude.{is_some}
 use Rattle.player_view.specs.Fields.{HasFields}
-use Rattle.command_rules.specs.Settle.{IsSettled}
+use Rattle.command_effects.specs.Settle.{IsSettled}
 use Rattle.campaign_law.specs.declared.answer.Answer.{Answer}
 use Rattle.campaign_law.specs.World.{World, steps_of, outcome_of, replay}
 use Rattle.campaign_law.specs.State.{State, world_in, state_after, state_of}

@@ -1,0 +1,6 @@
+pub mod Moves
+pub mod Settling
+pub mod GmAllowed
+pub mod Allowed
+pub mod GmCommands
+pub mod Players

@@ -1,0 +1,13 @@
+use Rattle.std.proofs.Common.{◌∙◌, sym, ap, subst}
+use Rattle.tokens.specs.declared.token.Token.{Token}
+use Rattle.command_effects.specs.Allowed.{MayStand}
+use Rattle.command_effects.proofs.Allowed.{gm_token_belongs}
+use Rattle.command_effects.proofs.gm_effects.with_gm_token.Goals as goal
+
+pub with_new-requires : goal.with_new-requires
+with_new-requires c = gm_token_belongs c.args.scene.now c.in_ok-token.token c.args.place
+    (subst (λ (t : Token). MayStand c.args.scene.now t.map t.size c.args.place) (sym c.in_ok-token.ensures) c.requires)
+    (ap (λ (t : Token). t.cell) c.in_ok-token.ensures ∙ c.cell_on-cell.ensures)
+    (ap (λ (t : Token). t.sight) c.in_ok-token.ensures)
+    (ap (λ (t : Token). t.light) c.in_ok-token.ensures)
+    (ap (λ (t : Token). t.owners) c.in_ok-token.ensures ∙ c.none.ensures)

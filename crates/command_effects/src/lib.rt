@@ -1,0 +1,12 @@
+//! What accepted commands do to the scene and to their seats' tags.
+#![tactic(auto)]
+
+mod effects;
+mod gm_effects;
+mod making;
+mod sight;
+mod tags;
+
+pub use effects::{scene_by, steps_by};
+pub use sight::settle;
+pub use tags::use_made_tag;
