@@ -17,6 +17,7 @@ use Rattle.campaign_json.specs.declared.faults.FileFault.TheVariants.{Bad, Memor
 use Rattle.campaign_json.specs.declared.faults.Rule.TheVariants.{Missing, Kind, Range}
 use Rattle.campaign_json.specs.Reading.{Fails, needed, field, under}
 use Rattle.campaign_json.specs.Kinds.{list}
+use Rattle.campaign_scene.specs.Kept.{kept}
 use Rattle.campaign_file.specs.Campaign.{players_in, players_among}
 use Rattle.campaign_file.specs.Seats.{seat, seated, untagged, IsFreshAt, AreFreshFrom}
 use Rattle.campaign_json.proofs.Each.{IsReadTo, read_more}
@@ -47,7 +48,7 @@ pushed_is false old new a e h = absurd cc
 
 -- what the loop over the seats keeps at a place
 pub record AreReadTo (values : List Value) (start : Scene) (place : ℕ) (scene : Scene) (books : List Book) : Type 0 where
-  pub read : IsReadTo seated (λ w. w.scene.fog.players) values (record { scene = start; books = [] }) place (record { scene = scene; books = books })
+  pub read : IsReadTo seated (λ w. kept w.scene) values (record { scene = start; books = [] }) place (record { scene = scene; books = books })
   pub count : length books ≡ place
   pub fresh : AreFreshFrom 0 books
 
@@ -64,10 +65,10 @@ seated_fails place scene books d (Bad bad) e = rw e
 seated_fails place scene books d Memory e = tt
 
 pub seat_more : (values : List Value) (start : Scene) (place : ℕ) (scene next : Scene) (books : List Book) (value : Value) (book : Book) → AreReadTo values start place scene books → place < length values → value ≡ get_or values place value
-    → seat place scene (view value) ≡ Ok (book, next) → IsFreshAt place book → next.fog.players ≡ scene.fog.players → AreReadTo values start (place + 1) next (books ++ book ∷ [])
-seat_more values start place scene next books value book before lt is ok fresh players =
+    → seat place scene (view value) ≡ Ok (book, next) → IsFreshAt place book → kept next ≡ kept scene → AreReadTo values start (place + 1) next (books ++ book ∷ [])
+seat_more values start place scene next books value book before lt is ok fresh stays =
     let e : place ≡ 0 + length books = omega (arith, before.count) in record {
-      read = read_more seated (λ w. w.scene.fog.players) values (record { scene = start; books = [] }) place (record { scene = scene; books = books }) (record { scene = next; books = books ++ book ∷ [] }) value before.read lt is (seated_is place scene next books book (view value) ok) players;
+      read = read_more seated (λ w. kept w.scene) values (record { scene = start; books = [] }) place (record { scene = scene; books = books }) (record { scene = next; books = books ++ book ∷ [] }) value before.read lt is (seated_is place scene next books book (view value) ok) stays;
       count = count_more books book place before.count;
       fresh = fresh_from 0 books book before.fresh (subst (λ (n : ℕ). IsFreshAt n book) e fresh);
     }

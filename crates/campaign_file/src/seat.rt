@@ -3,6 +3,7 @@ ghost use Rattle.std.specs.Prelude.{◌≡◌, ◌≤◌, ◌+◌, length, IfOk,
 ghost use Rattle.serde_json.specs.View.{view, items_view};
 ghost use Rattle.json_fields.specs.Objects.{Gives};
 ghost use Rattle.campaign_json.specs.Reading.{Fails, under, each};
+ghost use Rattle.campaign_scene.specs.Kept.{kept};
 ghost use Rattle.campaign_file.specs.Campaign.{players_in};
 ghost use Rattle.campaign_file.specs.Seats.{seat as seat_lem, seated, seats as seats_lem, tags as tags_lem, used_tag, untagged, IsFreshAt, AreFreshFrom, IsOpening};
 ghost use Rattle.seats.specs.Book.{most_tags as most_tags_lem};
@@ -31,7 +32,7 @@ pub(crate) fn read_seats(
 ) -> Result<(Scene, Vec<SeatBook>), FileFault>
     ensures exact { Gives Fails (λ r. record { scene = r.0; books = r.1.items }) result (seats_lem scene (view value.now)) }
     ensures opening { IfOk result (λ r. IsOpening r.1.items) }
-    ensures players { IfOk result (λ r. r.0.fog.players ≡ scene.fog.players) }
+    ensures kept { IfOk result (λ r. kept r.0 ≡ kept scene) }
     ensures count { IfOk result (λ r. players_in (view value.now) + 1 ≡ length r.1.items) }
 {
     let values = fields::list(alloc, value, "seats", 1, 33)?;
@@ -48,7 +49,7 @@ fn each_seat(
         (under (codes "seats") (each seated 0 (record { scene = scene; books = [] }) (items_view values.now))) }
     ensures count { IfOk result (λ r. length r.1.items ≡ length values.now) }
     ensures fresh { IfOk result (λ r. AreFreshFrom 0 r.1.items) }
-    ensures players { IfOk result (λ r. r.0.fog.players ≡ scene.fog.players) }
+    ensures kept { IfOk result (λ r. kept r.0 ≡ kept scene) }
 {
     let mut books = Vec::new(alloc);
     for (place, value) in values.iter().enumerate() {
@@ -74,7 +75,7 @@ fn read_seat(
 ) -> Result<(SeatBook, Scene), FileFault>
     ensures exact { Gives Fails (λ r. (r.0, r.1)) result (seat_lem seat scene (view value.now)) }
     ensures fresh { IfOk result (λ r. IsFreshAt seat r.0) }
-    ensures players { IfOk result (λ r. r.1.fog.players ≡ scene.fog.players) }
+    ensures kept { IfOk result (λ r. kept r.1 ≡ kept scene) }
 {
     check_object(alloc, value)?;
     let key = fields::text(alloc, value, "key", 1, 64)?;

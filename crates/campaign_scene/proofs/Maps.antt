@@ -23,6 +23,7 @@ use Rattle.campaign_json.specs.declared.faults.BadCampaign.{BadCampaign}
 use Rattle.campaign_json.specs.declared.faults.FileFault.{FileFault}
 use Rattle.campaign_json.specs.declared.faults.Rule.TheVariants.{Range, Twice, Cross}
 use Rattle.campaign_json.specs.Reading.{Fails, broken}
+use Rattle.campaign_scene.specs.Kept.{kept}
 use Rattle.campaign_scene.specs.Maps.{frame, cell_rect, lettered, with_blank, point_on, unbroken, walled_at, IsWallBreach}
 use Rattle.campaign_json.proofs.Each.{is_breach}
 
@@ -107,7 +108,7 @@ laid_more name y letters start x now next letter before lt is made = record {
       ∙ before.so_far;
   kept =
       ap (frame name) made
-      ∙ ap (λ size. (now.fog.players, size)) (size_of-changed (with_letters (cell_rect y x) letter) (λ m. refl) (λ m. refl) name name now.maps)
+      ∙ ap (λ size. (kept now, size)) (size_of-changed (with_letters (cell_rect y x) letter) (λ m. refl) (λ m. refl) name name now.maps)
       ∙ before.kept;
 }
 

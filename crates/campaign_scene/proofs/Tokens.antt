@@ -3,11 +3,15 @@ use Rattle.std.proofs.Common.{◌≡◌, ℕ, ◌≤◌, true, ◌&&◌, List, O
 use Rattle.maps.proofs.NameLemmas.{and_first, both}
 use Rattle.cells.specs.Cells.{Extent}
 use Rattle.cells.specs.declared.cell.Cell.{Cell}
+use Rattle.seats.specs.Book.{Book}
 use Rattle.tokens.specs.Owners.{with_owner}
+use Rattle.tokens.specs.Tokens.{put}
 use Rattle.tokens.specs.declared.token.Token.{Token}
 use Rattle.world.specs.Rules.{are_players, belongs, fits, fits_on, is_known, is_player, size_of}
 use Rattle.world.specs.Scene.{Scene}
-use Rattle.world.proofs.TokenRules.{players_with}
+use Rattle.world.specs.World.{are_used, is_used}
+use Rattle.world.proofs.TokenRules.{list_all-put, players_with}
+use Rattle.campaign_scene.specs.Kept.{kept_by}
 
 -- none are players
 pub no_players : (players : ℕ) → are_players players 0 ≡ true
@@ -34,3 +38,7 @@ marked_belongs s t u before map cell size sight light owners =
     let stands : fits_on (size_of u.map s.maps) u.cell u.size ≡ true =
     rw (map, cell, size) (and_first (fits_on (size_of t.map s.maps) t.cell t.size) _ before) in
     both _ _ stands (both _ _ sight (both _ _ light owners))
+
+-- a token more, whose maker used its tag
+pub kept_with : (books : List Book) (s : Scene) (t : Token) → is_used books t.id ≡ true → kept_by books (record s { tokens = put t s.tokens }) ≡ kept_by books s
+kept_with books s t used = ap (λ b. (s.fog.players, b)) (list_all-put (λ u. is_used books u.id) t s.tokens ∙ ap (λ b. b && are_used books s.tokens) used)

@@ -1,3 +1,4 @@
+pub mod Kept
 pub mod Fog
 pub mod Maps
 pub mod Tokens

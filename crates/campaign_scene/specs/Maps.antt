@@ -25,10 +25,12 @@ use Rattle.campaign_json.specs.declared.faults.FileFault.TheVariants.{Memory as 
 use Rattle.campaign_json.specs.declared.faults.BadCampaign.{BadCampaign}
 use Rattle.campaign_json.specs.Reading.{IsBreach, broken, needed, asked, field, item_at, under, each}
 use Rattle.campaign_json.specs.Kinds.{whole, text, list, object, only, exactly, integer, boolean, tag, mode}
+use Rattle.tokens.specs.declared.token.Token.{Token}
+use Rattle.campaign_scene.specs.Kept.{kept}
 
--- what stays while a map is filled: how many players there are, and the size of the map of that name
-abbrev pub frame : List ℕ → Scene → ℕ × Option Extent
-frame name s = (s.fog.players, size_of name s.maps)
+-- what stays while a map is filled: the players, the tokens, and the size of the map of that name
+abbrev pub frame : List ℕ → Scene → (ℕ × List Token) × Option Extent
+frame name s = (kept s, size_of name s.maps)
 
 -- ---- letters
 

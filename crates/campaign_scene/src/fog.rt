@@ -4,6 +4,7 @@ ghost use Rattle.serde_json.specs.View.{view, items_view, members_view};
 ghost use Rattle.json_fields.specs.Objects.{Gives};
 ghost use Rattle.world.specs.Rules.{is_player as is_player_lem};
 ghost use Rattle.campaign_json.specs.Reading.{Fails, under, each, each_member};
+ghost use Rattle.campaign_scene.specs.Kept.{kept};
 ghost use Rattle.campaign_scene.specs.Fog.{run_from, run_on as run_on_lem, exposed_at as exposed_at_lem, run as run_lem, fog_of_map as fog_of_map_lem, fog_of_player as fog_of_player_lem, no_fog as no_fog_lem, fog as fog_lem};
 
 use campaign_json::fields::{self, check_count};
@@ -24,7 +25,7 @@ pub fn read_fog(
     scene: Scene,
 ) -> Result<Scene, FileFault>
     ensures exact { Gives Fails (λ s. s) result (fog_lem seat scene (view value.now)) }
-    ensures players { IfOk result (λ s. s.fog.players ≡ scene.fog.players) }
+    ensures kept { IfOk result (λ s. kept s ≡ kept scene) }
 {
     if is_player(&scene, seat) {
         fog_of_player(alloc, seat, value, scene)
@@ -42,7 +43,7 @@ fn is_player(scene: &Scene, seat: SeatNo) -> bool
 #[tactic(auto, unfolding(crate::specs::Fog::no_fog))]
 fn no_fog(alloc: Global, value: &Value, scene: Scene) -> Result<Scene, FileFault>
     ensures exact { Gives Fails (λ s. s) result (no_fog_lem scene (view value.now)) }
-    ensures players { IfOk result (λ s. s.fog.players ≡ scene.fog.players) }
+    ensures kept { IfOk result (λ s. kept s ≡ kept scene) }
 {
     fields::members(alloc, value, "fog", 0)?;
     Ok(scene)
@@ -57,7 +58,7 @@ fn fog_of_player(
 ) -> Result<Scene, FileFault>
     requires { is_player_lem scene.fog.players seat ≡ true }
     ensures exact { Gives Fails (λ s. s) result (fog_of_player_lem seat scene (view value.now)) }
-    ensures players { IfOk result (λ s. s.fog.players ≡ scene.fog.players) }
+    ensures kept { IfOk result (λ s. kept s ≡ kept scene) }
 {
     let members = fields::entries(alloc, value, "fog")?;
     each_map(alloc, seat, members, scene)
@@ -72,7 +73,7 @@ fn each_map(
     requires { is_player_lem scene.fog.players seat ≡ true }
     ensures exact { Gives Fails (λ s. s) result
         (under (codes "fog") (each_member (fog_of_map_lem seat) scene (members_view members.now.entries))) }
-    ensures players { IfOk result (λ s. s.fog.players ≡ scene.fog.players) }
+    ensures kept { IfOk result (λ s. kept s ≡ kept scene) }
 {
     for (key, value) in members {
         scene = match fog_of_map(alloc, seat, key.as_str(), value, scene) {
@@ -93,7 +94,7 @@ fn fog_of_map(
 ) -> Result<Scene, FileFault>
     requires { is_player_lem scene.fog.players seat ≡ true }
     ensures exact { Gives Fails (λ s. s) result (fog_of_map_lem seat key.now scene (view value.now)) }
-    ensures players { IfOk result (λ s. s.fog.players ≡ scene.fog.players) }
+    ensures kept { IfOk result (λ s. kept s ≡ kept scene) }
 {
     let Ok(name) = Tag::read(key.as_bytes()) else {
         return Err(broken(alloc, Rule::Cross));
@@ -117,7 +118,7 @@ fn each_run(
     requires { is_player_lem scene.fog.players seat ≡ true }
     ensures exact { Gives Fails (λ s. s) result
         (each (λ place. run_lem seat name) 0 scene (items_view values.now)) }
-    ensures players { IfOk result (λ s. s.fog.players ≡ scene.fog.players) }
+    ensures kept { IfOk result (λ s. kept s ≡ kept scene) }
 {
     for (place, value) in values.iter().enumerate() {
         scene = match read_run(alloc, seat, name, value, scene) {
@@ -138,7 +139,7 @@ fn read_run(
 ) -> Result<Scene, FileFault>
     requires { is_player_lem scene.fog.players seat ≡ true }
     ensures exact { Gives Fails (λ s. s) result (run_lem seat name scene (view value.now)) }
-    ensures players { IfOk result (λ s. s.fog.players ≡ scene.fog.players) }
+    ensures kept { IfOk result (λ s. kept s ≡ kept scene) }
 {
     check_count(alloc, value, 3)?;
     let y = fields::integer_item(alloc, value, 0)?;
@@ -158,7 +159,7 @@ fn exposed_at(
 ) -> Result<Scene, FileFault>
     requires { is_player_lem scene.fog.players seat ≡ true }
     ensures exact { Gives Fails (λ s. s) result (exposed_at_lem seat name run.0 run.1 run.2 scene) }
-    ensures players { IfOk result (λ s. s.fog.players ≡ scene.fog.players) }
+    ensures kept { IfOk result (λ s. kept s ≡ kept scene) }
 {
     let Some(grid) = scene.maps().get(name) else {
         return Err(broken(alloc, Rule::Cross));

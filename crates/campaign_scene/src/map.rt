@@ -8,6 +8,7 @@ ghost use Rattle.maps.specs.MapFaults.{map_fault};
 ghost use Rattle.maps.specs.Maps.{has_map};
 ghost use Rattle.world.specs.Rules.{size_of};
 ghost use Rattle.campaign_json.specs.Reading.{Fails, here, under, each, field};
+ghost use Rattle.campaign_scene.specs.Kept.{kept};
 ghost use Rattle.campaign_scene.specs.Maps.{frame, lettered, row as row_lem, row_letters as row_letters_lem, with_blank as with_blank_lem, rows as rows_lem, new_name as new_name_lem, blank_map as blank_map_lem, map as map_lem, maps as maps_lem};
 
 use crate::wall::read_walls;
@@ -34,7 +35,7 @@ struct BlankMap {
 #[tactic(auto, unfolding(crate::specs::Maps::maps))]
 pub fn read_maps(alloc: Global, value: &Value, scene: Scene) -> Result<Scene, FileFault>
     ensures exact { Gives Fails (λ s. s) result (maps_lem scene (view value.now)) }
-    ensures players { IfOk result (λ s. s.fog.players ≡ scene.fog.players) }
+    ensures kept { IfOk result (λ s. kept s ≡ kept scene) }
 {
     let values = fields::list(alloc, value, "maps", 0, 8)?;
     each_map(alloc, values, scene)
@@ -43,7 +44,7 @@ pub fn read_maps(alloc: Global, value: &Value, scene: Scene) -> Result<Scene, Fi
 fn each_map(alloc: Global, values: &[Value], mut scene: Scene) -> Result<Scene, FileFault>
     ensures exact { Gives Fails (λ s. s) result
         (under (codes "maps") (each (λ place. map_lem) 0 scene (items_view values.now))) }
-    ensures players { IfOk result (λ s. s.fog.players ≡ scene.fog.players) }
+    ensures kept { IfOk result (λ s. kept s ≡ kept scene) }
 {
     for (place, value) in values.iter().enumerate() {
         scene = match read_map(alloc, value, scene) {
@@ -57,7 +58,7 @@ fn each_map(alloc: Global, values: &[Value], mut scene: Scene) -> Result<Scene, 
 #[tactic(auto, unfolding(crate::specs::Maps::map))]
 fn read_map(alloc: Global, value: &Value, scene: Scene) -> Result<Scene, FileFault>
     ensures exact { Gives Fails (λ s. s) result (map_lem scene (view value.now)) }
-    ensures players { IfOk result (λ s. s.fog.players ≡ scene.fog.players) }
+    ensures kept { IfOk result (λ s. kept s ≡ kept scene) }
 {
     let BlankMap { scene, name, size } = read_blank_map(alloc, value, scene)?;
     let scene = read_rows(alloc, name, size, value, scene)?;
@@ -70,7 +71,7 @@ fn read_map(alloc: Global, value: &Value, scene: Scene) -> Result<Scene, FileFau
 #[tactic(auto, unfolding(crate::specs::Maps::blank_map))]
 fn read_blank_map(alloc: Global, value: &Value, scene: Scene) -> Result<BlankMap, FileFault>
     ensures exact { Gives Fails (λ m. (m.scene, (m.name, m.size))) result (blank_map_lem scene (view value.now)) }
-    ensures players { IfOk result (λ m. m.scene.fog.players ≡ scene.fog.players) }
+    ensures kept { IfOk result (λ m. kept m.scene ≡ kept scene) }
     ensures size { IfOk result (λ m. size_of m.name m.scene.maps ≡ Some m.size) }
 {
     check_object(alloc, value)?;
@@ -96,7 +97,7 @@ fn with_blank(
     requires { map_fault scene.maps name ≡ None }
     ensures value { IfOk result (λ s. s ≡ with_blank_lem name size mode shown scene) }
     ensures memory { IfErr result (λ fault. fault ≡ FileFault.Memory) }
-    ensures players { IfOk result (λ s. s.fog.players ≡ scene.fog.players) }
+    ensures kept { IfOk result (λ s. kept s ≡ kept scene) }
     ensures size { IfOk result (λ s. size_of name s.maps ≡ Some size) }
 {
     match scene.add_map(name, size) {

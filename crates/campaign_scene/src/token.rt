@@ -4,8 +4,10 @@ ghost use Rattle.serde_json.specs.View.{view, items_view};
 ghost use Rattle.json_fields.specs.Objects.{Gives};
 ghost use Rattle.tokens.specs.Tokens.{has_token};
 ghost use Rattle.world.specs.Rules.{belongs, fits, size_of, are_players, is_known};
+ghost use Rattle.world.specs.World.{is_used as is_used_lem};
 ghost use Rattle.campaign_json.specs.Reading.{Fails, here, under, each, field};
-ghost use Rattle.campaign_scene.specs.Tokens.{may_be_made, new_id as new_id_lem, is_used as is_used_lem, map_name as map_name_lem, name_or_null as name_or_null_lem, type_name as type_name_lem, cell as cell_lem, owner as owner_lem, owners as owners_lem, bare_token as bare_token_lem, marked as marked_lem, described as described_lem, token as token_lem, tokens as tokens_lem};
+ghost use Rattle.campaign_scene.specs.Kept.{kept_by};
+ghost use Rattle.campaign_scene.specs.Tokens.{may_be_made, new_id as new_id_lem, map_name as map_name_lem, name_or_null as name_or_null_lem, type_name as type_name_lem, cell as cell_lem, owner as owner_lem, owners as owners_lem, bare_token as bare_token_lem, marked as marked_lem, described as described_lem, token as token_lem, tokens as tokens_lem};
 
 use crate::property::read_properties;
 use campaign_json::fields::{self, check_count, check_object, check_only};
@@ -33,7 +35,7 @@ pub fn read_tokens(
     scene: Scene,
 ) -> Result<Scene, FileFault>
     ensures exact { Gives Fails (λ s. s) result (tokens_lem books.now scene (view value.now)) }
-    ensures players { IfOk result (λ s. s.fog.players ≡ scene.fog.players) }
+    ensures kept { IfOk result (λ s. kept_by books.now s ≡ kept_by books.now scene) }
 {
     let values = fields::items(alloc, value, "tokens")?;
     each_token(alloc, books, values, scene)
@@ -47,7 +49,7 @@ fn each_token(
 ) -> Result<Scene, FileFault>
     ensures exact { Gives Fails (λ s. s) result
         (under (codes "tokens") (each (λ place. token_lem books.now) 0 scene (items_view values.now))) }
-    ensures players { IfOk result (λ s. s.fog.players ≡ scene.fog.players) }
+    ensures kept { IfOk result (λ s. kept_by books.now s ≡ kept_by books.now scene) }
 {
     for (place, value) in values.iter().enumerate() {
         scene = match read_token(alloc, books, value, scene) {
@@ -58,7 +60,7 @@ fn each_token(
     Ok(scene)
 }
 
-#[tactic(auto, unfolding(crate::specs::Tokens::token))]
+#[tactic(auto, using(crate::proofs::Tokens::kept_with), unfolding(crate::specs::Tokens::token))]
 fn read_token(
     alloc: Global,
     books: &[SeatBook],
@@ -66,7 +68,7 @@ fn read_token(
     mut scene: Scene,
 ) -> Result<Scene, FileFault>
     ensures exact { Gives Fails (λ s. s) result (token_lem books.now scene (view value.now)) }
-    ensures players { IfOk result (λ s. s.fog.players ≡ scene.fog.players) }
+    ensures kept { IfOk result (λ s. kept_by books.now s ≡ kept_by books.now scene) }
 {
     let token = bare_token(alloc, books, &scene, value)?;
     let token = marked(alloc, &scene, token, value)?;
@@ -88,6 +90,7 @@ fn bare_token(
 ) -> Result<Token, FileFault>
     ensures exact { Gives Fails (λ t. t) result (bare_token_lem books.now scene.now (view value.now)) }
     ensures fitting { IfOk result (λ t. belongs scene.now t ≡ true) }
+    ensures used { IfOk result (λ t. is_used_lem books.now t.id ≡ true) }
     ensures absent { IfOk result (λ t. has_token t.id scene.now.tokens ≡ false) }
 {
     check_object(alloc, value)?;
@@ -157,6 +160,7 @@ fn new_id(
 ) -> Result<TokenId, FileFault>
     ensures exact { Gives Fails (λ i. i) result
         (field (codes "id") (new_id_lem books.now scene.now) (view value.now)) }
+    ensures used { IfOk result (λ i. is_used_lem books.now i ≡ true) }
     ensures absent { IfOk result (λ i. has_token i scene.now.tokens ≡ false) }
 {
     match checked_id(books, scene, fields::needed(alloc, value, "id")?) {
@@ -168,6 +172,7 @@ fn new_id(
 #[tactic(auto, unfolding(crate::specs::Tokens::new_id))]
 fn checked_id(books: &[SeatBook], scene: &Scene, value: &Value) -> Result<TokenId, Rule>
     ensures exact { here (λ i. i) result ≡ new_id_lem books.now scene.now (view value.now) }
+    ensures used { IfOk result (λ i. is_used_lem books.now i ≡ true) }
     ensures absent { IfOk result (λ i. has_token i scene.now.tokens ≡ false) }
 {
     let id = kinds::id(value)?;
@@ -181,6 +186,7 @@ fn checked_id(books: &[SeatBook], scene: &Scene, value: &Value) -> Result<TokenI
 #[tactic(auto, unfolding(crate::specs::Tokens::may_be_made))]
 fn check_id(books: &[SeatBook], scene: &Scene, id: &TokenId) -> Result<(), Rule>
     ensures exact { here (λ u. u) result ≡ may_be_made books.now scene.now id.now }
+    ensures used { OnOk result (is_used_lem books.now id.now ≡ true) }
     ensures absent { OnOk result (has_token id.now scene.now.tokens ≡ false) }
 {
     if !is_used(books, id) {

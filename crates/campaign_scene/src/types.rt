@@ -4,6 +4,7 @@ ghost use Rattle.serde_json.specs.View.{view, members_view};
 ghost use Rattle.json_fields.specs.Objects.{Gives};
 ghost use Rattle.campaign_json.specs.Reading.{Fails, needed, under, each_member};
 ghost use Rattle.names.specs.Tag.{tag_of};
+ghost use Rattle.campaign_scene.specs.Kept.{kept};
 ghost use Rattle.campaign_scene.specs.Types.{light as light_lem, sight as sight_lem, lights as lights_lem, sights as sights_lem};
 
 use campaign_json::fields::{self, check_count};
@@ -22,7 +23,7 @@ const MOST_TYPES: usize = 32;
 #[tactic(auto, unfolding(crate::specs::Types::lights))]
 pub fn read_lights(alloc: Global, value: &Value, scene: Scene) -> Result<Scene, FileFault>
     ensures exact { Gives Fails (λ s. s) result (lights_lem scene (view value.now)) }
-    ensures players { IfOk result (λ s. s.fog.players ≡ scene.fog.players) }
+    ensures kept { IfOk result (λ s. kept s ≡ kept scene) }
 {
     let members = fields::members(alloc, value, "lights", MOST_TYPES)?;
     each_light(alloc, members, scene)
@@ -35,7 +36,7 @@ fn each_light(
 ) -> Result<Scene, FileFault>
     ensures exact { Gives Fails (λ s. s) result
         (under (codes "lights") (each_member light_lem scene (members_view members.now.entries))) }
-    ensures players { IfOk result (λ s. s.fog.players ≡ scene.fog.players) }
+    ensures kept { IfOk result (λ s. kept s ≡ kept scene) }
 {
     for (key, value) in members {
         scene = match read_light(alloc, key.as_str(), value, scene) {
@@ -49,7 +50,7 @@ fn each_light(
 #[tactic(auto, unfolding(crate::specs::Types::light))]
 fn read_light(alloc: Global, key: &str, value: &Value, mut scene: Scene) -> Result<Scene, FileFault>
     ensures exact { Gives Fails (λ s. s) result (light_lem key.now scene (view value.now)) }
-    ensures players { IfOk result (λ s. s.fog.players ≡ scene.fog.players) }
+    ensures kept { IfOk result (λ s. kept s ≡ kept scene) }
 {
     let name = type_name(alloc, key)?;
     let radius = match kinds::whole(value, 1, 20) {
@@ -67,7 +68,7 @@ fn read_light(alloc: Global, key: &str, value: &Value, mut scene: Scene) -> Resu
 #[tactic(auto, unfolding(crate::specs::Types::sights))]
 pub fn read_sights(alloc: Global, value: &Value, scene: Scene) -> Result<Scene, FileFault>
     ensures exact { Gives Fails (λ s. s) result (sights_lem scene (view value.now)) }
-    ensures players { IfOk result (λ s. s.fog.players ≡ scene.fog.players) }
+    ensures kept { IfOk result (λ s. kept s ≡ kept scene) }
 {
     let members = fields::members(alloc, value, "sights", MOST_TYPES)?;
     each_sight(alloc, members, scene)
@@ -80,7 +81,7 @@ fn each_sight(
 ) -> Result<Scene, FileFault>
     ensures exact { Gives Fails (λ s. s) result
         (under (codes "sights") (each_member sight_lem scene (members_view members.now.entries))) }
-    ensures players { IfOk result (λ s. s.fog.players ≡ scene.fog.players) }
+    ensures kept { IfOk result (λ s. kept s ≡ kept scene) }
 {
     for (key, value) in members {
         scene = match read_sight(alloc, key.as_str(), value, scene) {
@@ -94,7 +95,7 @@ fn each_sight(
 #[tactic(auto, unfolding(crate::specs::Types::sight))]
 fn read_sight(alloc: Global, key: &str, value: &Value, mut scene: Scene) -> Result<Scene, FileFault>
     ensures exact { Gives Fails (λ s. s) result (sight_lem key.now scene (view value.now)) }
-    ensures players { IfOk result (λ s. s.fog.players ≡ scene.fog.players) }
+    ensures kept { IfOk result (λ s. kept s ≡ kept scene) }
 {
     let name = type_name(alloc, key)?;
     check_count(alloc, value, 3)?;

@@ -4,6 +4,7 @@ ghost use Rattle.serde_json.specs.View.{view, items_view};
 ghost use Rattle.json_fields.specs.Objects.{Gives};
 ghost use Rattle.names.specs.Words.{wall_word};
 ghost use Rattle.campaign_json.specs.Reading.{Fails, under, each};
+ghost use Rattle.campaign_scene.specs.Kept.{kept};
 ghost use Rattle.campaign_scene.specs.Maps.{IsWallBreach, point_on as point_on_lem, walled_at as walled_at_lem, wall as wall_lem, walls as walls_lem};
 
 use campaign_json::fields::{self, check_count};
@@ -30,7 +31,7 @@ pub(crate) fn read_walls(
     scene: Scene,
 ) -> Result<Scene, FileFault>
     ensures exact { Gives Fails (λ s. s) result (walls_lem name kind scene (view value.now)) }
-    ensures players { IfOk result (λ s. s.fog.players ≡ scene.fog.players) }
+    ensures kept { IfOk result (λ s. kept s ≡ kept scene) }
 {
     let values = fields::list(alloc, value, kind.word(), 0, MOST_WALLS)?;
     each_wall(alloc, name, kind, values, scene)
@@ -45,7 +46,7 @@ fn each_wall(
 ) -> Result<Scene, FileFault>
     ensures exact { Gives Fails (λ s. s) result
         (under (wall_word kind) (each (λ place. wall_lem name kind) 0 scene (items_view values.now))) }
-    ensures players { IfOk result (λ s. s.fog.players ≡ scene.fog.players) }
+    ensures kept { IfOk result (λ s. kept s ≡ kept scene) }
 {
     for (place, value) in values.iter().enumerate() {
         scene = match read_wall(alloc, name, kind, value, scene) {
@@ -65,7 +66,7 @@ fn read_wall(
     scene: Scene,
 ) -> Result<Scene, FileFault>
     ensures exact { Gives Fails (λ s. s) result (wall_lem name kind scene (view value.now)) }
-    ensures players { IfOk result (λ s. s.fog.players ≡ scene.fog.players) }
+    ensures kept { IfOk result (λ s. kept s ≡ kept scene) }
 {
     check_count(alloc, value, 4)?;
     let ax = fields::integer_item(alloc, value, 0)?;
@@ -86,7 +87,7 @@ fn walled_at(
     mut scene: Scene,
 ) -> Result<Scene, FileFault>
     ensures exact { Gives Fails (λ s. s) result (walled_at_lem name kind first second scene) }
-    ensures players { IfOk result (λ s. s.fog.players ≡ scene.fog.players) }
+    ensures kept { IfOk result (λ s. kept s ≡ kept scene) }
 {
     let Some(grid) = scene.maps().get(name) else {
         return Err(broken(alloc, Rule::Cross));

@@ -1,9 +1,10 @@
 -- Books after one of them is changed.
-use Rattle.std.proofs.Common.{◌≡◌, ℕ, zero, suc, ◌+◌, ◌<◌, List, [], ◌∷◌, length, get_or, set, Some, Result, Ok, Err, refl, ap, subst, sym, ◌∙◌, arith}
+use Rattle.std.proofs.Common.{◌≡◌, ℕ, zero, suc, ◌+◌, ◌<◌, true, List, [], ◌∷◌, length, get_or, set, Some, Result, Ok, Err, refl, ap, subst, sym, ◌∙◌, arith}
 use Rattle.std.specs.Prelude.{OnOk, OnErr, slice_get}
-use Rattle.seats.specs.Book.{Book}
+use Rattle.seats.specs.Book.{Book, tag_used, with_tag}
 use Rattle.world.specs.Scene.{Scene}
 use Rattle.world.specs.World.{World, IsWorld, AreNumberedFrom, changed_at, with_book}
+use Rattle.world.proofs.Makers.{are_used-changed, used_still}
 
 -- what is written at a place, where it is f of what stood there
 set_changed : (f : Book → Book) (books : List Book) (k : ℕ) (d : Book) → k < length books → set books k (f (get_or books k d)) ≡ changed_at k f books
@@ -16,19 +17,32 @@ length-changed f [] k = refl
 length-changed f (book ∷ books) zero = refl
 length-changed f (book ∷ books) (suc k) = ap suc (length-changed f books k)
 
+-- a change of a book that keeps whose it is, and no tag of which is lost
+pub record KeepsBook (f : Book → Book) : Type 0 where
+  pub seat : (book : Book) → (f book).seat ≡ book.seat
+  pub tags : (book : Book) (tag : List ℕ) → tag_used book.tags tag ≡ true → tag_used (f book).tags tag ≡ true
+
+-- one that keeps all its tags
+pub keeps_all : (f : Book → Book) → ((book : Book) → (f book).seat ≡ book.seat) → ((book : Book) → (f book).tags ≡ book.tags) → KeepsBook f
+keeps_all f seat tags = record { seat = seat; tags = λ book tag h. subst (λ (ts : List (List ℕ)). tag_used ts tag ≡ true) (sym (tags book)) h }
+
+pub keeps_with_tag : (tag : List ℕ) → KeepsBook (λ book. with_tag book tag)
+keeps_with_tag tag = record { seat = λ book. refl; tags = λ book other h. used_still book.tags tag other h }
+
 numbered-changed : (f : Book → Book) → ((book : Book) → (f book).seat ≡ book.seat) → (books : List Book) (from k : ℕ) → AreNumberedFrom from books → AreNumberedFrom from (changed_at k f books)
 numbered-changed f keeps [] from k h = tt
 numbered-changed f keeps (book ∷ books) from zero h = (keeps book ∙ h.0, h.1)
 numbered-changed f keeps (book ∷ books) from (suc k) h = (h.0, numbered-changed f keeps books (from + 1) k h.1)
 
-IsWorld-changed : (f : Book → Book) → ((book : Book) → (f book).seat ≡ book.seat) → (w : World) (k : ℕ) → IsWorld w → IsWorld (with_book k f w)
+IsWorld-changed : (f : Book → Book) → KeepsBook f → (w : World) (k : ℕ) → IsWorld w → IsWorld (with_book k f w)
 IsWorld-changed f keeps w k is =
     let same : length (changed_at k f w.books) ≡ length w.books = length-changed f w.books k in
     record {
       least = omega (arith, is.least);
       most = omega (arith, is.most);
-      numbered = numbered-changed f keeps w.books 0 k is.numbered;
+      numbered = numbered-changed f keeps.seat w.books 0 k is.numbered;
       players = is.players ∙ sym same;
+      tags = are_used-changed f keeps.tags w.books k w.scene.tokens is.tags;
     }
 
 -- ---- what the code reads and writes: the book at the place that is the seat's number
@@ -57,11 +71,11 @@ module _ (scene : Scene) (books : List Book) (now : World) (seat place : ℕ) (b
   changed_if_ok (Ok x) f u ok = is_changed f u ok
   changed_if_ok (Err x) f u ok = tt
 
-  pub IsWorld-stored : (f : Book → Book) → ((book : Book) → (f book).seat ≡ book.seat) → (u : Book) → u ≡ f b → IsWorld (record { scene = scene; books = books }) → IsWorld (record { scene = scene; books = set books place u })
+  pub IsWorld-stored : (f : Book → Book) → KeepsBook f → (u : Book) → u ≡ f b → IsWorld (record { scene = scene; books = books }) → IsWorld (record { scene = scene; books = set books place u })
   IsWorld-stored f keeps u new whole =
       subst (λ (list : List Book). IsWorld (record { scene = scene; books = list })) (sym (stored f u new)) (IsWorld-changed f keeps (record { scene = scene; books = books }) place whole)
 
-  pub IsWorld-if_ok : {V : Type 0} {E : Type 0} (result : Result V E) (f : Book → Book) → ((book : Book) → (f book).seat ≡ book.seat) → (u : Book) → OnOk result (u ≡ f b) → OnErr result (u ≡ b)
+  pub IsWorld-if_ok : {V : Type 0} {E : Type 0} (result : Result V E) (f : Book → Book) → KeepsBook f → (u : Book) → OnOk result (u ≡ f b) → OnErr result (u ≡ b)
       → IsWorld (record { scene = scene; books = books }) → IsWorld (record { scene = scene; books = set books place u })
   IsWorld-if_ok (Ok x) f keeps u ok err whole = IsWorld-stored f keeps u ok whole
-  IsWorld-if_ok (Err x) f keeps u ok err whole = IsWorld-stored (λ book. book) (λ book. refl) u err whole
+  IsWorld-if_ok (Err x) f keeps u ok err whole = IsWorld-stored (λ book. book) (keeps_all (λ book. book) (λ book. refl) (λ book. refl)) u err whole

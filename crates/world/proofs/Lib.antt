@@ -3,3 +3,4 @@ pub mod FogRules
 pub mod SceneRules
 pub mod Numbers
 pub mod Books
+pub mod Makers

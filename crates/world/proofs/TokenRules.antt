@@ -1,5 +1,5 @@
 -- Tests that each token of a table passes still after a change of the table.
-use Rattle.std.proofs.Common.{◌≡◌, ℕ, zero, suc, ◌+◌, ◌<◌, Bool, true, false, cond, not, List, [], ◌∷◌, map, Some, refl, sym, ap, subst, inl, inr, ◌∙◌, arith}
+use Rattle.std.proofs.Common.{◌≡◌, ℕ, zero, suc, ◌+◌, ◌<◌, Bool, true, false, cond, not, ◌&&◌, List, [], ◌∷◌, map, Some, refl, sym, ap, subst, inl, inr, ◌∙◌, arith}
 use Rattle.std.specs.Prelude.{IfSome}
 use Rattle.std.specs.List.{filter, list_all, range_with_len}
 use Rattle.std.specs.Ordering.{is_lt}
@@ -24,15 +24,21 @@ all_pass p q keeps (t ∷ ts) h =
 
 -- ---- one token more, and one less
 
-pub all_put : (p : Token → Bool) (token : Token) (ts : List Token) → p token ≡ true → list_all p ts ≡ true → list_all p (put token ts) ≡ true
-all_put p token [] one h = and_from _ _ one refl
-all_put p token (t ∷ ts) one h =
-    let hs = and_parts (p t) (list_all p ts) h in
-    by (is_lt (id_cmp t.id token.id)) hs.0 (all_put p token ts one hs.1)
+pub list_all-put : (p : Token → Bool) (token : Token) (ts : List Token) → list_all p (put token ts) ≡ (p token && list_all p ts)
+list_all-put p token [] = refl
+list_all-put p token (t ∷ ts) = by (is_lt (id_cmp t.id token.id)) (list_all-put p token ts)
   where
-    by : (b : Bool) → p t ≡ true → list_all p (put token ts) ≡ true → list_all p (cond b (t ∷ put token ts) (token ∷ t ∷ ts)) ≡ true
-    by true first rest = and_from _ _ first rest
-    by false first rest = and_from _ _ one h
+    swapped : (a b c : Bool) → (a && (b && c)) ≡ (b && (a && c))
+    swapped true b c = refl
+    swapped false true c = refl
+    swapped false false c = refl
+
+    by : (b : Bool) → list_all p (put token ts) ≡ (p token && list_all p ts) → list_all p (cond b (t ∷ put token ts) (token ∷ t ∷ ts)) ≡ (p token && (p t && list_all p ts))
+    by true rest = ap (λ c. p t && c) rest ∙ swapped (p t) (p token) (list_all p ts)
+    by false rest = refl
+
+pub all_put : (p : Token → Bool) (token : Token) (ts : List Token) → p token ≡ true → list_all p ts ≡ true → list_all p (put token ts) ≡ true
+all_put p token ts one h = list_all-put p token ts ∙ and_from _ _ one h
 
 pub all_without : (p : Token → Bool) (id : TokenId) (ts : List Token) → list_all p ts ≡ true → list_all p (without id ts) ≡ true
 all_without p id [] h = refl

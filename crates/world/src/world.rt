@@ -21,7 +21,7 @@ ghost use Rattle.type_table.specs.Types.{with_type};
 ghost use Rattle.world.specs.Lending.{LendsStream};
 ghost use Rattle.world.specs.Rules.{IsScene, belongs, fits_on, is_known, is_player, size_of};
 ghost use Rattle.world.specs.Scene.{with_grid, with_new_map, with_token};
-ghost use Rattle.world.specs.World.{IsOpening, IsWorld, opened, with_book};
+ghost use Rattle.world.specs.World.{IsOpening, IsWorld, is_used, opened, with_book};
 
 use crate::scene::Scene;
 use cells::{Cell, CellSet, Rect, Size};
@@ -39,7 +39,7 @@ use tokens::{PropFault, Token, TokenTable};
 use topology::{NoSuchWall, WallFault};
 
 /// A campaign's scene and its seats' books: 1 to 33 seats, the game master's and those of the scene's players, numbered
-/// by their places.
+/// by their places. The maker of each token is a seat that used its tag.
 #[derive(Drop)]
 pub struct World {
     scene: Scene,
@@ -275,12 +275,13 @@ impl World {
         self.scene.set_sight_type(name, range, night, mult)
     }
 
-    /// Puts a token in its place. Its id isn't there, and it belongs to the scene: its square is on a map that is there,
-    /// its types are there, and players own it.
+    /// Puts a token in its place. Its id isn't there, its maker used its tag, and it belongs to the scene: its square is
+    /// on a map that is there, its types are there, and players own it.
     ///
     /// The token comes back for want of memory, and the world is then as before.
     pub fn make(&mut self, token: Token) -> Result<(), Token>
         requires absent { has_token token.id self.old.scene.tokens ≡ false }
+        requires used { is_used self.old.books token.id ≡ true }
         requires fitting { IsTrue (belongs self.old.scene token) }
         ensures ok { OnOk result (self.new ≡ record self.old { scene = record self.old.scene { tokens = put token self.old.scene.tokens } }) }
         ensures back { IfErr result (λ t. t ≡ token) }

@@ -2,13 +2,13 @@ use Rattle.std.proofs.Common.{◌≡◌, true, false, Option, Err, refl, subst, 
 use Rattle.std.specs.Prelude.{◌↔◌, IfSome}
 use Rattle.seats.specs.Book.{Book, tag_used, tags_spent, with_tag}
 use Rattle.seats.specs.declared.tag_fault.TagFault.TheVariants.{TagUsed, TagsSpent}
-use Rattle.world.proofs.Books.{is_found, changed_if_ok, IsWorld-if_ok}
+use Rattle.world.proofs.Books.{is_found, changed_if_ok, IsWorld-if_ok, keeps_with_tag}
 use Rattle.world.proofs.world.World.use_tag.Goals as goal
 
 pub invariant_of-self : goal.invariant_of-self
 invariant_of-self c =
     IsWorld-if_ok c.self.inside.scene c.self.inside.seats.items c.args.self.now c.args.seat c.number.result c.index_mut.result.now c.self.view_is (omega (arith, c.number.ensures.value)) c.requires c.index_mut.ensures.value
-    c.use_tag.result (λ book. with_tag book c.args.tag) (λ book. refl) c.use_tag.new.self c.use_tag.ensures.ok c.use_tag.ensures.refused c.self.invariant
+    c.use_tag.result (λ book. with_tag book c.args.tag) (keeps_with_tag c.args.tag) c.use_tag.new.self c.use_tag.ensures.ok c.use_tag.ensures.refused c.self.invariant
 
 pub returns-clause-tag_used : goal.returns-clause-tag_used
 returns-clause-tag_used c =
