@@ -1,5 +1,5 @@
-//! What a campaign is: entries, worlds, the rules of commands and their effects, what is sent, and
-//! the player machine, which holds no world. The laws of what players are sent stand on a function.
+//! What a campaign is: entries, their outcomes, the replay, what is sent, and the player machine, which
+//! holds no world. The laws of what players are sent stand on a function.
 #![tactic(auto)]
 
 ghost use Rattle.campaign_law.specs.Law.{SentIsMachine, AgreeingSendAlike, NoLineEndIsSent, RefusedChangesLittle};

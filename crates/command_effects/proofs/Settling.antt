@@ -1,6 +1,6 @@
 -- What is seen, set by set of the fog.
-use Rattle.std.proofs.Common.{◌≡◌, ℕ, zero, suc, ◌<◌, List, [], ◌∷◌, map, length, get_or, Some, None, refl, sym, ◌∙◌, ap, subst, arith}
-use Rattle.std.specs.Prelude.{Option, option_map, IfSome}
+use Rattle.std.proofs.Common.{◌≡◌, List, [], ◌∷◌, map, Some, None, refl, ◌∙◌, ap}
+use Rattle.std.specs.Prelude.{Option, option_map}
 use Rattle.std.specs.List.{AllByRecursion, AllZip}
 use Rattle.cells.specs.Cells.{Cells}
 use Rattle.fog_book.specs.declared.exposure.Exposure.{Exposure}
@@ -11,14 +11,6 @@ use Rattle.world.specs.Scene.{Scene}
 use Rattle.world.specs.Rules.{IsSized, IsScene}
 use Rattle.command_effects.specs.Settle.{with_sight, settled_set, settled}
 use Rattle.command_effects.specs.Seen.{seen_on, seen_for}
-
--- what is seen of the map of a set
-pub seen_is : (s : Scene) (set : Exposure) (cells : Cells) → IsSized s.maps set → IfSome (map_of set.map s.maps) (λ m. cells ≡ visible s set.seat m) → cells ≡ seen_for s set
-seen_is s set cells sized is = by (map_of set.map s.maps) sized is
-  where
-    by : (o : Option Grid) → option_map (λ (m : Grid). m.walls.extent) o ≡ Some set.cells.extent → IfSome o (λ m. cells ≡ visible s set.seat m) → cells ≡ seen_on s set o
-    by None none h = cc
-    by (Some m) there h = h
 
 -- it is of the set's size
 one_size : (s : Scene) (set : Exposure) → IsSized s.maps set → HaveOneSize set (seen_for s set)
@@ -32,11 +24,6 @@ one_size s set sized = by (map_of set.map s.maps) sized
 pub one_size_each : (s : Scene) (sets : List Exposure) → AllByRecursion (IsSized s.maps) sets → AllZip HaveOneSize sets (map (seen_for s) sets)
 one_size_each s [] all = tt
 one_size_each s (set ∷ sets) all = (one_size s set all.0, one_size_each s sets all.1)
-
-pub sized_at : (maps : List Grid) (sets : List Exposure) (i : ℕ) (set : Exposure) → AllByRecursion (IsSized maps) sets → i < length sets → set ≡ get_or sets i set → IsSized maps set
-sized_at maps [] i set all lt is = absurd (omega arith)
-sized_at maps (x ∷ xs) zero set all lt is = subst (IsSized maps) (sym is) all.0
-sized_at maps (x ∷ xs) (suc i) set all lt is = sized_at maps xs i set all.1 (omega arith) is
 
 -- with what is seen, set by set, the scene is settled
 settled_one : (s : Scene) (set : Exposure) → IsSized s.maps set → with_seen set (seen_for s set) ≡ settled_set s set

@@ -1,4 +1,4 @@
-//! What accepted commands do to the scene and to their seats' tags.
+//! What accepted commands do to the scene and to their seats' tags, and how what players see is exposed to them.
 #![tactic(auto)]
 
 mod effects;

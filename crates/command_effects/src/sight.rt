@@ -1,5 +1,5 @@
 //! What players see is exposed to them.
-ghost use Rattle.std.specs.Prelude.{◌≡◌, ◌∷◌, ◌++◌, [], map, IfOk, OnOk};
+ghost use Rattle.std.specs.Prelude.{◌≡◌, ◌∷◌, ◌++◌, [], map, IfOk, OnOk, OnErr};
 ghost use Rattle.player_view.specs.Fields.{HasFields};
 ghost use Rattle.world.specs.Rules.{IsScene, IsSized};
 ghost use Rattle.std.specs.List.{AllZip};
@@ -53,10 +53,11 @@ fn all_seen(alloc: Global, scene: &Scene, fields: &Fields) -> Result<Vec<CellSet
     Ok(all)
 }
 
-/// Exposes to each player what it sees.
+/// Exposes to each player what it sees. After `Memory` the scene is as before.
 pub fn settle(alloc: Global, scene: &mut Scene, fields: &Fields) -> Result<(), Memory>
     requires { HasFields scene.old fields.now }
-    ensures { OnOk result (scene.new ≡ settled scene.old) }
+    ensures settled { OnOk result (scene.new ≡ settled scene.old) }
+    ensures unchanged { OnErr result (scene.new ≡ scene.old) }
 {
     let seen = all_seen(alloc, scene, fields)?;
     scene.join_each(&seen);

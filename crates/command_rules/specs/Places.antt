@@ -14,7 +14,7 @@ fits_along most more (negsuc n) = false
 abbrev pub fits_at : Extent → ℕ → ℤ × ℤ → Bool
 fits_at size side place = fits_along size.w side place.0 && fits_along size.h side place.1
 
--- a number that isn't negative
+-- the number, or 0 in place of a negative one
 abbrev pub coordinate : ℤ → ℕ
 coordinate (pos n) = n
 coordinate (negsuc n) = 0

@@ -1,4 +1,4 @@
--- The first broken rule of a player's command, from what it asks.
+-- The first broken rule of a seat's command, from what it asks.
 use Rattle.std.specs.Prelude.{ℕ, ◌==◌, ◌||◌, not, Bool, if◌then◌else◌, List, [], Option, Some, None, ℤ}
 use Rattle.std.specs.List.{list_all}
 use Rattle.cells.specs.Cells.{has}

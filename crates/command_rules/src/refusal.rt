@@ -59,7 +59,7 @@ pub enum Refusal {
     WallThere,
     /// The wall isn't there.
     NoSuchWall,
-    /// The name would be the 33rd of a type.
+    /// The name would be the 33rd of the light types, or of the sight types.
     TypeLimit,
     /// The radius isn't one of a light.
     BadRadius,

@@ -1,5 +1,5 @@
 -- The laws of changes.
-use Rattle.std.proofs.Common.{◌≡◌, ℕ, ◌<◌, Bool, true, false, cond, ◌&&◌, ◌||◌, List, [], ◌∷◌, Some, None, get_or, refl, sym, ◌∙◌, ap, subst, arith}
+use Rattle.std.proofs.Common.{◌≡◌, ℕ, ◌<◌, Bool, true, false, cond, ◌&&◌, ◌||◌, List, [], ◌∷◌, Some, None, refl, sym, ◌∙◌, ap, subst, arith}
 use Rattle.std.specs.Prelude.{◌↔◌, Option, is_some, is_none, not, unwrap_or, nat_lt, All}
 use Rattle.std.specs.Bool.{Decides}
 use Rattle.std.specs.Ordering.{eq_by_cmp, is_eq}
@@ -18,7 +18,7 @@ use Rattle.views.specs.declared.view.View.{View}
 use Rattle.views.specs.Keys.{Named, Letter, cell_cmp, name_of, cell_of, map_name, change_name, token_id}
 use Rattle.views.specs.Same.{same_option, same_bool, same_mode, same_letter, same_light, same_bytes, same_map, same_token, same_view}
 use Rattle.view_change.specs.Keyed.{at, in_order, put_all, applied, gone_from, is_among, puts_from}
-use Rattle.view_change.specs.Views.{at_name, letter_at, is_on_map, IsMapView, IsView, FitsAmong, FollowsView}
+use Rattle.view_change.specs.Views.{at_name, letter_at, is_on_map, IsMapView, IsView, FollowsView}
 use Rattle.view_change.specs.Change.{minus, shown_change, map_change, or_old, map_with, difference, change_of, apply_change}
 use Rattle.views.specs.Lettered.{has_letter}
 use Rattle.views.proofs.SameLemmas.{Tells, same_option-tells, same_bool-tells, same_mode-tells, same_letter-tells, same_light-tells, same_bytes-tells, same_map-tells, same_token-tells, same_view-tells}
@@ -185,16 +185,6 @@ same_sizes : (q : List ℕ) (a b : View) → FollowsView a b → (x y : MapView)
 same_sizes q a b f x y ex ey name =
     at-all tag_cmp map_name tag_total tag_anti (λ n. x.name ≡ n.name → x.size ≡ n.size) q b.maps y
     (at-all tag_cmp map_name tag_total tag_anti (λ m. All (λ n. m.name ≡ n.name → m.size ≡ n.size) b.maps) q a.maps x f.sizes ex) ey name
-
--- each map after has the size of the map before with its name
-pub fits_among : (a b : View) → IsView a → IsView b → FollowsView a b → All (FitsAmong a.maps) b.maps
-fits_among a b fa fb f k d h m e =
-    let n = get_or b.maps k d in
-    let name : n.name ≡ m.name = tag_anti n.name m.name (at-key tag_cmp map_name tag_total tag_anti n.name a.maps m e) in
-    let size : m.size ≡ n.size = at-all tag_cmp map_name tag_total tag_anti (λ m. All (λ n. m.name ≡ n.name → m.size ≡ n.size) b.maps) n.name a.maps m f.sizes e k d h (sym name) in
-    let old = at-all tag_cmp map_name tag_total tag_anti (IsMapView a.gm) n.name a.maps m fa.each_map e in
-    let new = fb.each_map k d h in
-    record { seen = new.seen_size ∙ sym size ∙ sym old.seen_size; exposed = new.exposed_size ∙ sym size ∙ sym old.exposed_size }
 
 -- a view with its change is the view after it
 pub gives_after : (a b : View) → IsView a → IsView b → FollowsView a b → apply_change a (difference a b) ≡ b

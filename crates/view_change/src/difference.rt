@@ -251,7 +251,7 @@ fn difference(alloc: Global, before: &View, after: &View) -> Result<Change, Memo
 
 /// The change from one view to another; `None` exactly where the views are equal.
 ///
-/// A map that is in both views has one size.
+/// The sets of a map that is in both views have one size.
 #[tactic(auto, using(crate::proofs::ChangeShape::none_where_same, crate::proofs::ChangeShape::change_where_other))]
 pub fn change_of(alloc: Global, before: &View, after: &View) -> Result<Option<Change>, Memory>
     requires { All (FitsAmong before.now.maps) after.now.maps }
@@ -283,9 +283,10 @@ fn all_fit(before: &[MapView], after: &[MapView]) -> bool
     after.iter().all(|map| fits_among(before, map))
 }
 
-/// Whether each map that is in both views has one size, as `change_of` asks.
+/// Whether the sets of each map that is in both views have one size, as `change_of` asks.
 pub fn fit(before: &View, after: &View) -> bool
-    ensures { IsTrue result → All (FitsAmong before.now.maps) after.now.maps }
+    ensures test { result ≡ list_all (λ map. list_all (λ old. fits_test old map) before.now.maps) after.now.maps }
+    ensures fits { IsTrue result → All (FitsAmong before.now.maps) after.now.maps }
 {
     all_fit(before.maps.items(), after.maps.items())
 }

@@ -15,26 +15,26 @@ opening-requires-clause-players g c =
     ∙ sym c.into_parts-scene.ensures.fitting.players
     ∙ ap (λ (s : Scene). s.fog.players + 1) (sym c.into_parts-scene.ensures.scene)
     ∙ ap (λ n. n + 1) (sym (settled_keeps c.into_parts-scene.result.0))
-    ∙ ap (λ (s : Scene). s.fog.players + 1) (sym c.in_ok-settle.ensures)
+    ∙ ap (λ (s : Scene). s.fog.players + 1) (sym c.in_ok-settle.ensures.settled)
 
 pub invariant_of-result : goal.invariant_of-result
 invariant_of-result g c =
     let is_opened : c.in_ok-origin.origin ≡ opening_state c.args.world.books c.args.world.scene =
-    c.in_ok-origin.ensures ∙ (λ i. record { posts = map opening_post (c.into_parts-scene.ensures.books i); scene = (c.in_ok-settle.ensures ∙ ap settled c.into_parts-scene.ensures.scene) i }) in (
+    c.in_ok-origin.ensures ∙ (λ i. record { posts = map opening_post (c.into_parts-scene.ensures.books i); scene = (c.in_ok-settle.ensures.settled ∙ ap settled c.into_parts-scene.ensures.scene) i }) in (
       c.in_ok-state.ensures ∙ is_opened ∙ opened c.args.world.books c.args.world.scene ∙ (λ i. state_of (world_in (sym is_opened i)) (sym c.new.ensures.items i)),
       subst (λ (s : State). IsOpening (world_in s)) (sym is_opened) (opening_is c.args.world.books c.args.world.scene c.requires),
       subst (λ (s : State). HasFields s.scene c.in_ok-fields.fields) (sym (c.in_ok-state.ensures ∙ c.in_ok-origin.ensures))
-          (subst (λ (s : Scene). HasFields s c.in_ok-fields.fields) (sym c.in_ok-settle.ensures) (fields_stay c.into_parts-scene.result.0 c.in_ok-fields.fields c.in_ok-fields.ensures.fields)),
+          (subst (λ (s : Scene). HasFields s c.in_ok-fields.fields) (sym c.in_ok-settle.ensures.settled) (fields_stay c.into_parts-scene.result.0 c.in_ok-fields.fields c.in_ok-fields.ensures.fields)),
     )
 
 pub returns-clause-world : goal.returns-clause-world
 returns-clause-world g c =
     let is_opened : c.in_ok-origin.origin ≡ opening_state c.args.world.books c.args.world.scene =
-    c.in_ok-origin.ensures ∙ (λ i. record { posts = map opening_post (c.into_parts-scene.ensures.books i); scene = (c.in_ok-settle.ensures ∙ ap settled c.into_parts-scene.ensures.scene) i }) in
+    c.in_ok-origin.ensures ∙ (λ i. record { posts = map opening_post (c.into_parts-scene.ensures.books i); scene = (c.in_ok-settle.ensures.settled ∙ ap settled c.into_parts-scene.ensures.scene) i }) in
     ap world_in is_opened ∙ (λ i. record { seats = opened_seats c.args.world.books i; scene = settled c.args.world.scene })
 
 pub returns-clause-opening : goal.returns-clause-opening
 returns-clause-opening g c =
     let is_opened : c.in_ok-origin.origin ≡ opening_state c.args.world.books c.args.world.scene =
-    c.in_ok-origin.ensures ∙ (λ i. record { posts = map opening_post (c.into_parts-scene.ensures.books i); scene = (c.in_ok-settle.ensures ∙ ap settled c.into_parts-scene.ensures.scene) i }) in
+    c.in_ok-origin.ensures ∙ (λ i. record { posts = map opening_post (c.into_parts-scene.ensures.books i); scene = (c.in_ok-settle.ensures.settled ∙ ap settled c.into_parts-scene.ensures.scene) i }) in
     subst (λ (s : State). IsOpening (world_in s)) (sym is_opened) (opening_is c.args.world.books c.args.world.scene c.requires)
