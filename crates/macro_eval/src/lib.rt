@@ -23,7 +23,7 @@ mod values;
 mod way;
 
 pub use intent::Intent;
-pub use laws::worked_examples;
+pub use laws::{examples_read, examples_run};
 pub use outcome::{Intents, Outcome};
 pub use readable::Readable;
 pub use runs::run;

@@ -18,8 +18,8 @@ use crate::operators::{number, shown};
 use crate::setting::Setting;
 use crate::state::State;
 use crate::stop::{FaultKind, MacroStop, fault};
-use crate::value::Value;
 use crate::texts::{Texts, joined, keep};
+use crate::value::Value;
 use crate::way::Way;
 use chat::To;
 use macro_parse::{Address, Branch, Options};
@@ -153,7 +153,11 @@ impl Setting<'_> {
         }
     }
 
-    fn addressed(&self, address: &Address, state: &mut State) -> Result<(Option<To>, Way), MacroStop>
+    fn addressed(
+        &self,
+        address: &Address,
+        state: &mut State,
+    ) -> Result<(Option<To>, Way), MacroStop>
         requires stands { AddressStands self.now.nodes.now address.now }
         requires fits { NodesFit self.now.nodes.now }
         requires seats { self.now.readable.now.seats ≤ 33 }
@@ -207,7 +211,11 @@ impl Setting<'_> {
     }
 
     /// Whom a roll is for and what of it is evaluated, by its options in the order in which they stand.
-    pub(crate) fn options(&self, options: &Options, state: &mut State) -> Result<(Option<To>, Way), MacroStop>
+    pub(crate) fn options(
+        &self,
+        options: &Options,
+        state: &mut State,
+    ) -> Result<(Option<To>, Way), MacroStop>
         requires stands { OptionsStand self.now.nodes.now options.now }
         requires fits { NodesFit self.now.nodes.now }
         requires seats { self.now.readable.now.seats ≤ 33 }

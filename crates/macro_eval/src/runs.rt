@@ -91,7 +91,10 @@ impl Setting<'_> {
 fn moved(stream: &SeatStream, used: u32) -> SeatStream
     ensures { result ≡ after stream.now used }
 {
-    SeatStream::new(stream.seed(), (stream.drawn() + u64::from(used)) % (1 << 62))
+    SeatStream::new(
+        stream.seed(),
+        (stream.drawn() + u64::from(used)) % (1 << 62),
+    )
 }
 
 /// Runs pieces over these nodes.

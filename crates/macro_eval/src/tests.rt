@@ -47,8 +47,18 @@ fn to_self(alloc: Global, text: &str, readable: &Readable) -> Result<String, Mac
 fn table(rt: &HostRuntime) -> Result<Readable, Fail> {
     let ann = TokenId::read(b"1:ann")?;
     let mut readable = Readable::new(rt.alloc(), 3);
-    readable.put(ann, PropClass::Public, Tag::read(b"hp")?, &Text::copy(rt.alloc(), "10")?)?;
-    readable.put(ann, PropClass::Own, Tag::read(b"mp")?, &Text::copy(rt.alloc(), "5")?)?;
+    readable.put(
+        ann,
+        PropClass::Public,
+        Tag::read(b"hp")?,
+        &Text::copy(rt.alloc(), "10")?,
+    )?;
+    readable.put(
+        ann,
+        PropClass::Own,
+        Tag::read(b"mp")?,
+        &Text::copy(rt.alloc(), "5")?,
+    )?;
     readable.put_yours(ann)?;
     Ok(readable)
 }
@@ -57,7 +67,14 @@ fn table(rt: &HostRuntime) -> Result<Readable, Fail> {
 fn each_seat_gets_its_text_and_a_refused_run_draws_nothing(rt: HostRuntime) -> Result<(), Fail> {
     let readable = table(&rt)?;
     let mut stream = SeatStream::new([0; 32], 0);
-    let Ok(outcome) = ran(rt.alloc(), "[h: x = 1d20][g: x] hit [s: x]", &readable, 1, To::All, &mut stream) else {
+    let Ok(outcome) = ran(
+        rt.alloc(),
+        "[h: x = 1d20][g: x] hit [s: x]",
+        &readable,
+        1,
+        To::All,
+        &mut stream,
+    ) else {
         assert!(rt; false, "refused");
         return Ok(());
     };
@@ -67,10 +84,24 @@ fn each_seat_gets_its_text_and_a_refused_run_draws_nothing(rt: HostRuntime) -> R
     assert_eq!(rt; texts[1].text(), " hit 14");
     assert_eq!(rt; texts[2].text(), " hit ");
     assert!(rt; stream.drawn() == 1);
-    let over = ran(rt.alloc(), "[h: y = 1d6][r,count(1000): 1+1+1+1+1+1]", &readable, 1, To::All, &mut stream);
+    let over = ran(
+        rt.alloc(),
+        "[h: y = 1d6][r,count(1000): 1+1+1+1+1+1]",
+        &readable,
+        1,
+        To::All,
+        &mut stream,
+    );
     assert!(rt; matches!(over, Err(MacroStop::Budget)));
     assert!(rt; stream.drawn() == 1);
-    let Ok(next) = ran(rt.alloc(), "[r: 1d20]", &readable, 1, To::SelfOnly, &mut stream) else {
+    let Ok(next) = ran(
+        rt.alloc(),
+        "[r: 1d20]",
+        &readable,
+        1,
+        To::SelfOnly,
+        &mut stream,
+    ) else {
         assert!(rt; false, "refused");
         return Ok(());
     };
@@ -83,7 +114,8 @@ fn each_seat_gets_its_text_and_a_refused_run_draws_nothing(rt: HostRuntime) -> R
 fn what_is_to_be_set_stands_in_order(rt: HostRuntime) -> Result<(), Fail> {
     let readable = table(&rt)?;
     let mut stream = SeatStream::new([0; 32], 0);
-    let text = "[r: setown(\"1:ann\", \"mp\", 4)][r: setprop(\"1:ann\", \"hp\", \"x\") + prop(\"1:ann\", \"hp\")]";
+    let text =
+        "[r: setown(\"1:ann\", \"mp\", 4)][r: setprop(\"1:ann\", \"hp\", \"x\") + prop(\"1:ann\", \"hp\")]";
     let Ok(outcome) = ran(rt.alloc(), text, &readable, 1, To::SelfOnly, &mut stream) else {
         assert!(rt; false, "refused");
         return Ok(());
@@ -103,7 +135,12 @@ fn what_is_to_be_set_stands_in_order(rt: HostRuntime) -> Result<(), Fail> {
 fn the_master_reads_what_is_secret(rt: HostRuntime) -> Result<(), Fail> {
     let ann = TokenId::read(b"1:ann")?;
     let mut readable = table(&rt)?;
-    readable.put(ann, PropClass::Secret, Tag::read(b"trap")?, &Text::copy(rt.alloc(), "pit")?)?;
+    readable.put(
+        ann,
+        PropClass::Secret,
+        Tag::read(b"trap")?,
+        &Text::copy(rt.alloc(), "pit")?,
+    )?;
     let mut stream = SeatStream::new([0; 32], 0);
     let text = "[r: secret(\"1:ann\", \"trap\")]";
     let Ok(outcome) = ran(rt.alloc(), text, &readable, 0, To::SelfOnly, &mut stream) else {
@@ -125,20 +162,44 @@ fn values(rt: HostRuntime) -> Result<(), Fail> {
             "[r: prop(\"1:ann\", \"hp\")] [r: own(\"1:ann\", \"mp\")] [r: has(\"1:ann\", \"xp\")] [r: setprop(\"1:ann\", \"hp\", num(\"9\"))] [r: setown(\"1:ann\", \"mp\", 4)] [r: arg(0)] [r: argc()] [r: min(2, 3) + max(2, 3) + abs(-4)] [r: len(\"abc\")]",
             "10 5 0 9 4 k 1 9 3",
         ),
-        ("[r: has(\"1:ann\", \"hp\")] [r: has(\"no id\", \"hp\")]", "1 0"),
-        ("[r: num(\"-0\")] [r: num(\"007\")] [r: num(\"-12\")] [r: num(5)]", "0 7 -12 5"),
+        (
+            "[r: has(\"1:ann\", \"hp\")] [r: has(\"no id\", \"hp\")]",
+            "1 0",
+        ),
+        (
+            "[r: num(\"-0\")] [r: num(\"007\")] [r: num(\"-12\")] [r: num(5)]",
+            "0 7 -12 5",
+        ),
         ("[r: 1 + 2 * 3 - 4 / 2]", "5"),
-        ("[r: 0 - 7 / 2] [r: (0 - 7) / 2] [r: (0 - 7) % 3] [r: 7 % -3]", "-3 -3 -1 1"),
-        ("[r: (-999999999999999999 * 9 - 223372036854775817) % -1]", "0"),
+        (
+            "[r: 0 - 7 / 2] [r: (0 - 7) / 2] [r: (0 - 7) % 3] [r: 7 % -3]",
+            "-3 -3 -1 1",
+        ),
+        (
+            "[r: (-999999999999999999 * 9 - 223372036854775817) % -1]",
+            "0",
+        ),
         ("[r: \"a\" + 1 + 2] [r: 1 + 2 + \"a\"]", "a12 3a"),
-        ("[r: 1 == \"1\"] [r: 1 != \"1\"] [r: 2 == 2] [r: \"a\" == \"a\"]", "0 1 1 1"),
-        ("[r: \"a\" < \"b\"] [r: 2 >= 3] [r: 2 <= 2] [r: \"b\" > \"ba\"]", "1 0 1 0"),
-        ("[r: 0 && 1 / 0] [r: 5 || 1 / 0] [r: 0 || 7] [r: 3 && 0] [r: !0] [r: -(2)]", "0 1 1 0 1 -2"),
+        (
+            "[r: 1 == \"1\"] [r: 1 != \"1\"] [r: 2 == 2] [r: \"a\" == \"a\"]",
+            "0 1 1 1",
+        ),
+        (
+            "[r: \"a\" < \"b\"] [r: 2 >= 3] [r: 2 <= 2] [r: \"b\" > \"ba\"]",
+            "1 0 1 0",
+        ),
+        (
+            "[r: 0 && 1 / 0] [r: 5 || 1 / 0] [r: 0 || 7] [r: 3 && 0] [r: !0] [r: -(2)]",
+            "0 1 1 0 1 -2",
+        ),
         ("[r: x = 3] [r: x = x + 1] [r: x]", "3 4 4"),
         ("[if(0): 1; 2][if(\"0\"): 3; 4][if(0): 5][if(1): 6]", "236"),
         ("[count(3): count * 2] [r: count]", "0, 2, 4 2"),
         ("[count(0): 1]\\[x\\]\\\\", "[x]\\"),
-        ("[w(1): 1][w(2): 2][g: 3][gs: 4][h: 5][s: 6][r: 7][s,if(1): 8][if(1),g: 9]", "14678"),
+        (
+            "[w(1): 1][w(2): 2][g: 3][gs: 4][h: 5][s: 6][r: 7][s,if(1): 8][if(1),g: 9]",
+            "14678",
+        ),
         ("[r: 2d6e] [r: 4d6k3]", "9 12"),
     ];
     for (text, wanted) in rows {
@@ -169,7 +230,11 @@ fn faults_stand_at_their_places(rt: HostRuntime) -> Result<(), Fail> {
             FaultKind::LongValue,
             48,
         ),
-        ("[h: a = \"0123456789\"][h,count(9): a = a + a]", FaultKind::LongText, 40),
+        (
+            "[h: a = \"0123456789\"][h,count(9): a = a + a]",
+            FaultKind::LongText,
+            40,
+        ),
         (
             "[h: a = \"0123456789\"][h,count(8): a = a + a][r: a][r: a][r: a][r: a][r: a]",
             FaultKind::LongOutput,
@@ -202,9 +267,15 @@ fn faults_stand_at_their_places(rt: HostRuntime) -> Result<(), Fail> {
     ];
     for (text, kind, at) in rows {
         let found = to_self(rt.alloc(), text, &readable);
-        assert!(rt; matches!(found, Err(MacroStop::Fault { kind: k, at: a }) if k == kind && a == at), "{text}");
+        assert!(rt;
+            matches!(found, Err(MacroStop::Fault { kind: k, at: a }) if k == kind && a == at),
+            "{text}"
+        );
     }
-    for text in ["[r: 999999999999999999 * 99]", "[r: abs(-999999999999999999 * 9 - 223372036854775817)]"] {
+    for text in [
+        "[r: 999999999999999999 * 99]",
+        "[r: abs(-999999999999999999 * 9 - 223372036854775817)]",
+    ] {
         let over = to_self(rt.alloc(), text, &readable);
         assert!(rt; matches!(over, Err(MacroStop::Overflow)), "{text}");
     }

@@ -81,14 +81,12 @@ shown_options nodes o (BranchFirst y x) h =
 shown_piece : (nodes : List Node) (p : FlatPiece) (t : Piece) → ShowsPiece nodes p t → (piece_at nodes p ≡ t) × PieceStands nodes p
 shown_piece nodes p (Plain at m) h = (ap (piece_at nodes) h, subst (PieceStands nodes) (sym h) tt)
 shown_piece nodes p (Roll at o x None) h =
-    let a = shown_options nodes h.0 o h.3 in
-    (
+    let a = shown_options nodes h.0 o h.3 in (
       ap (piece_at nodes) h.2 ∙ (λ i. Roll at (a.0 i) (tree_is nodes h.1 x h.4 i) None),
       subst (PieceStands nodes) (sym h.2) (a.1, stands nodes h.1 x h.4, tt),
     )
 shown_piece nodes p (Roll at o x (Some y)) h =
-    let a = shown_options nodes h.0 o h.4 in
-    (
+    let a = shown_options nodes h.0 o h.4 in (
       ap (piece_at nodes) h.3 ∙ (λ i. Roll at (a.0 i) (tree_is nodes h.1 x h.5 i) (Some (tree_is nodes h.2 y h.6 i))),
       subst (PieceStands nodes) (sym h.3) (a.1, stands nodes h.1 x h.5, stands nodes h.2 y h.6),
     )
