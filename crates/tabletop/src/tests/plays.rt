@@ -49,9 +49,9 @@ pub(super) const PLAYS: [Run<'static>; 19] = [
     Run {
         name: "a wrong key, a hello while Joined, and a line without hello",
         campaign: THREE_SEATS,
-        script: r#"1 {"do":"hello","key":"x","seat":1}
-1 {"do":"hello","key":"a","seat":1}
-1 {"do":"hello","key":"a","seat":1}
+        script: r#"1 {"do":"hello","seat":1,"key":"x"}
+1 {"do":"hello","seat":1,"key":"a"}
+1 {"do":"hello","seat":1,"key":"a"}
 2 {"do":"look"}
 "#,
         output: r#"1 {"n":0,"no":24,"refused":"BadKey"}
@@ -65,7 +65,7 @@ pub(super) const PLAYS: [Run<'static>; 19] = [
     Run {
         name: "a look",
         campaign: THREE_SEATS,
-        script: r#"1 {"do":"hello","key":"a","seat":1}
+        script: r#"1 {"do":"hello","seat":1,"key":"a"}
 1 {"do":"look"}
 "#,
         output: r#"1 {"n":1,"ok":"hello","seat":1,"seats":3}
@@ -78,8 +78,8 @@ pub(super) const PLAYS: [Run<'static>; 19] = [
     Run {
         name: "a message to one seat",
         campaign: THREE_SEATS,
-        script: r#"1 {"do":"hello","key":"a","seat":1}
-2 {"do":"hello","key":"b","seat":2}
+        script: r#"1 {"do":"hello","seat":1,"key":"a"}
+2 {"do":"hello","seat":2,"key":"b"}
 1 {"do":"say","text":"hi","to":2}
 "#,
         output: r#"1 {"n":1,"ok":"hello","seat":1,"seats":3}
@@ -94,8 +94,8 @@ pub(super) const PLAYS: [Run<'static>; 19] = [
     Run {
         name: "a move past a wall's end",
         campaign: CAVE,
-        script: r#"1 {"do":"hello","key":"a","seat":1}
-1 {"do":"move","path":[[0,1],[0,2]],"token":"1:ann"}
+        script: r#"1 {"do":"hello","seat":1,"key":"a"}
+1 {"do":"move","token":"1:ann","path":[[0,1],[0,2]]}
 "#,
         output: r#"1 {"n":1,"ok":"hello","seat":1,"seats":2}
 1 {"full":{"lights":{},"maps":[{"ground":[[0,0,"."],[1,0,"."],[2,0,"."]],"h":3,"mode":"day","name":"cave","seen":[[0,0,0],[1,0,0],[2,0,0]],"w":3}],"sights":{"human":[10,0,2]},"tokens":[{"cell":[0,0],"id":"1:ann","layer":"token","light":null,"map":"cave","name":"Ann","own":[],"props":[],"sight":"human","size":1}]}}
@@ -107,10 +107,10 @@ pub(super) const PLAYS: [Run<'static>; 19] = [
     Run {
         name: "a path that a wall cuts short, a cell off the map, and a step that is no king's step",
         campaign: HALL,
-        script: r#"1 {"do":"hello","key":"a","seat":1}
-1 {"do":"move","path":[[1,0],[2,0],[3,0],[4,0]],"token":"1:ann"}
-1 {"do":"move","path":[[3,0],[2,0],[6,0]],"token":"1:ann"}
-1 {"do":"move","path":[[4,0]],"token":"1:ann"}
+        script: r#"1 {"do":"hello","seat":1,"key":"a"}
+1 {"do":"move","token":"1:ann","path":[[1,0],[2,0],[3,0],[4,0]]}
+1 {"do":"move","token":"1:ann","path":[[3,0],[2,0],[6,0]]}
+1 {"do":"move","token":"1:ann","path":[[4,0]]}
 "#,
         output: r#"1 {"n":1,"ok":"hello","seat":1,"seats":2}
 1 {"full":{"lights":{},"maps":[{"ground":[[0,0,"......"]],"h":1,"mode":"day","name":"hall","seen":[[0,0,5]],"w":6}],"sights":{"human":[10,0,2]},"tokens":[{"cell":[0,0],"id":"1:ann","layer":"token","light":null,"map":"hall","name":"Ann","own":[],"props":[],"sight":"human","size":1}]}}
@@ -124,9 +124,9 @@ pub(super) const PLAYS: [Run<'static>; 19] = [
     Run {
         name: "a token that isn't shown is refused like one that isn't there",
         campaign: CAVE_WITH_ORC,
-        script: r#"1 {"do":"hello","key":"a","seat":1}
-1 {"do":"move","path":[[0,2]],"token":"0:orc"}
-1 {"do":"move","path":[[0,2]],"token":"0:none"}
+        script: r#"1 {"do":"hello","seat":1,"key":"a"}
+1 {"do":"move","token":"0:orc","path":[[0,2]]}
+1 {"do":"move","token":"0:none","path":[[0,2]]}
 "#,
         output: r#"1 {"n":1,"ok":"hello","seat":1,"seats":2}
 1 {"full":{"lights":{},"maps":[{"ground":[[0,0,"."],[1,0,"."],[2,0,"."]],"h":3,"mode":"day","name":"cave","seen":[[0,0,0],[1,0,0],[2,0,0]],"w":3}],"sights":{"human":[10,0,2]},"tokens":[{"cell":[0,1],"id":"0:orc","layer":"token","map":"cave","name":"Orc","props":[],"size":1},{"cell":[0,0],"id":"1:ann","layer":"token","light":null,"map":"cave","name":"Ann","own":[],"props":[],"sight":"human","size":1}]}}
@@ -138,10 +138,10 @@ pub(super) const PLAYS: [Run<'static>; 19] = [
     Run {
         name: "a wall that is cut and put back",
         campaign: CAVE,
-        script: r#"0 {"do":"hello","key":"g","seat":0}
-1 {"do":"hello","key":"a","seat":1}
-0 {"do":"unwall","a":[2,0],"b":[2,4],"kind":"vbl","map":"cave"}
-0 {"do":"wall","a":[2,0],"b":[2,4],"kind":"vbl","map":"cave"}
+        script: r#"0 {"do":"hello","seat":0,"key":"g"}
+1 {"do":"hello","seat":1,"key":"a"}
+0 {"do":"unwall","map":"cave","kind":"vbl","a":[2,0],"b":[2,4]}
+0 {"do":"wall","map":"cave","kind":"vbl","a":[2,0],"b":[2,4]}
 "#,
         output: r#"0 {"n":1,"ok":"hello","seat":0,"seats":2}
 0 {"full":{"lights":{},"maps":[{"ground":[[0,0,"..."],[1,0,"..."],[2,0,"..."]],"h":3,"mode":"day","name":"cave","seen":[[0,0,2],[1,0,2],[2,0,2]],"shown":true,"w":3}],"sights":{"human":[10,0,2]},"tokens":[{"cell":[0,0],"id":"1:ann","layer":"token","light":null,"map":"cave","name":"Ann","own":[],"owners":[1],"props":[],"secret":[],"sight":"human","size":1,"visible":true}]}}
@@ -157,10 +157,10 @@ pub(super) const PLAYS: [Run<'static>; 19] = [
     Run {
         name: "a secret property that only the game master is shown, and a public one of its name",
         campaign: CAVE,
-        script: r#"0 {"do":"hello","key":"g","seat":0}
-1 {"do":"hello","key":"a","seat":1}
-0 {"do":"secret","name":"trap","token":"1:ann","value":"pit"}
-1 {"do":"setprop","class":"public","name":"trap","token":"1:ann","value":"x"}
+        script: r#"0 {"do":"hello","seat":0,"key":"g"}
+1 {"do":"hello","seat":1,"key":"a"}
+0 {"do":"secret","token":"1:ann","name":"trap","value":"pit"}
+1 {"do":"setprop","token":"1:ann","class":"public","name":"trap","value":"x"}
 "#,
         output: r#"0 {"n":1,"ok":"hello","seat":0,"seats":2}
 0 {"full":{"lights":{},"maps":[{"ground":[[0,0,"..."],[1,0,"..."],[2,0,"..."]],"h":3,"mode":"day","name":"cave","seen":[[0,0,2],[1,0,2],[2,0,2]],"shown":true,"w":3}],"sights":{"human":[10,0,2]},"tokens":[{"cell":[0,0],"id":"1:ann","layer":"token","light":null,"map":"cave","name":"Ann","own":[],"owners":[1],"props":[],"secret":[],"sight":"human","size":1,"visible":true}]}}
@@ -177,8 +177,8 @@ pub(super) const PLAYS: [Run<'static>; 19] = [
     Run {
         name: "night falls on a token without a light",
         campaign: CAVE,
-        script: r#"0 {"do":"hello","key":"g","seat":0}
-1 {"do":"hello","key":"a","seat":1}
+        script: r#"0 {"do":"hello","seat":0,"key":"g"}
+1 {"do":"hello","seat":1,"key":"a"}
 0 {"do":"mode","map":"cave","mode":"night"}
 "#,
         output: r#"0 {"n":1,"ok":"hello","seat":0,"seats":2}
@@ -194,11 +194,11 @@ pub(super) const PLAYS: [Run<'static>; 19] = [
     Run {
         name: "cells that are exposed and hidden, and new terrain",
         campaign: CAVE,
-        script: r#"0 {"do":"hello","key":"g","seat":0}
-1 {"do":"hello","key":"a","seat":1}
-0 {"do":"expose","map":"cave","rect":[1,0,2,3],"seat":1}
-0 {"do":"hide","map":"cave","rect":[1,0,2,3],"seat":1}
-0 {"do":"terrain","kind":"w","map":"cave","rect":[0,0,1,1]}
+        script: r#"0 {"do":"hello","seat":0,"key":"g"}
+1 {"do":"hello","seat":1,"key":"a"}
+0 {"do":"expose","seat":1,"map":"cave","rect":[1,0,2,3]}
+0 {"do":"hide","seat":1,"map":"cave","rect":[1,0,2,3]}
+0 {"do":"terrain","map":"cave","rect":[0,0,1,1],"kind":"w"}
 "#,
         output: r#"0 {"n":1,"ok":"hello","seat":0,"seats":2}
 0 {"full":{"lights":{},"maps":[{"ground":[[0,0,"..."],[1,0,"..."],[2,0,"..."]],"h":3,"mode":"day","name":"cave","seen":[[0,0,2],[1,0,2],[2,0,2]],"shown":true,"w":3}],"sights":{"human":[10,0,2]},"tokens":[{"cell":[0,0],"id":"1:ann","layer":"token","light":null,"map":"cave","name":"Ann","own":[],"owners":[1],"props":[],"secret":[],"sight":"human","size":1,"visible":true}]}}
@@ -217,9 +217,9 @@ pub(super) const PLAYS: [Run<'static>; 19] = [
     Run {
         name: "cells in sight stay exposed when they are hidden",
         campaign: CAVE,
-        script: r#"0 {"do":"hello","key":"g","seat":0}
-1 {"do":"hello","key":"a","seat":1}
-0 {"do":"hide","map":"cave","rect":[0,0,1,3],"seat":1}
+        script: r#"0 {"do":"hello","seat":0,"key":"g"}
+1 {"do":"hello","seat":1,"key":"a"}
+0 {"do":"hide","seat":1,"map":"cave","rect":[0,0,1,3]}
 "#,
         output: r#"0 {"n":1,"ok":"hello","seat":0,"seats":2}
 0 {"full":{"lights":{},"maps":[{"ground":[[0,0,"..."],[1,0,"..."],[2,0,"..."]],"h":3,"mode":"day","name":"cave","seen":[[0,0,2],[1,0,2],[2,0,2]],"shown":true,"w":3}],"sights":{"human":[10,0,2]},"tokens":[{"cell":[0,0],"id":"1:ann","layer":"token","light":null,"map":"cave","name":"Ann","own":[],"owners":[1],"props":[],"secret":[],"sight":"human","size":1,"visible":true}]}}
@@ -232,26 +232,26 @@ pub(super) const PLAYS: [Run<'static>; 19] = [
     Run {
         name: "a tag for each of the player's tokens, and none that was used",
         campaign: CAVE,
-        script: r#"1 {"do":"hello","key":"a","seat":1}
-1 {"do":"make","cell":[0,1],"map":"cave","name":"T","tag":"t0"}
-1 {"do":"make","cell":[0,1],"map":"cave","name":"T","tag":"t1"}
-1 {"do":"make","cell":[0,1],"map":"cave","name":"T","tag":"t2"}
-1 {"do":"make","cell":[0,1],"map":"cave","name":"T","tag":"t3"}
-1 {"do":"make","cell":[0,1],"map":"cave","name":"T","tag":"t4"}
-1 {"do":"make","cell":[0,1],"map":"cave","name":"T","tag":"t5"}
-1 {"do":"make","cell":[0,1],"map":"cave","name":"T","tag":"t6"}
-1 {"do":"make","cell":[0,1],"map":"cave","name":"T","tag":"t7"}
-1 {"do":"make","cell":[0,1],"map":"cave","name":"T","tag":"t8"}
-1 {"do":"make","cell":[0,1],"map":"cave","name":"T","tag":"t9"}
-1 {"do":"make","cell":[0,1],"map":"cave","name":"T","tag":"t10"}
-1 {"do":"make","cell":[0,1],"map":"cave","name":"T","tag":"t11"}
-1 {"do":"make","cell":[0,1],"map":"cave","name":"T","tag":"t12"}
-1 {"do":"make","cell":[0,1],"map":"cave","name":"T","tag":"t13"}
-1 {"do":"make","cell":[0,1],"map":"cave","name":"T","tag":"t14"}
-1 {"do":"make","cell":[0,1],"map":"cave","name":"T","tag":"t15"}
-1 {"do":"make","cell":[0,1],"map":"cave","name":"T","tag":"ann"}
+        script: r#"1 {"do":"hello","seat":1,"key":"a"}
+1 {"do":"make","tag":"t0","map":"cave","cell":[0,1],"name":"T"}
+1 {"do":"make","tag":"t1","map":"cave","cell":[0,1],"name":"T"}
+1 {"do":"make","tag":"t2","map":"cave","cell":[0,1],"name":"T"}
+1 {"do":"make","tag":"t3","map":"cave","cell":[0,1],"name":"T"}
+1 {"do":"make","tag":"t4","map":"cave","cell":[0,1],"name":"T"}
+1 {"do":"make","tag":"t5","map":"cave","cell":[0,1],"name":"T"}
+1 {"do":"make","tag":"t6","map":"cave","cell":[0,1],"name":"T"}
+1 {"do":"make","tag":"t7","map":"cave","cell":[0,1],"name":"T"}
+1 {"do":"make","tag":"t8","map":"cave","cell":[0,1],"name":"T"}
+1 {"do":"make","tag":"t9","map":"cave","cell":[0,1],"name":"T"}
+1 {"do":"make","tag":"t10","map":"cave","cell":[0,1],"name":"T"}
+1 {"do":"make","tag":"t11","map":"cave","cell":[0,1],"name":"T"}
+1 {"do":"make","tag":"t12","map":"cave","cell":[0,1],"name":"T"}
+1 {"do":"make","tag":"t13","map":"cave","cell":[0,1],"name":"T"}
+1 {"do":"make","tag":"t14","map":"cave","cell":[0,1],"name":"T"}
+1 {"do":"make","tag":"t15","map":"cave","cell":[0,1],"name":"T"}
+1 {"do":"make","tag":"ann","map":"cave","cell":[0,1],"name":"T"}
 1 {"do":"remove","token":"1:ann"}
-1 {"do":"make","cell":[0,1],"map":"cave","name":"T","tag":"ann"}
+1 {"do":"make","tag":"ann","map":"cave","cell":[0,1],"name":"T"}
 "#,
         output: r#"1 {"n":1,"ok":"hello","seat":1,"seats":2}
 1 {"full":{"lights":{},"maps":[{"ground":[[0,0,"."],[1,0,"."],[2,0,"."]],"h":3,"mode":"day","name":"cave","seen":[[0,0,0],[1,0,0],[2,0,0]],"w":3}],"sights":{"human":[10,0,2]},"tokens":[{"cell":[0,0],"id":"1:ann","layer":"token","light":null,"map":"cave","name":"Ann","own":[],"props":[],"sight":"human","size":1}]}}
@@ -296,8 +296,8 @@ pub(super) const PLAYS: [Run<'static>; 19] = [
     Run {
         name: "a new token on a cell that isn't exposed",
         campaign: CAVE,
-        script: r#"1 {"do":"hello","key":"a","seat":1}
-1 {"do":"make","cell":[2,0],"map":"cave","name":"T","tag":"new"}
+        script: r#"1 {"do":"hello","seat":1,"key":"a"}
+1 {"do":"make","tag":"new","map":"cave","cell":[2,0],"name":"T"}
 "#,
         output: r#"1 {"n":1,"ok":"hello","seat":1,"seats":2}
 1 {"full":{"lights":{},"maps":[{"ground":[[0,0,"."],[1,0,"."],[2,0,"."]],"h":3,"mode":"day","name":"cave","seen":[[0,0,0],[1,0,0],[2,0,0]],"w":3}],"sights":{"human":[10,0,2]},"tokens":[{"cell":[0,0],"id":"1:ann","layer":"token","light":null,"map":"cave","name":"Ann","own":[],"props":[],"sight":"human","size":1}]}}
@@ -308,8 +308,8 @@ pub(super) const PLAYS: [Run<'static>; 19] = [
     Run {
         name: "dice from each seat's own seed",
         campaign: THREE_SEATS,
-        script: r#"1 {"do":"hello","key":"a","seat":1}
-2 {"do":"hello","key":"b","seat":2}
+        script: r#"1 {"do":"hello","seat":1,"key":"a"}
+2 {"do":"hello","seat":2,"key":"b"}
 1 {"do":"roll","dice":"4d6k3","to":"self"}
 2 {"do":"roll","dice":"4d6k3","to":"self"}
 1 {"do":"roll","dice":"1d20","to":"self"}
@@ -330,7 +330,7 @@ pub(super) const PLAYS: [Run<'static>; 19] = [
     Run {
         name: "dice that no other seat's rolls have changed",
         campaign: THREE_SEATS,
-        script: r#"1 {"do":"hello","key":"a","seat":1}
+        script: r#"1 {"do":"hello","seat":1,"key":"a"}
 1 {"do":"roll","dice":"4d6k3","to":"self"}
 1 {"do":"roll","dice":"1d20","to":"self"}
 "#,
@@ -346,9 +346,9 @@ pub(super) const PLAYS: [Run<'static>; 19] = [
     Run {
         name: "a line that is no JSON, and a cell of a half",
         campaign: CAVE,
-        script: r#"1 {"do":"hello","key":"a","seat":1}
+        script: r#"1 {"do":"hello","seat":1,"key":"a"}
 1 {"do":
-1 {"do":"move","path":[[1.5,0]],"token":"1:ann"}
+1 {"do":"move","token":"1:ann","path":[[1.5,0]]}
 "#,
         output: r#"1 {"n":1,"ok":"hello","seat":1,"seats":2}
 1 {"full":{"lights":{},"maps":[{"ground":[[0,0,"."],[1,0,"."],[2,0,"."]],"h":3,"mode":"day","name":"cave","seen":[[0,0,0],[1,0,0],[2,0,0]],"w":3}],"sights":{"human":[10,0,2]},"tokens":[{"cell":[0,0],"id":"1:ann","layer":"token","light":null,"map":"cave","name":"Ann","own":[],"props":[],"sight":"human","size":1}]}}
@@ -363,7 +363,7 @@ pub(super) const PLAYS: [Run<'static>; 19] = [
 pub(super) const ROLL_ALONE: Run<'static> = Run {
     name: "a roll alone",
     campaign: CAVE,
-    script: r#"1 {"do":"hello","key":"a","seat":1}
+    script: r#"1 {"do":"hello","seat":1,"key":"a"}
 1 {"do":"roll","dice":"1d20","to":"self"}
 "#,
     output: r#"1 {"n":1,"ok":"hello","seat":1,"seats":2}
@@ -378,19 +378,19 @@ pub(super) const ROLL_ALONE: Run<'static> = Run {
 pub(super) const ROLL_AMONG_OTHERS: Run<'static> = Run {
     name: "a roll after what the game master did unseen",
     campaign: CAVE,
-    script: r#"0 {"do":"hello","key":"g","seat":0}
-1 {"do":"hello","key":"a","seat":1}
-0 {"do":"token","cell":[2,2],"layer":"hidden","map":"cave","name":"Orc","tag":"orc"}
-0 {"do":"place","cell":[2,0],"map":"cave","token":"0:orc"}
-0 {"do":"place","cell":[2,1],"map":"cave","token":"0:orc"}
-0 {"do":"place","cell":[2,2],"map":"cave","token":"0:orc"}
-0 {"do":"place","cell":[2,0],"map":"cave","token":"0:orc"}
-0 {"do":"place","cell":[2,1],"map":"cave","token":"0:orc"}
-0 {"do":"place","cell":[2,2],"map":"cave","token":"0:orc"}
-0 {"do":"place","cell":[2,0],"map":"cave","token":"0:orc"}
-0 {"do":"place","cell":[2,1],"map":"cave","token":"0:orc"}
-0 {"do":"place","cell":[2,2],"map":"cave","token":"0:orc"}
-0 {"do":"place","cell":[2,0],"map":"cave","token":"0:orc"}
+    script: r#"0 {"do":"hello","seat":0,"key":"g"}
+1 {"do":"hello","seat":1,"key":"a"}
+0 {"do":"token","tag":"orc","map":"cave","cell":[2,2],"name":"Orc","layer":"hidden"}
+0 {"do":"place","token":"0:orc","map":"cave","cell":[2,0]}
+0 {"do":"place","token":"0:orc","map":"cave","cell":[2,1]}
+0 {"do":"place","token":"0:orc","map":"cave","cell":[2,2]}
+0 {"do":"place","token":"0:orc","map":"cave","cell":[2,0]}
+0 {"do":"place","token":"0:orc","map":"cave","cell":[2,1]}
+0 {"do":"place","token":"0:orc","map":"cave","cell":[2,2]}
+0 {"do":"place","token":"0:orc","map":"cave","cell":[2,0]}
+0 {"do":"place","token":"0:orc","map":"cave","cell":[2,1]}
+0 {"do":"place","token":"0:orc","map":"cave","cell":[2,2]}
+0 {"do":"place","token":"0:orc","map":"cave","cell":[2,0]}
 0 {"do":"roll","dice":"9d6","to":"gm"}
 1 {"do":"roll","dice":"1d20","to":"self"}
 "#,

@@ -175,8 +175,8 @@ const HELLOS: &str = r#"0 {"do":"hello","seat":0,"key":"g"}
 
 // So many pieces, numbered from 0 on, with commas between them.
 fn add_numbered(
-    text: &mut String,
     alloc: Global,
+    text: &mut String,
     count: u32,
     front: &str,
     back: &str,
@@ -189,7 +189,7 @@ fn add_numbered(
 }
 
 // 2,048 different walls on a map of 5 by 5 cells: from the points of its upper half to those of its lower half.
-fn add_walls(text: &mut String, alloc: Global) -> Result<(), Fail> {
+fn add_walls(alloc: Global, text: &mut String) -> Result<(), Fail> {
     for number in 0..2048_u32 {
         let comma = if number == 0 { "" } else { "," };
         let (ax, ay) = (number % 11, number / 11 % 5);
@@ -199,16 +199,16 @@ fn add_walls(text: &mut String, alloc: Global) -> Result<(), Fail> {
     Ok(())
 }
 
-fn add_maps(text: &mut String, alloc: Global) -> Result<(), Fail> {
+fn add_maps(alloc: Global, text: &mut String) -> Result<(), Fail> {
     add_numbered(
-        text,
         alloc,
+        text,
         7,
         r#"{"h":1,"mbl":[],"mode":"day","name":"m"#,
         r#"","rows":["."],"shown":true,"vbl":[],"w":1}"#,
     )?;
     text.push_str(r#",{"h":5,"mbl":["#)?;
-    add_walls(text, alloc)?;
+    add_walls(alloc, text)?;
     text.push_str(
         r#"],"mode":"day","name":"maze","rows":[".....",".....",".....",".....","....."],"shown":true,"vbl":[],"w":5}"#,
     )?;
@@ -217,8 +217,8 @@ fn add_maps(text: &mut String, alloc: Global) -> Result<(), Fail> {
 
 // A seat whose tags are so many numbers behind the letter.
 fn add_seat(
-    text: &mut String,
     alloc: Global,
+    text: &mut String,
     key: &str,
     count: u32,
     letter: &str,
@@ -228,39 +228,39 @@ fn add_seat(
     text.push_str(
         r#"","macros":{},"seed":"0000000000000000000000000000000000000000000000000000000000000000","tags":["#,
     )?;
-    add_numbered(text, alloc, count, &format!(in alloc; "\"{letter}")?, "\"")?;
+    add_numbered(alloc, text, count, &format!(in alloc; "\"{letter}")?, "\"")?;
     text.push_str("]}")?;
     Ok(())
 }
 
-fn add_seats(text: &mut String, alloc: Global) -> Result<(), Fail> {
-    add_seat(text, alloc, "g", 2048, "g")?;
+fn add_seats(alloc: Global, text: &mut String) -> Result<(), Fail> {
+    add_seat(alloc, text, "g", 2048, "g")?;
     text.push_str(",")?;
-    add_seat(text, alloc, "a", 16, "t")?;
+    add_seat(alloc, text, "a", 16, "t")?;
     text.push_str(",")?;
-    add_seat(text, alloc, "b", 0, "t")?;
+    add_seat(alloc, text, "b", 0, "t")?;
     text.push_str(",")?;
-    add_seat(text, alloc, "c", 0, "t")
+    add_seat(alloc, text, "c", 0, "t")
 }
 
-fn add_props(text: &mut String, alloc: Global, class: &str) -> Result<(), Fail> {
+fn add_props(alloc: Global, text: &mut String, class: &str) -> Result<(), Fail> {
     text.push_str(class)?;
-    add_numbered(text, alloc, 64, r#"["p"#, r#"",""]"#)?;
+    add_numbered(alloc, text, 64, r#"["p"#, r#"",""]"#)?;
     text.push_str("]")?;
     Ok(())
 }
 
 // Two tokens of the first player's, one made by the game master and one by the player.
-fn add_tokens(text: &mut String, alloc: Global) -> Result<(), Fail> {
+fn add_tokens(alloc: Global, text: &mut String) -> Result<(), Fail> {
     text.push_str(
         r#"{"cell":[0,0],"id":"0:g0","layer":"token","light":null,"map":"maze","name":"Ox","own":[],"owners":[1],"props":[],"secret":[],"sight":null,"size":1,"visible":true},"#,
     )?;
     text.push_str(
         r#"{"cell":[0,0],"id":"1:t0","layer":"token","light":null,"map":"maze","name":"Ann","owners":[1],"sight":null,"size":1,"visible":true"#,
     )?;
-    add_props(text, alloc, r#","own":["#)?;
-    add_props(text, alloc, r#","props":["#)?;
-    add_props(text, alloc, r#","secret":["#)?;
+    add_props(alloc, text, r#","own":["#)?;
+    add_props(alloc, text, r#","props":["#)?;
+    add_props(alloc, text, r#","secret":["#)?;
     text.push_str("}")?;
     Ok(())
 }
@@ -268,15 +268,15 @@ fn add_tokens(text: &mut String, alloc: Global) -> Result<(), Fail> {
 fn full_campaign(alloc: Global) -> Result<String, Fail> {
     let mut text = String::new(alloc);
     text.push_str(r#"{"format":1,"lights":{"#)?;
-    add_numbered(&mut text, alloc, 32, r#""l"#, r#"":1"#)?;
+    add_numbered(alloc, &mut text, 32, r#""l"#, r#"":1"#)?;
     text.push_str(r#"},"maps":["#)?;
-    add_maps(&mut text, alloc)?;
+    add_maps(alloc, &mut text)?;
     text.push_str(r#"],"seats":["#)?;
-    add_seats(&mut text, alloc)?;
+    add_seats(alloc, &mut text)?;
     text.push_str(r#"],"sights":{"#)?;
-    add_numbered(&mut text, alloc, 32, r#""s"#, r#"":[1,0,1]"#)?;
+    add_numbered(alloc, &mut text, 32, r#""s"#, r#"":[1,0,1]"#)?;
     text.push_str(r#"},"tokens":["#)?;
-    add_tokens(&mut text, alloc)?;
+    add_tokens(alloc, &mut text)?;
     text.push_str("]}")?;
     Ok(text)
 }

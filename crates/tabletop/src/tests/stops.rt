@@ -55,7 +55,7 @@ tabletop: bad script line 2
     Run {
         name: "a script whose first read fails",
         campaign: THREE_SEATS,
-        script: r#"1 {"do":"hello","key":"a","seat":1}
+        script: r#"1 {"do":"hello","seat":1,"key":"a"}
 1 {"do":"look"}
 "#,
         script_fails: &[0],
@@ -66,7 +66,7 @@ tabletop: bad script line 2
     Run {
         name: "an output whose third write fails",
         campaign: THREE_SEATS,
-        script: r#"1 {"do":"hello","key":"a","seat":1}
+        script: r#"1 {"do":"hello","seat":1,"key":"a"}
 1 {"do":"look"}
 "#,
         out_fails: &[2],
@@ -79,7 +79,7 @@ tabletop: bad script line 2
     Run {
         name: "an output whose first write fails",
         campaign: THREE_SEATS,
-        script: r#"1 {"do":"hello","key":"a","seat":1}
+        script: r#"1 {"do":"hello","seat":1,"key":"a"}
 1 {"do":"look"}
 "#,
         out_fails: &[0],
