@@ -4,7 +4,6 @@
 use super::campaigns::THREE_SEATS;
 use super::{PLAIN, Run, WORDS, played, with_tabs};
 use std::alloc::Global;
-use std::process::Abort;
 use std::test::Fail;
 
 // The script's line, and the one line that it sends.
@@ -281,31 +280,38 @@ fn full_campaign(alloc: Global) -> Result<String, Fail> {
     Ok(text)
 }
 
-// What was printed of the script in the full campaign, which is played to its end.
-fn played_in_full(rt: &impl Abort, alloc: Global, script: &str) -> Result<String, Fail> {
+// The status of the script in the full campaign, and what was printed.
+fn played_in_full(alloc: Global, script: &str) -> Result<(u8, String), Fail> {
     let campaign = full_campaign(alloc)?;
+    let script = String::from_str(alloc, script)?;
     let run = Run {
         campaign: campaign.as_str(),
-        script,
+        script: script.as_str(),
         ..PLAIN
     };
-    let (status, output) = played(alloc, &WORDS, &run)?;
-    assert_eq!(rt; status, 0);
-    Ok(output)
+    played(alloc, &WORDS, &run)
 }
 
 #[test]
 fn each_refusal_is_given(rt: HostRuntime) -> Result<(), Fail> {
     let alloc = rt.alloc();
     let mut script = String::from_str(alloc, HELLOS)?;
-    let mut wanted = played_in_full(&rt, alloc, HELLOS)?;
+    let (status, mut wanted) = played_in_full(alloc, HELLOS)?;
+    assert_eq!(rt; status, 0);
     for (line, refusal) in &REFUSED {
         script.push_str(line)?;
-        script.push_str("\n")?;
+        script.push_str(
+            "
+",
+        )?;
         wanted.push_str(&with_tabs(alloc, refusal)?)?;
-        wanted.push_str("\n")?;
+        wanted.push_str(
+            "
+",
+        )?;
     }
-    let output = played_in_full(&rt, alloc, &script)?;
+    let (status, output) = played_in_full(alloc, &script)?;
+    assert_eq!(rt; status, 0);
     assert_eq!(rt; output.as_str(), wanted.as_str());
     Ok(())
 }
