@@ -2,7 +2,7 @@
 //! properties of each class at one token, and as many used tags as the game master and a player may use.
 
 use super::campaigns::THREE_SEATS;
-use super::{PLAIN, Run, WORDS, played, with_tabs};
+use super::{WORDS, plain_run, played, with_tabs};
 use std::alloc::Global;
 use std::test::Fail;
 
@@ -283,13 +283,7 @@ fn full_campaign(alloc: Global) -> Result<String, Fail> {
 // The status of the script in the full campaign, and what was printed.
 fn played_in_full(alloc: Global, script: &str) -> Result<(u8, String), Fail> {
     let campaign = full_campaign(alloc)?;
-    let script = String::from_str(alloc, script)?;
-    let run = Run {
-        campaign: campaign.as_str(),
-        script: script.as_str(),
-        ..PLAIN
-    };
-    played(alloc, &WORDS, &run)
+    played(alloc, &WORDS, &plain_run(&campaign, script))
 }
 
 #[test]
@@ -333,12 +327,7 @@ fn spending(alloc: Global) -> Result<String, Fail> {
 fn a_seat_has_so_many_lines_in_a_run(rt: HostRuntime) -> Result<(), Fail> {
     let alloc = rt.alloc();
     let script = spending(alloc)?;
-    let run = Run {
-        campaign: THREE_SEATS,
-        script: script.as_str(),
-        ..PLAIN
-    };
-    let (status, output) = played(alloc, &WORDS, &run)?;
+    let (status, output) = played(alloc, &WORDS, &plain_run(THREE_SEATS, &script))?;
     assert_eq!(rt; status, 0);
     let end = r#"2 {"n":16383,"no":1,"refused":"BadJson"}
 2 {"n":16384,"no":1,"refused":"BadJson"}
