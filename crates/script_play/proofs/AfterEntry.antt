@@ -1,13 +1,12 @@
 -- What is sent after an entry of a script is what the entry sends.
 use Rattle.std.proofs.Common.{◌≡◌, ℕ, zero, suc, ◌+◌, ◌-◌, ◌<◌, ◌≤◌, Bool, true, false, cond, List, [], ◌∷◌, ◌++◌, length, drop, Some, None, refl, sym, ◌∙◌, ap, subst, arith}
 use Rattle.std.specs.Prelude.{Option, option_map, unwrap_or, option_and_then, IfSome, slice_get, nat_lt, Result, Ok, Err}
-use Rattle.std.specs.Io.KnownBytes.{append_known}
 use Rattle.std.proofs.lemmas.List.{append-nil}
 use Rattle.std.proofs.lemmas.Bool.Decides.{nat_tests}
 use Rattle.campaign_law.specs.declared.entry.Entry.{Entry}
 use Rattle.campaign_law.specs.Seat.{Seat}
 use Rattle.campaign_law.specs.Outcome.{seat_of}
-use Rattle.campaign_law.specs.World.{World, seat_at, seat_after, lines_of, step}
+use Rattle.campaign_law.specs.World.{World, seat_at, seat_after, lines_of, step, replay}
 use Rattle.campaign_law.specs.Session.{queued_of, unless_free, session}
 use Rattle.campaign_law.specs.Law.{Course, IsOpening, world_of, answer_after}
 use Rattle.campaign_law.proofs.Lists.{ap₂}
@@ -16,18 +15,24 @@ use Rattle.campaign_law.proofs.Seats.{IsSound}
 use Rattle.script_play.specs.Script.{entry_of, joining_key, NothingWaits}
 use Rattle.script_play.specs.Tagged.{tagged_lines, entry_text_below, entry_text, tagged}
 use Rattle.script_play.specs.Sending.{untaken, waiting_lines, reply_to, sent_below, WroteFront, Sends}
-use Rattle.script_play.specs.Played.{IsOfLine, IsPrefix, GoesOn, entries_since, HasWritten, WroteAllButLast, played}
+use Rattle.script_play.specs.Played.{IsOfLine, IsPrefix, GoesOn, entries_since, HasAllButLast, HasWritten, played}
 use Rattle.script_play.specs.declared.run.Played.{Played}
 use Rattle.script_play.specs.declared.run.Played.TheVariants.{Done, ReadFault, WriteFault, BadLine, TooLarge, Memory}
 use Rattle.script_play.proofs.EntryLines.{LeavesAt, leaves_at, seat_of_entry_by, waits_queued, lines_sent, text_of_seats, seats_of_replay}
 use Rattle.script_play.proofs.Takens.{AllSound, all_at}
 use Rattle.line_io.specs.Script.{script_parts}
-use Rattle.line_io.proofs.ToldLemmas.{append_known-nil}
-use Rattle.script_play.proofs.Fronts.{wrote_all}
 
 -- the course after one more entry
 abbrev pub with_entry : Course → Entry → Course
 with_entry c e = record c { history = c.history ++ e ∷ [] }
+
+-- what waits and is sent goes by the origin and the history alone
+waiting_same : (c d : Course) (seat : ℕ) → c.origin ≡ d.origin → c.history ≡ d.history → waiting_lines c seat ≡ waiting_lines d seat
+waiting_same c d seat o h = λ i. untaken (seat_at (replay (o i) (h i)) seat) (session (o i) (h i) seat)
+
+sent_same : (c d : Course) (acting : ℕ) (reply : Option (List ℕ)) (seat : ℕ) → c.origin ≡ d.origin → c.history ≡ d.history → sent_below c acting reply seat ≡ sent_below d acting reply seat
+sent_same c d acting reply zero o h = refl
+sent_same c d acting reply (suc seat) o h = ap₂ (λ t ls. t ++ tagged_lines seat (reply_to acting seat reply ++ ls)) (sent_same c d acting reply seat o h) (waiting_same c d seat o h)
 
 -- an entry that a seat of the world sends by a script
 record OfSeat (w : World) (e : Entry) : Type 0 where
@@ -120,31 +125,27 @@ prefix_none front whole h = record { rest = whole; is = ap (λ f. f ++ whole) (s
 
 -- ---- what was written
 
-one_cut : (w : World) (e : Entry) (before after : Option (List ℕ)) → WroteFront before (entry_text w e) after → WroteAllButLast w (e ∷ []) before after
+one_cut : (w : World) (e : Entry) (before after : Option (List ℕ)) (f : WroteFront before (entry_text w e) after) → HasAllButLast w (e ∷ []) f.front
 one_cut w e before after f = record {
-  front = f.front;
-  written = f.written;
   prefix = record { rest = f.rest; is = append-nil (entry_text w e) ∙ f.is };
   all_but_last = record { rest = f.front; is = refl };
 }
 
 one_written : {A : Type 0} (r : Result A Played) (w : World) (e : Entry) (before after : Option (List ℕ)) → Sends r (entry_text w e) before after → HasWritten (played r) w (e ∷ []) before after
-one_written (Ok value) w e before after s = s ∙ ap (append_known before) (sym (append-nil (entry_text w e)))
-one_written (Err WriteFault) w e before after s = one_cut w e before after s.1
-one_written (Err Memory) w e before after s = one_cut w e before after s.1
-one_written (Err Done) w e before after s = absurd s.0
-one_written (Err (BadLine number)) w e before after s = absurd s.0
-one_written (Err TooLarge) w e before after s = absurd s.0
-one_written (Err ReadFault) w e before after s = absurd s.0
+one_written (Ok value) w e before after s = record { text = entry_text w e; written = s; part = sym (append-nil (entry_text w e)) }
+one_written (Err WriteFault) w e before after s = record { text = s.part.front; written = s.part.written; part = one_cut w e before after s.part }
+one_written (Err Memory) w e before after s = record { text = s.part.front; written = s.part.written; part = (one_cut w e before after s.part, s.whole refl) }
+one_written (Err Done) w e before after s = absurd s.cut
+one_written (Err (BadLine number)) w e before after s = absurd s.cut
+one_written (Err TooLarge) w e before after s = absurd s.cut
+one_written (Err ReadFault) w e before after s = absurd s.cut
 
-pub entered_written : {A : Type 0} (r : Result A Played) (old new : Course) (e : Entry) (acting : ℕ) (reply : Option (List ℕ)) (before after : Option (List ℕ)) → new.origin ≡ old.origin → new.history ≡ old.history ++ e ∷ [] → IsOpening old.origin → IsOfLine (world_of old) e → NothingWaits (world_of old) → length new.origin.seats ≤ 33 → acting ≡ seat_of e → reply ≡ (answer_after old e).line → Sends r (sent_below new acting reply (length new.origin.seats)) before after → HasWritten (played r) (world_of old) (entries_since old new) before after
+pub entered_written : {A : Type 0} (r : Result A Played) (old new : Course) (e : Entry) (acting : ℕ) (reply before after : Option (List ℕ)) → new.origin ≡ old.origin → new.history ≡ old.history ++ e ∷ [] → IsOpening old.origin → IsOfLine (world_of old) e → NothingWaits (world_of old) → length new.origin.seats ≤ 33 → acting ≡ seat_of e → reply ≡ (answer_after old e).line → Sends r (sent_below new acting reply (length new.origin.seats)) before after → HasWritten (played r) (world_of old) (entries_since old new) before after
 entered_written r old new e acting reply before after o h opening line quiet few own told s =
-    let same : new ≡ with_entry old e = λ i. record { origin = o i; history = h i } in
     let few' : length old.origin.seats ≤ 33 = subst (λ (w : World). length w.seats ≤ 33) o few in
     let text : sent_below new acting reply (length new.origin.seats) ≡ entry_text (world_of old) e =
-    (λ i. sent_below (same i) (own i) (told i) (length (o i).seats)) ∙ sends_entry old e opening line quiet few' in
+    sent_same new (with_entry old e) acting reply (length new.origin.seats) o h
+    ∙ (λ i. sent_below (with_entry old e) (own i) (told i) (length (o i).seats))
+    ∙ sends_entry old e opening line quiet few' in
     subst (λ es. HasWritten (played r) (world_of old) es before after) (sym (since_is old new (e ∷ []) h))
     (one_written r (world_of old) e before after (subst (λ t. Sends r t before after) text s))
-
-pub wrote_nothing : (w : World) (es : List Entry) (before : Option (List ℕ)) → es ≡ [] → WroteAllButLast w es before before
-wrote_nothing w es before h = wrote_all w es before before (sym (ap (λ xs. append_known before (tagged w xs)) h ∙ append_known-nil before))

@@ -4,14 +4,15 @@ use Rattle.std.specs.Prelude.{Option}
 use Rattle.std.specs.Io.KnownBytes.{append_known}
 use Rattle.std.proofs.lemmas.List.{append-nil, take-append-drop}
 use Rattle.std.proofs.Math.Seq.{take-append-add}
-use Rattle.line_io.proofs.ToldLemmas.{append_known-append}
+use Rattle.line_io.proofs.ToldLemmas.{append_known-append, append_known-nil}
 use Rattle.campaign_law.specs.declared.entry.Entry.{Entry}
 use Rattle.campaign_law.specs.World.{World, step, replay}
 use Rattle.script_play.specs.declared.run.Played.{Played}
 use Rattle.script_play.specs.declared.run.Played.TheVariants.{Done, ReadFault, WriteFault, BadLine, TooLarge, Memory}
 use Rattle.script_play.specs.Script.{Script, after_entries}
-use Rattle.script_play.specs.Tagged.{entry_text, tagged}
-use Rattle.script_play.specs.Played.{IsPrefix, all_but_last, HasEntered, HasWritten, WroteAllButLast}
+use Rattle.script_play.specs.Tagged.{entry_text, tagged, IsWholeLines}
+use Rattle.script_play.proofs.WholeLines.{whole_both, tagged_whole}
+use Rattle.script_play.specs.Played.{IsPrefix, all_but_last, HasEntered, HasAllButLast, IsPartSent, HasWritten}
 
 -- ---- fronts
 
@@ -50,37 +51,51 @@ tagged_front w es =
 
 -- ---- what was written
 
-pub wrote_all : (w : World) (es : List Entry) (before after : Option (List ℕ)) → after ≡ append_known before (tagged w es) → WroteAllButLast w es before after
-wrote_all w es before after h = record { front = tagged w es; written = h; prefix = prefix_all (tagged w es); all_but_last = tagged_front w es }
+all_but_last_of : (w : World) (es : List Entry) (text : List ℕ) → text ≡ tagged w es → HasAllButLast w es text
+all_but_last_of w es text h = subst (HasAllButLast w es) (sym h) (record { prefix = prefix_all (tagged w es); all_but_last = tagged_front w es })
 
-wrote_both : (w : World) (xs ys : List Entry) (before middle after : Option (List ℕ)) → middle ≡ append_known before (tagged w xs) → after ≡ append_known middle (tagged (replay w xs) ys) → after ≡ append_known before (tagged w (xs ++ ys))
-wrote_both w xs ys before middle after h k =
-    k ∙ ap (λ m. append_known m (tagged (replay w xs) ys)) h
-    ∙ sym (append_known-append before (tagged w xs) (tagged (replay w xs) ys))
-    ∙ ap (append_known before) (sym (tagged-append w xs ys))
+-- all of it
+pub all_part : (p : Played) (w : World) (es : List Entry) (text : List ℕ) → text ≡ tagged w es → IsPartSent p w es text
+all_part Done w es text h = h
+all_part (BadLine number) w es text h = h
+all_part TooLarge w es text h = h
+all_part ReadFault w es text h = h
+all_part WriteFault w es text h = all_but_last_of w es text h
+all_part Memory w es text h = (all_but_last_of w es text h, subst IsWholeLines (sym h) (tagged_whole w es))
 
-wrote_last : (w : World) (xs ys : List Entry) (front : List ℕ) → IsPrefix (tagged (replay w xs) (all_but_last ys)) front → IsPrefix (tagged w (all_but_last (xs ++ ys))) (tagged w xs ++ front)
-wrote_last w xs [] front p = subst (λ es. IsPrefix (tagged w (all_but_last es)) (tagged w xs ++ front)) (sym (append-nil xs)) (prefix_before front (tagged_front w xs))
-wrote_last w xs (y ∷ ys) front p =
+pub all_written : (p : Played) (w : World) (es : List Entry) (before after : Option (List ℕ)) → HasWritten Done w es before after → HasWritten p w es before after
+all_written p w es before after x = record { text = x.text; written = x.written; part = all_part p w es x.text x.part }
+
+pub wrote_nothing : (p : Played) (w : World) (es : List Entry) (before : Option (List ℕ)) → es ≡ [] → HasWritten p w es before before
+wrote_nothing p w es before h = record { text = []; written = sym (append_known-nil before); part = all_part p w es [] (ap (tagged w) (sym h)) }
+
+last_behind : (w : World) (xs ys : List Entry) (text : List ℕ) → IsPrefix (tagged (replay w xs) (all_but_last ys)) text → IsPrefix (tagged w (all_but_last (xs ++ ys))) (tagged w xs ++ text)
+last_behind w xs [] text p = subst (λ es. IsPrefix (tagged w (all_but_last es)) (tagged w xs ++ text)) (sym (append-nil xs)) (prefix_before text (tagged_front w xs))
+last_behind w xs (y ∷ ys) text p =
     let same : tagged w (all_but_last (xs ++ y ∷ ys)) ≡ tagged w xs ++ tagged (replay w xs) (all_but_last (y ∷ ys)) = ap (tagged w) (all_but_last-append xs y ys) ∙ tagged-append w xs (all_but_last (y ∷ ys)) in
-    subst (λ t. IsPrefix t (tagged w xs ++ front)) (sym same) (prefix_behind (tagged w xs) p)
+    subst (λ t. IsPrefix t (tagged w xs ++ text)) (sym same) (prefix_behind (tagged w xs) p)
 
-wrote_more : (w : World) (xs ys : List Entry) (before middle after : Option (List ℕ)) → middle ≡ append_known before (tagged w xs) → WroteAllButLast (replay w xs) ys middle after → WroteAllButLast w (xs ++ ys) before after
-wrote_more w xs ys before middle after h x = record {
-  front = tagged w xs ++ x.front;
-  written = x.written ∙ ap (λ m. append_known m x.front) h ∙ sym (append_known-append before (tagged w xs) x.front);
-  prefix = subst (λ t. IsPrefix (tagged w xs ++ x.front) t) (sym (tagged-append w xs ys)) (prefix_behind (tagged w xs) x.prefix);
-  all_but_last = wrote_last w xs ys x.front x.all_but_last;
+most_behind : (w : World) (xs ys : List Entry) (text : List ℕ) → HasAllButLast (replay w xs) ys text → HasAllButLast w (xs ++ ys) (tagged w xs ++ text)
+most_behind w xs ys text x = record {
+  prefix = subst (λ t. IsPrefix (tagged w xs ++ text) t) (sym (tagged-append w xs ys)) (prefix_behind (tagged w xs) x.prefix);
+  all_but_last = last_behind w xs ys text x.all_but_last;
 }
 
+part_behind : (p : Played) (w : World) (xs ys : List Entry) (text : List ℕ) → IsPartSent p (replay w xs) ys text → IsPartSent p w (xs ++ ys) (tagged w xs ++ text)
+part_behind Done w xs ys text h = ap (λ t. tagged w xs ++ t) h ∙ sym (tagged-append w xs ys)
+part_behind (BadLine number) w xs ys text h = ap (λ t. tagged w xs ++ t) h ∙ sym (tagged-append w xs ys)
+part_behind TooLarge w xs ys text h = ap (λ t. tagged w xs ++ t) h ∙ sym (tagged-append w xs ys)
+part_behind ReadFault w xs ys text h = ap (λ t. tagged w xs ++ t) h ∙ sym (tagged-append w xs ys)
+part_behind WriteFault w xs ys text h = most_behind w xs ys text h
+part_behind Memory w xs ys text h = (most_behind w xs ys text h.0, whole_both (tagged w xs) text (tagged_whole w xs) h.1)
+
 -- a part that ended so, behind one that was done
-pub written_behind : (p : Played) (w : World) (xs ys : List Entry) (before middle after : Option (List ℕ)) → middle ≡ append_known before (tagged w xs) → HasWritten p (replay w xs) ys middle after → HasWritten p w (xs ++ ys) before after
-written_behind Done w xs ys before middle after h k = wrote_both w xs ys before middle after h k
-written_behind (BadLine number) w xs ys before middle after h k = wrote_both w xs ys before middle after h k
-written_behind TooLarge w xs ys before middle after h k = wrote_both w xs ys before middle after h k
-written_behind ReadFault w xs ys before middle after h k = wrote_both w xs ys before middle after h k
-written_behind WriteFault w xs ys before middle after h k = wrote_more w xs ys before middle after h k
-written_behind Memory w xs ys before middle after h k = wrote_more w xs ys before middle after h k
+pub written_behind : (p : Played) (w : World) (xs ys : List Entry) (before middle after : Option (List ℕ)) → HasWritten Done w xs before middle → HasWritten p (replay w xs) ys middle after → HasWritten p w (xs ++ ys) before after
+written_behind p w xs ys before middle after x y = record {
+  text = tagged w xs ++ y.text;
+  written = y.written ∙ ap (λ m. append_known m y.text) (x.written ∙ ap (append_known before) x.part) ∙ sym (append_known-append before (tagged w xs) y.text);
+  part = part_behind p w xs ys y.text y.part;
+}
 
 -- ---- what was entered
 

@@ -1,3 +1,4 @@
+pub mod WholeLines
 pub mod Fronts
 pub mod EntryLines
 pub mod Takens
@@ -8,3 +9,4 @@ pub mod AfterEntry
 pub mod LineRuns
 pub mod WholeRuns
 pub mod Behind
+pub mod Written

@@ -1,7 +1,6 @@
 -- What a line of a script does.
 use Rattle.std.proofs.Common.{◌≡◌, ℕ, suc, ◌<◌, ◌≤◌, false, ◌||◌, List, [], ◌∷◌, ◌++◌, length, Some, None, sym, ◌∙◌, ap, subst, append_assoc, arith}
 use Rattle.std.specs.Prelude.{Option, Result, Ok, Err, OnOk, OnErr, IfErr, nat_lt}
-use Rattle.std.specs.Io.KnownBytes.{append_known}
 use Rattle.std.proofs.lemmas.List.{append-nil}
 use Rattle.std.proofs.lemmas.Bool.Decides.{nat_tests}
 use Rattle.campaign_law.specs.declared.entry.Entry.{Entry}
@@ -14,7 +13,7 @@ use Rattle.script_play.specs.declared.run.Played.TheVariants.{Done, ReadFault, W
 use Rattle.script_play.specs.Script.{Script, done, bad_line, too_large, takens, with_takens, entry_of_line, is_past_limits, script_from, NothingWaits}
 use Rattle.script_play.specs.Tagged.{tagged}
 use Rattle.script_play.specs.Played.{IsPrefix, GoesOn, entries_since, HasEntered, HasWritten, LeavesNothing, IsCutShort, IsLineStop, played}
-use Rattle.script_play.proofs.Fronts.{replay-append, tagged-append, prefix_all, prefix_behind, prefix_before, wrote_all}
+use Rattle.script_play.proofs.Fronts.{replay-append, tagged-append, prefix_all, prefix_behind, prefix_before, all_written}
 use Rattle.script_play.proofs.Takens.{takens_take_all, first_takens_send_nothing}
 use Rattle.script_play.proofs.Scripts.{script_none, script_line, past_limits_script, line_script, followed}
 use Rattle.script_play.proofs.AfterEntry.{all_sound, since_is, goes_on}
@@ -69,13 +68,9 @@ part_of : {A : Type 0} (r : Result A Played) (front due : List Entry) → OnOk r
 part_of (Ok value) front due h k = subst (IsPrefix front) h (prefix_all front)
 part_of (Err stop) front due h k = k
 
-written_exactly : {A : Type 0} (r : Result A Played) (w : World) (es : List Entry) (before after : Option (List ℕ)) → IfErr r (λ stop. stop ≡ Memory) → after ≡ append_known before (tagged w es) → HasWritten (played r) w es before after
-written_exactly (Ok value) w es before after m h = h
-written_exactly (Err stop) w es before after m h = subst (λ p. HasWritten p w es before after) (sym m) (wrote_all w es before after h)
-
 -- the Takens write nothing
-pub takens_written : {A : Type 0} (r : Result A Played) (old middle new : Course) (e : Entry) (due : List Entry) (before after : Option (List ℕ)) → GoesOn old middle → GoesOn middle new → entries_since old middle ≡ e ∷ [] → due ≡ takens (world_of middle) → OnOk r (entries_since middle new ≡ due) → OnErr r (IsPrefix (entries_since middle new) due) → IfErr r (λ stop. stop ≡ Memory) → after ≡ append_known before (tagged (world_of old) (entries_since old middle)) → HasWritten (played r) (world_of old) (entries_since old new) before after
-takens_written r old middle new e due before after a b one is ok err memory wrote =
+pub takens_written : {A : Type 0} (r : Result A Played) (old middle new : Course) (e : Entry) (due : List Entry) (before after : Option (List ℕ)) → GoesOn old middle → GoesOn middle new → entries_since old middle ≡ e ∷ [] → due ≡ takens (world_of middle) → OnOk r (entries_since middle new ≡ due) → OnErr r (IsPrefix (entries_since middle new) due) → HasWritten Done (world_of old) (entries_since old middle) before after → HasWritten (played r) (world_of old) (entries_since old new) before after
+takens_written r old middle new e due before after a b one is ok err wrote =
     let front : List Entry = entries_since middle new in
     let part : IsPrefix front due = part_of r front due ok err in
     let settled : IsSettled (world_of middle).scene = subst (λ (now : World). IsSettled now.scene) (sym (world_entered old middle e a one)) (after_settled (world_of old) e) in
@@ -88,7 +83,7 @@ takens_written r old middle new e due before after a b one is ok err memory wrot
     ∙ ap (λ now. tagged w xs ++ tagged now front) (sym (world_on old middle a))
     ∙ ap (λ t. tagged w xs ++ t) none
     ∙ append-nil (tagged w xs) in
-    written_exactly r w (entries_since old new) before after memory (wrote ∙ ap (append_known before) (sym text))
+    all_written (played r) w (entries_since old new) before after (record { text = wrote.text; written = wrote.written; part = wrote.part ∙ sym text })
 
 -- ---- a line
 

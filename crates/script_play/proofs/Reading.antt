@@ -18,14 +18,11 @@ use Rattle.script_play.specs.declared.run.Played.{Played}
 use Rattle.script_play.specs.declared.run.Played.TheVariants.{Done, TooLarge}
 use Rattle.script_play.specs.Script.{Script, done, too_large, ends, after_entries, is_past_limits, script_from, script_of}
 use Rattle.script_play.specs.Played.{IsPrefix, HasEntered, HasReadTo, IsLineStop}
+use Rattle.script_play.proofs.WholeLines.{bytes_of-append}
 use Rattle.script_play.proofs.Fronts.{prefix_part, entered_behind}
 use Rattle.script_play.proofs.Scripts.{script_none, script_goes_on, stops_at_line, past_limits_script}
 
 -- ---- lines and their bytes
-
-bytes_of-append : (xs ys : List (List ℕ)) → bytes_of (xs ++ ys) ≡ bytes_of xs ++ bytes_of ys
-bytes_of-append [] ys = refl
-bytes_of-append (x ∷ xs) ys = ap (λ r. (x ++ 10 ∷ []) ++ r) (bytes_of-append xs ys) ∙ sym (append_assoc (x ++ 10 ∷ []) (bytes_of xs) (bytes_of ys))
 
 lines_of-bytes : (lines : List (List ℕ)) (rest : List ℕ) → AllByRecursion HasNoLineEnd lines → lines_of (bytes_of lines ++ rest) ≡ lines ++ lines_of rest
 lines_of-bytes [] rest h = refl

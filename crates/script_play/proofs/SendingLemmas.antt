@@ -1,7 +1,8 @@
 -- Texts that are written one behind the other.
 use Rattle.std.proofs.Common.{◌≡◌, ℕ, zero, suc, ◌+◌, ◌<◌, Bool, true, false, cond, eqb, List, [], ◌∷◌, ◌++◌, length, take, drop, map, get_or, max, Some, None, refl, sym, ◌∙◌, ap, subst, append_assoc, arith, length-drop, eq-eqb, add-one}
 use Rattle.std.specs.Prelude.{Option, Result, Ok, Err, option_map, unwrap_or, IfSome}
-use Rattle.std.specs.List.{flat_map}
+use Rattle.std.specs.List.{AllByRecursion, flat_map}
+use Rattle.std.proofs.lemmas.Grind.{flat_map-append}
 use Rattle.std.specs.Io.KnownBytes.{append_known}
 use Rattle.std.proofs.lemmas.List.{append-nil, take-append-drop}
 use Rattle.std.proofs.lemmas.Bool.Decides.{nat_tests}
@@ -16,46 +17,56 @@ use Rattle.campaign_law.specs.Law.{Course, IsOpening, world_of}
 use Rattle.campaign_law.proofs.Sessions.{IsKept, kept_at}
 use Rattle.script_play.specs.declared.run.Played.{Played}
 use Rattle.script_play.specs.Script.{taken_of, takens_below}
-use Rattle.script_play.specs.Tagged.{seat_tag, tagged_line, tagged_lines}
+use Rattle.script_play.specs.Tagged.{seat_tag, tagged_line, tagged_lines, IsWholeLines}
 use Rattle.script_play.specs.Played.{IsCutShort}
-use Rattle.script_play.specs.Sending.{untaken, waiting_lines, reply_to, sent_below, WroteFront, Sends}
-
-pub front_none : (before : Option (List ℕ)) (text : List ℕ) → WroteFront before text before
-front_none before text = record { front = []; rest = text; is = refl; written = sym (append_known-nil before) }
+use Rattle.script_play.proofs.WholeLines.{whole_none, whole_both, tagged_line_whole}
+use Rattle.script_play.specs.Sending.{untaken, waiting_lines, reply_to, sent_below, WroteFront, WroteTill, Sends}
 
 pub front_taken : (before : Option (List ℕ)) (text : List ℕ) (after : Option (List ℕ)) → TookPrefix before text after → WroteFront before text after
 front_taken before text after t = record { front = take t.count text; rest = drop t.count text; is = sym (take-append-drop t.count text); written = t.written }
 
-front_longer : (before : Option (List ℕ)) (text more : List ℕ) (after : Option (List ℕ)) → WroteFront before text after → WroteFront before (text ++ more) after
-front_longer before text more after f = record { front = f.front; rest = f.rest ++ more; is = ap (λ t. t ++ more) f.is ∙ append_assoc f.front f.rest more; written = f.written }
-
-front_behind : (before middle after : Option (List ℕ)) (first text : List ℕ) → middle ≡ append_known before first → WroteFront middle text after → WroteFront before (first ++ text) after
-front_behind before middle after first text h f = record {
-  front = first ++ f.front;
-  rest = f.rest;
-  is = ap (λ t. first ++ t) f.is ∙ sym (append_assoc first f.front f.rest);
-  written = f.written ∙ ap (λ m. append_known m f.front) h ∙ sym (append_known-append before first f.front);
+front_longer : (stop : Played) (before : Option (List ℕ)) (text more : List ℕ) (after : Option (List ℕ)) → WroteTill stop before text after → WroteTill stop before (text ++ more) after
+front_longer stop before text more after f = record {
+  cut = f.cut;
+  part = record { front = f.part.front; rest = f.part.rest ++ more; is = ap (λ t. t ++ more) f.part.is ∙ append_assoc f.part.front f.part.rest more; written = f.part.written };
+  whole = f.whole;
 }
 
--- behind a text that was written
-pub sends_behind : {A : Type 0} (r : Result A Played) (before middle after : Option (List ℕ)) (first text : List ℕ) → middle ≡ append_known before first → Sends r text middle after → Sends r (first ++ text) before after
-sends_behind (Ok value) before middle after first text h s = s ∙ ap (λ m. append_known m text) h ∙ sym (append_known-append before first text)
-sends_behind (Err stop) before middle after first text h s = (s.0, front_behind before middle after first text h s.1)
+front_behind : (stop : Played) (before middle after : Option (List ℕ)) (first text : List ℕ) → IsWholeLines first → middle ≡ append_known before first → WroteTill stop middle text after → WroteTill stop before (first ++ text) after
+front_behind stop before middle after first text ended h f = record {
+  cut = f.cut;
+  part = record {
+    front = first ++ f.part.front;
+    rest = f.part.rest;
+    is = ap (λ t. first ++ t) f.part.is ∙ sym (append_assoc first f.part.front f.part.rest);
+    written = f.part.written ∙ ap (λ m. append_known m f.part.front) h ∙ sym (append_known-append before first f.part.front);
+  };
+  whole = λ memory. whole_both first f.part.front ended (f.whole memory);
+}
+
+-- nothing was written
+pub stops_first : (stop : Played) (before : Option (List ℕ)) (text : List ℕ) → IsCutShort stop → WroteTill stop before text before
+stops_first stop before text cut = record { cut = cut; part = record { front = []; rest = text; is = refl; written = sym (append_known-nil before) }; whole = λ memory. whole_none }
+
+-- all of it was written
+pub stops_last : (stop : Played) (before after : Option (List ℕ)) (text : List ℕ) → IsCutShort stop → IsWholeLines text → after ≡ append_known before text → WroteTill stop before text after
+stops_last stop before after text cut ended h = record { cut = cut; part = record { front = text; rest = []; is = sym (append-nil text); written = h }; whole = λ memory. ended }
+
+-- behind a text of whole lines that was written
+pub sends_behind : {A : Type 0} (r : Result A Played) (before middle after : Option (List ℕ)) (first text : List ℕ) → IsWholeLines first → middle ≡ append_known before first → Sends r text middle after → Sends r (first ++ text) before after
+sends_behind (Ok value) before middle after first text ended h s = s ∙ ap (λ m. append_known m text) h ∙ sym (append_known-append before first text)
+sends_behind (Err stop) before middle after first text ended h s = front_behind stop before middle after first text ended h s
 
 -- a stop within the first part
-pub stops_before : (stop : Played) (text more : List ℕ) (before after : Option (List ℕ)) → IsCutShort stop × WroteFront before text after → IsCutShort stop × WroteFront before (text ++ more) after
-stops_before stop text more before after s = (s.0, front_longer before text more after s.1)
+pub stops_before : (stop : Played) (text more : List ℕ) (before after : Option (List ℕ)) → WroteTill stop before text after → WroteTill stop before (text ++ more) after
+stops_before stop text more before after s = front_longer stop before text more after s
 
--- a stop within the second part
-pub stops_behind : (stop : Played) (before middle after : Option (List ℕ)) (first text more whole : List ℕ) → middle ≡ append_known before first → IsCutShort stop × WroteFront middle text after → whole ≡ first ++ (text ++ more) → IsCutShort stop × WroteFront before whole after
-stops_behind stop before middle after first text more whole h s is =
-    (s.0, subst (λ t. WroteFront before t after) (sym is) (front_behind before middle after first (text ++ more) h (front_longer middle text more after s.1)))
+-- a stop within the second part, behind whole lines
+pub stops_behind : (stop : Played) (before middle after : Option (List ℕ)) (first text more whole : List ℕ) → IsWholeLines first → middle ≡ append_known before first → WroteTill stop middle text after → whole ≡ first ++ (text ++ more) → WroteTill stop before whole after
+stops_behind stop before middle after first text more whole ended h s is =
+    subst (λ t. WroteTill stop before t after) (sym is) (front_behind stop before middle after first (text ++ more) ended h (front_longer stop middle text more after s))
 
 -- ---- parts of lists of texts
-
-pub flat_map-append : {A : Type 0} (f : A → List ℕ) (xs ys : List A) → flat_map f (xs ++ ys) ≡ flat_map f xs ++ flat_map f ys
-flat_map-append f [] ys = refl
-flat_map-append f (x ∷ xs) ys = ap (λ r. f x ++ r) (flat_map-append f xs ys) ∙ sym (append_assoc (f x) (flat_map f xs) (flat_map f ys))
 
 -- one more
 pub flat_map_next : {A : Type 0} (f : A → List ℕ) (xs : List A) (i : ℕ) (x : A) → i < length xs → x ≡ get_or xs i x → flat_map f (take (suc i) xs) ≡ flat_map f (take i xs) ++ f x
@@ -71,6 +82,17 @@ flat_map_from f (y ∷ ys) (suc i) x lt is = ap (λ r. f y ++ r) (flat_map_from 
 pub tagged_ended : (seat : ℕ) (lines : List (List ℕ)) → flat_map (λ line. seat_tag seat ++ line) (map (λ line. line ++ 10 ∷ []) lines) ≡ tagged_lines seat lines
 tagged_ended seat [] = refl
 tagged_ended seat (line ∷ lines) = ap (λ r. tagged_line seat line ++ r) (tagged_ended seat lines)
+
+-- the first of what are whole lines behind the seat's tag
+pub first_whole : (seat : ℕ) (lines : List (List ℕ)) (i : ℕ) → AllByRecursion (λ line. IsWholeLines (seat_tag seat ++ line)) lines → IsWholeLines (flat_map (λ line. seat_tag seat ++ line) (take i lines))
+first_whole seat lines zero h = whole_none
+first_whole seat [] (suc i) h = whole_none
+first_whole seat (line ∷ lines) (suc i) h = whole_both (seat_tag seat ++ line) (flat_map (λ line. seat_tag seat ++ line) (take i lines)) h.0 (first_whole seat lines i h.1)
+
+-- lines with their LFs are whole
+pub ended_whole : (seat : ℕ) (lines : List (List ℕ)) → AllByRecursion (λ line. IsWholeLines (seat_tag seat ++ line)) (map (λ line. line ++ 10 ∷ []) lines)
+ended_whole seat [] = tt
+ended_whole seat (line ∷ lines) = (tagged_line_whole seat line, ended_whole seat lines)
 
 pub tagged_lines-append : (seat : ℕ) (xs ys : List (List ℕ)) → tagged_lines seat (xs ++ ys) ≡ tagged_lines seat xs ++ tagged_lines seat ys
 tagged_lines-append seat xs ys = flat_map-append (tagged_line seat) xs ys

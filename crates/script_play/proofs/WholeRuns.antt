@@ -1,7 +1,7 @@
 -- What a run of a script's lines did, up to each of its ends.
 use Rattle.std.proofs.Common.{◌≡◌, ℕ, ◌+◌, ◌≤◌, Bool, true, false, cond, List, [], ◌∷◌, ◌++◌, Some, None, refl, sym, ◌∙◌, ap, subst, arith}
 use Rattle.std.specs.Prelude.{Option}
-use Rattle.std.specs.Io.KnownBytes.{append_known, IsAtEnd}
+use Rattle.std.specs.Io.KnownBytes.{IsAtEnd}
 use Rattle.line_io.specs.Counts.{CountRose}
 use Rattle.line_io.specs.declared.lines.NextLine.{NextLine}
 use Rattle.line_io.specs.declared.lines.NextLine.TheVariants.{Line, End, TooLong, ReadFault as ReaderFault, Memory as ReaderMemory}
@@ -15,7 +15,6 @@ use Rattle.campaign_law.specs.Law.{Course, world_of}
 use Rattle.script_play.specs.declared.run.Played.{Played}
 use Rattle.script_play.specs.declared.run.Played.TheVariants.{Done, ReadFault, WriteFault, BadLine, TooLarge, Memory}
 use Rattle.script_play.specs.Script.{script_from, script_of}
-use Rattle.script_play.specs.Tagged.{tagged}
 use Rattle.script_play.specs.Played.{GoesOn, entries_since, HasEntered, HasRead, HasReadTo, HasWritten, IsLineStop}
 use Rattle.script_play.proofs.Fronts.{written_behind}
 use Rattle.script_play.proofs.Reading.{HasCome, none_came, line_came, stops_so, done_so, too_long, read_so_far, stopped_here, told_then, told_start, told_left}
@@ -118,7 +117,7 @@ read_stop WriteFault h w es text rest = tt
 read_stop Memory h w es text rest = tt
 
 -- what was written
-pub written_on : (p : Played) (start now new : Course) (before middle after : Option (List ℕ)) → GoesOn start now → GoesOn now new → middle ≡ append_known before (tagged (world_of start) (entries_since start now)) → HasWritten p (world_of now) (entries_since now new) middle after → HasWritten p (world_of start) (entries_since start new) before after
+pub written_on : (p : Played) (start now new : Course) (before middle after : Option (List ℕ)) → GoesOn start now → GoesOn now new → HasWritten Done (world_of start) (entries_since start now) before middle → HasWritten p (world_of now) (entries_since now new) middle after → HasWritten p (world_of start) (entries_since start new) before after
 written_on p start now new before middle after g h first rest =
     subst (λ es. HasWritten p (world_of start) es before after) (sym (since_all start now new g h))
     (written_behind p (world_of start) (entries_since start now) (entries_since now new) before middle after first

@@ -1,14 +1,15 @@
 -- What a run of a script did to a campaign, and what it wrote.
-use Rattle.std.specs.Prelude.{◌≡◌, ℕ, ◌-◌, List, [], ◌++◌, length, take, drop, Option, Some, Result, Ok, Err}
+use Rattle.std.specs.Prelude.{◌≡◌, ◌≤◌, ◌⊎◌, ℕ, ◌-◌, List, [], ◌∷◌, ◌++◌, length, take, drop, Option, Some, Result, Ok, Err}
 use Rattle.std.specs.Io.KnownBytes.{append_known}
 use Rattle.line_io.specs.Lines.{HasNoLineEnd, lines_of}
 use Rattle.campaign_law.specs.declared.entry.Entry.{Entry}
-use Rattle.campaign_law.specs.World.{World}
-use Rattle.campaign_law.specs.Law.{Course, bytes_of}
+use Rattle.campaign_law.specs.World.{World, sent}
+use Rattle.campaign_law.specs.Player.{opening, trace, machine}
+use Rattle.campaign_law.specs.Law.{Course, bytes_of, world_of}
 use Rattle.script_play.specs.declared.run.Played.{Played}
 use Rattle.script_play.specs.declared.run.Played.TheVariants.{Done, ReadFault, WriteFault, BadLine, TooLarge, Memory}
 use Rattle.script_play.specs.Script.{Script, done, bad_line, too_large, script_of, entry_of_line, NothingWaits}
-use Rattle.script_play.specs.Tagged.{tagged}
+use Rattle.script_play.specs.Tagged.{tagged, lines_behind, IsWholeLines}
 
 -- the entries that a campaign has behind those that it had
 abbrev pub entries_since : Course → Course → List Entry
@@ -55,21 +56,52 @@ HasRead TooLarge w entries text rest = Unit {0}
 HasRead WriteFault w entries text rest = Unit {0}
 HasRead Memory w entries text rest = Unit {0}
 
--- a prefix of what the entries send was written, with all lines of all entries but the last
-pub record WroteAllButLast (w : World) (entries : List Entry) (before after : Option (List ℕ)) : Type 0 where
-  pub front : List ℕ
-  pub written : after ≡ append_known before front
-  pub prefix : IsPrefix front (tagged w entries)
-  pub all_but_last : IsPrefix (tagged w (all_but_last entries)) front
+-- a front of what the entries send, with all that they send but the last one
+pub record HasAllButLast (w : World) (entries : List Entry) (text : List ℕ) : Type 0 where
+  pub prefix : IsPrefix text (tagged w entries)
+  pub all_but_last : IsPrefix (tagged w (all_but_last entries)) text
 
--- what the entries send was written; after a write fault or for want of memory perhaps not all that the last one sends
-abbrev pub HasWritten : Played → World → List Entry → Option (List ℕ) → Option (List ℕ) → Type 0
-HasWritten Done w entries before after = after ≡ append_known before (tagged w entries)
-HasWritten (BadLine number) w entries before after = after ≡ append_known before (tagged w entries)
-HasWritten TooLarge w entries before after = after ≡ append_known before (tagged w entries)
-HasWritten ReadFault w entries before after = after ≡ append_known before (tagged w entries)
-HasWritten WriteFault w entries before after = WroteAllButLast w entries before after
-HasWritten Memory w entries before after = WroteAllButLast w entries before after
+-- the part of what the entries send that is written: all of it; after a write fault perhaps not all that the last one
+-- sends, and for want of memory perhaps not all of its lines
+abbrev pub IsPartSent : Played → World → List Entry → List ℕ → Type 0
+IsPartSent Done w entries text = text ≡ tagged w entries
+IsPartSent (BadLine number) w entries text = text ≡ tagged w entries
+IsPartSent TooLarge w entries text = text ≡ tagged w entries
+IsPartSent ReadFault w entries text = text ≡ tagged w entries
+IsPartSent WriteFault w entries text = HasAllButLast w entries text
+IsPartSent Memory w entries text = HasAllButLast w entries text × IsWholeLines text
+
+-- a text was written, which is this part of what the entries send
+pub record HasWritten (answer : Played) (w : World) (entries : List Entry) (before after : Option (List ℕ)) : Type 0 where
+  pub text : List ℕ
+  pub written : after ≡ append_known before text
+  pub part : IsPartSent answer w entries text
+
+-- the first of these lines, and then a front of the next
+pub record EndsWithin (lines whole : List (List ℕ)) : Type 0 where
+  pub first : List (List ℕ)
+  pub front : List ℕ
+  pub next : List ℕ
+  pub rest : List (List ℕ)
+  pub lines_are : lines ≡ first ++ front ∷ []
+  pub whole_is : whole ≡ first ++ next ∷ rest
+  pub part : IsPrefix front next
+
+-- of the lines that are printed these are written: all of them; for want of memory the first of them; after a write fault
+-- the first of them, and then perhaps a front of the next
+abbrev pub AreWrittenOf : Played → (lines printed : List (List ℕ)) → Type 0
+AreWrittenOf Done lines printed = lines ≡ printed
+AreWrittenOf (BadLine number) lines printed = lines ≡ printed
+AreWrittenOf TooLarge lines printed = lines ≡ printed
+AreWrittenOf ReadFault lines printed = lines ≡ printed
+AreWrittenOf WriteFault lines printed = IsPrefix lines printed ⊎ EndsWithin lines printed
+AreWrittenOf Memory lines printed = IsPrefix lines printed
+
+-- what a run wrote: its part of what the new entries send. In it stand, behind a player's number and after what the player
+-- was sent before, the lines that the player machine prints, which holds no world, or the first of them
+pub record Writes (answer : Played) (old new : Course) (before after : Option (List ℕ)) : Type 0 where
+  pub bytes : HasWritten answer (world_of old) (entries_since old new) before after
+  pub players : (p : ℕ) → 1 ≤ p → p ≤ 32 → AreWrittenOf answer (sent old.origin old.history p ++ lines_behind p bytes.text) (machine (opening new.origin p) (trace new.origin new.history p))
 
 -- nothing waits, unless it stopped within a line
 abbrev pub LeavesNothing : Played → World → Type 0

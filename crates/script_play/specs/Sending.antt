@@ -6,7 +6,8 @@ use Rattle.campaign_law.specs.World.{seat_at, some_to_list}
 use Rattle.campaign_law.specs.Session.{session}
 use Rattle.campaign_law.specs.Law.{Course, world_of}
 use Rattle.script_play.specs.declared.run.Played.{Played}
-use Rattle.script_play.specs.Tagged.{tagged_lines}
+use Rattle.script_play.specs.declared.run.Played.TheVariants.{Memory}
+use Rattle.script_play.specs.Tagged.{tagged_lines, IsWholeLines}
 use Rattle.script_play.specs.Played.{IsCutShort}
 
 -- of a session, those that weren't taken
@@ -34,7 +35,13 @@ pub record WroteFront (before : Option (List ℕ)) (text : List ℕ) (after : Op
   pub is : text ≡ front ++ rest
   pub written : after ≡ append_known before front
 
+-- at a stop within a line a front of the text was written; for want of memory whole lines of it
+pub record WroteTill (stop : Played) (before : Option (List ℕ)) (text : List ℕ) (after : Option (List ℕ)) : Type 0 where
+  pub cut : IsCutShort stop
+  pub part : WroteFront before text after
+  pub whole : stop ≡ Memory → IsWholeLines part.front
+
 -- the text was written; after a stop a front of it
 abbrev pub Sends : {A : Type 0} → Result A Played → List ℕ → Option (List ℕ) → Option (List ℕ) → Type 0
 Sends (Ok value) text before after = after ≡ append_known before text
-Sends (Err stop) text before after = IsCutShort stop × WroteFront before text after
+Sends (Err stop) text before after = WroteTill stop before text after

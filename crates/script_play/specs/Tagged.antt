@@ -1,9 +1,10 @@
 -- The lines that a history sends, each behind its seat.
-use Rattle.std.specs.Prelude.{ℕ, zero, suc, ◌==◌, decimal, List, [], ◌∷◌, ◌++◌, if◌then◌else◌, Option, Some, None}
+use Rattle.std.specs.Prelude.{◌≡◌, ℕ, zero, suc, ◌==◌, decimal, List, [], ◌∷◌, ◌++◌, if◌then◌else◌, Option, Some, None}
 use Rattle.std.specs.List.{flat_map, filter_map}
 use Rattle.line_io.specs.Lines.{lines_of}
 use Rattle.campaign_law.specs.declared.entry.Entry.{Entry}
 use Rattle.campaign_law.specs.World.{World, lines_of as entry_lines, step}
+use Rattle.campaign_law.specs.Law.{bytes_of}
 
 -- a seat's number and TAB
 abbrev pub seat_tag : ℕ → List ℕ
@@ -29,6 +30,11 @@ entry_text w e = entry_text_below w e 33
 abbrev pub tagged : World → List Entry → List ℕ
 tagged w [] = []
 tagged w (e ∷ es) = entry_text w e ++ tagged (step w e) es
+
+-- a text of whole lines: each has its LF
+pub record IsWholeLines (text : List ℕ) : Type 0 where
+  pub lines : List (List ℕ)
+  pub is : text ≡ bytes_of lines
 
 -- what a line has behind this front; none, where it begins otherwise
 abbrev pub behind : List ℕ → List ℕ → Option (List ℕ)

@@ -5,7 +5,7 @@ ghost use Rattle.line_io.specs.Reader.{bytes_to_come};
 ghost use Rattle.line_io.specs.Told.{WhereTold};
 ghost use Rattle.campaign_law.specs.Law.{IsOpening, IsSentAsMachine, world_of};
 ghost use Rattle.script_play.specs.Script.{NothingWaits, script_from, script_of, takens, with_takens};
-ghost use Rattle.script_play.specs.Played.{GoesOn, HasEntered, HasRead, HasWritten, LeavesNothing, IsPrefix, IsOfLine, IsCutShort, IsLineStop, entries_since, played};
+ghost use Rattle.script_play.specs.Played.{GoesOn, HasEntered, HasRead, HasWritten, Writes, LeavesNothing, IsPrefix, IsOfLine, IsCutShort, IsLineStop, entries_since, played};
 
 use crate::entries::{entry_of_line, seat_of};
 use crate::sending::send_all;
@@ -57,11 +57,11 @@ pub fn play<S: Source, O: Sink, E: Eye + Drop>(
         (λ text rest. HasEntered result (script_of (world_of campaign.old) text) (entries_since campaign.old campaign.new)) }
     ensures read { WhereTold (S.left script.old) (S.left script.new)
         (λ text rest. HasRead result (world_of campaign.old) (entries_since campaign.old campaign.new) text rest) }
-    ensures written { HasWritten result (world_of campaign.old) (entries_since campaign.old campaign.new) (O.written out.old) (O.written out.new) }
     ensures waits { LeavesNothing result (world_of campaign.new) }
 
-    // What a player is sent is what its machine prints.
+    // What a player is sent is what its machine prints; so are its lines in the bytes that were written.
     ensures sent { (p : ℕ) → IsSentAsMachine campaign.new.origin campaign.new.history p }
+    ensures written { Writes result campaign.old campaign.new (O.written out.old) (O.written out.new) }
 
     ensures script_count { S.faults_of script.old ≤ S.faults_of script.new }
     ensures read_fault { result ≡ Played.ReadFault → CountRose (S.faults_of script.old) (S.faults_of script.new) }

@@ -1,11 +1,11 @@
 //! The lines that an entry sends, written behind their seats.
 ghost use Rattle.std.specs.Prelude.{◌≡◌, ◌≤◌, ◌<◌, ◌==◌, ◌++◌, ◌∷◌, [], length, map, IfOk, OnOk};
-ghost use Rattle.std.specs.List.{flat_map};
+ghost use Rattle.std.specs.List.{AllByRecursion, flat_map};
 ghost use Rattle.std.specs.Option.{option_to_list};
 ghost use Rattle.line_io.specs.Counts.{CountRose};
 ghost use Rattle.campaign_law.specs.Law.{IsOpening, world_of};
 ghost use Rattle.campaign_law.specs.World.{seat_at, some_to_list};
-ghost use Rattle.script_play.specs.Tagged.{seat_tag, tagged_line, tagged_lines};
+ghost use Rattle.script_play.specs.Tagged.{seat_tag, tagged_line, tagged_lines, IsWholeLines};
 ghost use Rattle.script_play.specs.Script.{taken_of, takens};
 ghost use Rattle.script_play.specs.Sending.{waiting_lines, reply_to, sent_below, Sends};
 ghost use Rattle.script_play.specs.Played.{played};
@@ -62,7 +62,7 @@ fn send_next<O: Sink, E: Eye + Drop>(
     ensures write_fault { played result ≡ Played.WriteFault → CountRose (O.faults_of out.old) (O.faults_of out.new) }
 {
     let Some(seat) = SeatNo::new(number) else {
-        return Err(Played::Memory);
+        unreachable!();
     };
     match send_to(alloc, campaign, seat, acting, reply, out) {
         Ok(None) => Ok(()),
@@ -198,6 +198,7 @@ fn send_lines<O: Sink>(
     lines: &[LineText],
     out: &mut O,
 ) -> Result<(), Played>
+    requires { AllByRecursion (λ line. IsWholeLines (seat_tag seat ++ line)) lines.now }
     ensures sends { Sends result (flat_map (λ line. seat_tag seat ++ line) lines.now) (O.written out.old) (O.written out.new) }
     ensures count { O.faults_of out.old ≤ O.faults_of out.new }
     ensures write_fault { played result ≡ Played.WriteFault → CountRose (O.faults_of out.old) (O.faults_of out.new) }

@@ -11,7 +11,7 @@ use Rattle.script_play.specs.declared.run.Played.{Played}
 use Rattle.script_play.specs.declared.run.Played.TheVariants as played
 use Rattle.script_play.specs.Script.{script_of}
 use Rattle.script_play.specs.Tagged.{tagged, lines_behind}
-use Rattle.script_play.specs.Played.{HasEntered, HasRead, HasWritten}
+use Rattle.script_play.specs.Played.{HasEntered, HasRead, HasWritten, AreWrittenOf}
 use Rattle.script_play.specs.Sending.{WroteFront}
 use Rattle.tabletop.specs.declared.endings.Ended.{Ended}
 use Rattle.tabletop.specs.declared.endings.Ended.TheVariants.{Done, Usage, BadCampaign, ReadFault, WriteFault, Memory, BadLine, TooLarge}
@@ -41,8 +41,11 @@ pub record Plays (answer : Played) (origin : World) (script left out after : Opt
   pub entered : WhereTold script left (λ text rest. HasEntered answer (script_of origin text) entries)
   pub read : WhereTold script left (λ text rest. HasRead answer origin entries text rest)
   pub written : HasWritten answer origin entries out after
-  -- of all that the entries send, what stands behind a player's number is what the player machine prints, which
-  -- holds no world: it has the player's opening book, its own entries, others' messages to it, and its views
+  -- of the bytes that were written, what stands behind a player's number is what the player machine prints, which
+  -- holds no world: it has the player's opening book, its own entries, others' messages to it, and its views. For want
+  -- of memory these are the first of the lines, after a write fault the first of them and perhaps a front of the next
+  pub players : (p : ℕ) → 1 ≤ p → p ≤ 32 → AreWrittenOf answer (lines_behind p written.text) (machine (opening origin p) (trace origin entries p))
+  -- and so it is of all that the entries send
   pub sent : (p : ℕ) → 1 ≤ p → p ≤ 32 → lines_behind p (tagged origin entries) ≡ machine (opening origin p) (trace origin entries p)
 
 -- from the world of the campaign
@@ -51,46 +54,46 @@ pub record PlaysOn (answer : Played) (world : Option World) (script left out aft
   pub is : world ≡ Some origin
   pub plays : Plays answer origin script left out after
 
--- once the campaign's text was there, which has this world or none
-abbrev pub WorldEnds : Ended → Option World → (script left out after : Option (List ℕ)) → Type 0
-WorldEnds Done world script left out after = PlaysOn played.Done world script left out after
-WorldEnds Usage world script left out after = ⊥
-WorldEnds BadCampaign world script left out after = (world ≡ None) × (after ≡ out)
-WorldEnds ReadFault world script left out after = PlaysOn played.ReadFault world script left out after
-WorldEnds WriteFault world script left out after = PlaysOn played.WriteFault world script left out after
-WorldEnds Memory world script left out after = (after ≡ out) ⊎ PlaysOn played.Memory world script left out after
-WorldEnds (BadLine number) world script left out after = PlaysOn (played.BadLine number) world script left out after
-WorldEnds TooLarge world script left out after = PlaysOn played.TooLarge world script left out after
+-- once the campaign's text was there, which has this world or none. A read fault is the script's
+abbrev pub WorldEnds : (ScriptFailed : Type 0) → Ended → Option World → (script left out after : Option (List ℕ)) → Type 0
+WorldEnds ScriptFailed Done world script left out after = PlaysOn played.Done world script left out after
+WorldEnds ScriptFailed Usage world script left out after = ⊥
+WorldEnds ScriptFailed BadCampaign world script left out after = (world ≡ None) × (after ≡ out)
+WorldEnds ScriptFailed ReadFault world script left out after = ScriptFailed × PlaysOn played.ReadFault world script left out after
+WorldEnds ScriptFailed WriteFault world script left out after = PlaysOn played.WriteFault world script left out after
+WorldEnds ScriptFailed Memory world script left out after = (after ≡ out) ⊎ PlaysOn played.Memory world script left out after
+WorldEnds ScriptFailed (BadLine number) world script left out after = PlaysOn (played.BadLine number) world script left out after
+WorldEnds ScriptFailed TooLarge world script left out after = PlaysOn played.TooLarge world script left out after
 
 -- the campaign's text was fetched: this one, where it is told
-pub record Fetched (ended : Ended) (campaign script left out after : Option (List ℕ)) : Type 0 where
+pub record Fetched (ScriptFailed : Type 0) (ended : Ended) (campaign script left out after : Option (List ℕ)) : Type 0 where
   pub text : List ℕ
   pub told : IfSome campaign (λ told. text ≡ told)
   pub small : length text ≤ campaign_limit
-  pub ends : WorldEnds ended (world_of_text text) script left out after
+  pub ends : WorldEnds ScriptFailed ended (world_of_text text) script left out after
 
 -- it wasn't: the desk failed, memory was wanting, or the text is too large
-abbrev pub NotFetched : Ended → Option (List ℕ) → Type 0
-NotFetched Done campaign = ⊥
-NotFetched Usage campaign = ⊥
-NotFetched BadCampaign campaign = ⊥
-NotFetched ReadFault campaign = Unit {0}
-NotFetched WriteFault campaign = ⊥
-NotFetched Memory campaign = Unit {0}
-NotFetched (BadLine number) campaign = ⊥
-NotFetched TooLarge campaign = IfSome campaign (λ told. campaign_limit < length told)
+abbrev pub NotFetched : (DeskFailed : Type 0) → Ended → Option (List ℕ) → Type 0
+NotFetched DeskFailed Done campaign = ⊥
+NotFetched DeskFailed Usage campaign = ⊥
+NotFetched DeskFailed BadCampaign campaign = ⊥
+NotFetched DeskFailed ReadFault campaign = DeskFailed
+NotFetched DeskFailed WriteFault campaign = ⊥
+NotFetched DeskFailed Memory campaign = Unit {0}
+NotFetched DeskFailed (BadLine number) campaign = ⊥
+NotFetched DeskFailed TooLarge campaign = IfSome campaign (λ told. campaign_limit < length told)
 
--- the words were this form or none
-abbrev pub JobEnds : Ended → (file campaign script left out after : Option (List ℕ)) → Type 0
-JobEnds ended file campaign script left out after =
+-- the words were this form or none. Where nothing was played, a read fault is the desk's
+abbrev pub JobEnds : (DeskFailed ScriptFailed : Type 0) → Ended → (file campaign script left out after : Option (List ℕ)) → Type 0
+JobEnds DeskFailed ScriptFailed ended file campaign script left out after =
     ((file ≡ None) × (ended ≡ Usage) × (after ≡ out))
-    ⊎ (IsSome file × ((NotFetched ended campaign × (after ≡ out)) ⊎ Fetched ended campaign script left out after))
+    ⊎ (IsSome file × ((NotFetched DeskFailed ended campaign × (after ≡ out)) ⊎ Fetched ScriptFailed ended campaign script left out after))
 
 -- the whole run: how it ended, by its status, and the last line printed, of which a fault leaves a front
-pub record HasEnded (status : ℕ) (file campaign script left out after : Option (List ℕ)) (OutFailed : Type 0) : Type 0 where
+pub record HasEnded (status : ℕ) (file campaign script left out after : Option (List ℕ)) (DeskFailed ScriptFailed OutFailed : Type 0) : Type 0 where
   pub ended : Ended
   pub status_is : status ≡ status_of ended
   -- what was written before the last line
   pub before_line : Option (List ℕ)
-  pub job : JobEnds ended file campaign script left out before_line
+  pub job : JobEnds DeskFailed ScriptFailed ended file campaign script left out before_line
   pub line : (after ≡ append_known before_line (last_line ended)) ⊎ (OutFailed × WroteFront before_line (last_line ended) after)

@@ -31,7 +31,8 @@ pub fn tabletop<D: Desk, S: Source, O: Sink>(
     out: &mut O,
 ) -> u8
     ensures ends { HasEnded result (play_file_lem (map string_bytes words.now)) (option_and_then (D.text_of desk.old) (play_file_lem (map string_bytes words.now)))
-        (S.left script.old) (S.left script.new) (O.written out.old) (O.written out.new) (CountRose (O.faults_of out.old) (O.faults_of out.new)) }
+        (S.left script.old) (S.left script.new) (O.written out.old) (O.written out.new)
+        (CountRose (D.faults_of desk.old) (D.faults_of desk.new)) (CountRose (S.faults_of script.old) (S.faults_of script.new)) (CountRose (O.faults_of out.old) (O.faults_of out.new)) }
     ensures usage { (result ≡ 2) ↔ (play_file_lem (map string_bytes words.now) ≡ None) }
     ensures read_fault { result ≡ 4 → CountRose (D.faults_of desk.old) (D.faults_of desk.new) ⊎ CountRose (S.faults_of script.old) (S.faults_of script.new) }
     ensures write_fault { result ≡ 5 → CountRose (O.faults_of out.old) (O.faults_of out.new) }
@@ -61,7 +62,8 @@ fn job<D: Desk, S: Source, O: Sink>(
     script: &mut S,
     out: &mut O,
 ) -> Ended
-    ensures ends { JobEnds result (play_file_lem (map string_bytes words.now)) (option_and_then (D.text_of desk.old) (play_file_lem (map string_bytes words.now)))
+    ensures ends { JobEnds (CountRose (D.faults_of desk.old) (D.faults_of desk.new)) (CountRose (S.faults_of script.old) (S.faults_of script.new)) result
+        (play_file_lem (map string_bytes words.now)) (option_and_then (D.text_of desk.old) (play_file_lem (map string_bytes words.now)))
         (S.left script.old) (S.left script.new) (O.written out.old) (O.written out.new) }
     ensures read_fault { result ≡ Ended.ReadFault → CountRose (D.faults_of desk.old) (D.faults_of desk.new) ⊎ CountRose (S.faults_of script.old) (S.faults_of script.new) }
     ensures write_fault { result ≡ Ended.WriteFault → CountRose (O.faults_of out.old) (O.faults_of out.new) }
@@ -85,7 +87,7 @@ fn play_text<S: Source, O: Sink>(
     script: &mut S,
     out: &mut O,
 ) -> Ended
-    ensures ends { WorldEnds result (world_of_text text.now) (S.left script.old) (S.left script.new) (O.written out.old) (O.written out.new) }
+    ensures ends { WorldEnds (CountRose (S.faults_of script.old) (S.faults_of script.new)) result (world_of_text text.now) (S.left script.old) (S.left script.new) (O.written out.old) (O.written out.new) }
     ensures read_fault { result ≡ Ended.ReadFault → CountRose (S.faults_of script.old) (S.faults_of script.new) }
     ensures write_fault { result ≡ Ended.WriteFault → CountRose (O.faults_of out.old) (O.faults_of out.new) }
     ensures out_count { O.faults_of out.old ≤ O.faults_of out.new }

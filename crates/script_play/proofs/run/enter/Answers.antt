@@ -2,7 +2,9 @@ use Rattle.std.proofs.Common.{◌∙◌, ap}
 use Rattle.campaign_law.specs.declared.answer.Answer.{Answer}
 use Rattle.campaign_law.specs.Law.{world_of}
 use Rattle.script_play.specs.Played.{entries_since}
-use Rattle.script_play.proofs.AfterEntry.{entered_written, nothing_since, prefix_none, wrote_nothing}
+use Rattle.script_play.proofs.AfterEntry.{entered_written, nothing_since, prefix_none}
+use Rattle.script_play.specs.declared.run.Played.TheVariants.{Memory}
+use Rattle.script_play.proofs.Fronts.{wrote_nothing}
 use Rattle.script_play.proofs.run.enter.Goals as goal
 
 pub returns-in-Ok-clause-written : goal.returns-in-Ok-clause-written
@@ -15,4 +17,4 @@ pub returns-clause-stopped : goal.returns-clause-stopped
 returns-clause-stopped g c = prefix_none _ _ (ap (entries_since c.args.campaign.now) c.in-Err.ensures.unchanged ∙ nothing_since c.args.campaign.now)
 
 pub returns-clause-written : goal.returns-clause-written
-returns-clause-written g c = wrote_nothing (world_of c.args.campaign.now) _ _ (ap (entries_since c.args.campaign.now) c.in-Err.ensures.unchanged ∙ nothing_since c.args.campaign.now)
+returns-clause-written g c = wrote_nothing Memory (world_of c.args.campaign.now) _ _ (ap (entries_since c.args.campaign.now) c.in-Err.ensures.unchanged ∙ nothing_since c.args.campaign.now)

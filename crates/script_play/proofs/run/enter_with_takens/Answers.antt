@@ -15,7 +15,7 @@ returns-in-Ok-clause-stopped g c =
 
 pub returns-in-Ok-clause-written : goal.returns-in-Ok-clause-written
 returns-in-Ok-clause-written g c =
-    takens_written c.enter_all.result c.args.campaign.now c.enter.new.campaign c.enter_all.new.campaign c.args.entry c.in-Ok.due.items _ _ c.in-Ok.ensures.campaign c.enter_all.ensures.campaign c.in-Ok.ensures.entered c.in-Ok.ensures.due c.enter_all.ensures.entered c.enter_all.ensures.stopped c.enter_all.ensures.stop c.in-Ok.ensures.written
+    takens_written c.enter_all.result c.args.campaign.now c.enter.new.campaign c.enter_all.new.campaign c.args.entry c.in-Ok.due.items _ _ c.in-Ok.ensures.campaign c.enter_all.ensures.campaign c.in-Ok.ensures.entered c.in-Ok.ensures.due c.enter_all.ensures.entered c.enter_all.ensures.stopped c.in-Ok.ensures.written
 
 pub returns-in-Ok-clause-waits : goal.returns-in-Ok-clause-waits
 returns-in-Ok-clause-waits g c =

@@ -1,5 +1,6 @@
 use Rattle.std.proofs.Common.{◌∙◌, sym}
 use Rattle.campaign_law.specs.Law.{world_of}
+use Rattle.script_play.proofs.Fronts.{wrote_nothing}
 use Rattle.script_play.proofs.AfterEntry.{nothing_since, prefix_none}
 use Rattle.script_play.proofs.LineRuns.{line_played, bad_line_played, too_many_played}
 use Rattle.script_play.proofs.run.play_line.Goals as goal
@@ -19,3 +20,12 @@ returns-in-Ok-None-clause-entered g c =
 
 pub returns-in-Err-clause-entered : goal.returns-in-Err-clause-entered
 returns-in-Err-clause-entered g c = prefix_none _ _ (nothing_since c.args.campaign.now)
+
+pub returns-then-number-gt-LINE_LIMIT-clause-written : goal.returns-then-number-gt-LINE_LIMIT-clause-written
+returns-then-number-gt-LINE_LIMIT-clause-written g c = wrote_nothing _ _ _ _ (nothing_since c.args.campaign.now)
+
+pub returns-in-Ok-None-clause-written : goal.returns-in-Ok-None-clause-written
+returns-in-Ok-None-clause-written g c = wrote_nothing _ _ _ _ (nothing_since c.args.campaign.now)
+
+pub returns-in-Err-clause-written : goal.returns-in-Err-clause-written
+returns-in-Err-clause-written g c = wrote_nothing _ _ _ _ (nothing_since c.args.campaign.now)

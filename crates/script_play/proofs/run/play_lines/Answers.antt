@@ -1,14 +1,11 @@
 use Rattle.std.proofs.Common.{◌≡◌, ◌∷◌, [], ◌∙◌, ap, sym, subst, arith, true, false}
-use Rattle.std.specs.Io.KnownBytes.{append_known}
 use Rattle.line_io.specs.declared.lines.NextLine.TheVariants.{Line, End, ReadFault as ReaderFault}
 use Rattle.line_io.specs.ReaderState.{ReaderState}
-use Rattle.line_io.proofs.ToldLemmas.{append_known-nil}
 use Rattle.campaign_law.specs.Law.{world_of}
-use Rattle.script_play.specs.declared.run.Played.TheVariants.{Done}
+use Rattle.script_play.specs.declared.run.Played.TheVariants.{Done, ReadFault, TooLarge, Memory}
 use Rattle.script_play.specs.Script.{script_from}
-use Rattle.script_play.specs.Tagged.{tagged}
 use Rattle.script_play.specs.Played.{HasEntered, entries_since}
-use Rattle.script_play.proofs.Fronts.{wrote_all}
+use Rattle.script_play.proofs.Fronts.{all_written, wrote_nothing}
 use Rattle.script_play.proofs.AfterEntry.{stays, nothing_since}
 use Rattle.script_play.proofs.LineRuns.{goes_both}
 use Rattle.script_play.proofs.WholeRuns.{not_so, starts, goes_on_line, stops_at, done_at, too_long_at, fault_at, read_to_fault, memory_at, written_on, meets_end}
@@ -17,11 +14,10 @@ use Rattle.script_play.proofs.run.play_lines.Goals as goal
 pub lines-init : goal.lines-init
 lines-init g c =
     let old = c.args.campaign.now in
-    let written = g.O.Sink.written c.args.out.now in
     record {
       campaign = stays old;
       quiet = c.requires.quiet;
-      written = sym (ap (λ es. append_known written (tagged (world_of old) es)) (nothing_since old) ∙ append_known-nil written);
+      written = wrote_nothing Done (world_of old) _ _ (nothing_since old);
       came = starts old 4112 c.args.reader.now (g.S.Source.left c.args.script.now) c.requires.reader;
       at_end = λ h. let z : true ≡ false = sym h ∙ ap (λ (r : ReaderState). r.ended) c.requires.reader in cc;
       cap = ap (λ (r : ReaderState). r.cap) c.requires.reader;
@@ -69,7 +65,7 @@ pub returns-in-Memory-clause-entered : goal.returns-in-Memory-clause-entered
 returns-in-Memory-clause-entered g c = memory_at c.args.campaign.now c.lines.campaign c.lines.number c.lines.reader.cap c.lines.reader.ended c.next.new.self _ _ _ c.lines.invariant.came c.in-Memory.ensures.answer
 
 pub returns-in-Memory-clause-written : goal.returns-in-Memory-clause-written
-returns-in-Memory-clause-written g c = wrote_all (world_of c.args.campaign.now) (entries_since c.args.campaign.now c.lines.campaign) _ _ c.lines.invariant.written
+returns-in-Memory-clause-written g c = all_written Memory _ _ _ _ c.lines.invariant.written
 
 pub returns-in-Err-clause-entered : goal.returns-in-Err-clause-entered
 returns-in-Err-clause-entered g c =
@@ -82,3 +78,9 @@ returns-in-Err-clause-entered g c =
 pub returns-in-Err-clause-written : goal.returns-in-Err-clause-written
 returns-in-Err-clause-written g c =
     written_on c.in-Err.stop c.args.campaign.now c.lines.campaign c.play_line.new.campaign _ (g.O.Sink.written c.lines.out) _ c.lines.invariant.campaign c.in-Err.ensures.campaign c.lines.invariant.written c.in-Err.ensures.written
+
+pub returns-in-TooLong-clause-written : goal.returns-in-TooLong-clause-written
+returns-in-TooLong-clause-written g c = all_written TooLarge _ _ _ _ c.lines.invariant.written
+
+pub returns-in-ReadFault-clause-written : goal.returns-in-ReadFault-clause-written
+returns-in-ReadFault-clause-written g c = all_written ReadFault _ _ _ _ c.lines.invariant.written

@@ -1,11 +1,11 @@
 use Rattle.std.proofs.Common.{◌≡◌, ◌≤◌, ◌-◌, true}
-use Rattle.std.specs.Io.KnownBytes.{append_known, IsAtEnd}
+use Rattle.std.specs.Io.KnownBytes.{IsAtEnd}
 use Rattle.line_io.specs.Reader.{bytes_to_come}
 use Rattle.line_io.specs.Told.{WhereTold}
 use Rattle.campaign_law.specs.Law.{world_of}
 use Rattle.script_play.specs.Script.{NothingWaits}
-use Rattle.script_play.specs.Tagged.{tagged}
-use Rattle.script_play.specs.Played.{GoesOn, entries_since}
+use Rattle.script_play.specs.declared.run.Played.TheVariants.{Done}
+use Rattle.script_play.specs.Played.{GoesOn, HasWritten, entries_since}
 use Rattle.script_play.proofs.WholeRuns.{CameTo}
 use Rattle.script_play.proofs.run.play_lines.Given as goal
 
@@ -13,7 +13,7 @@ abbrev pub invariant-lines : goal.invariant-lines
 invariant-lines g l = record {
   campaign : GoesOn l.fn.campaign l.campaign;
   quiet : NothingWaits (world_of l.campaign);
-  written : g.O.Sink.written l.out ≡ append_known (g.O.Sink.written l.fn.out) (tagged (world_of l.fn.campaign) (entries_since l.fn.campaign l.campaign));
+  written : HasWritten Done (world_of l.fn.campaign) (entries_since l.fn.campaign l.campaign) (g.O.Sink.written l.fn.out) (g.O.Sink.written l.out);
   came : WhereTold (g.S.Source.left l.fn.script) (bytes_to_come l.reader (g.S.Source.left l.script)) (CameTo l.fn.campaign l.campaign l.number l.reader.ended);
   at_end : l.reader.ended ≡ true → IsAtEnd (g.S.Source.left l.script);
   cap : l.reader.cap ≡ 4112;

@@ -7,6 +7,7 @@ use Rattle.script_play.specs.Script.{takens_below, takens, taken_of}
 use Rattle.script_play.specs.Tagged.{tagged_lines}
 use Rattle.script_play.specs.Sending.{sent_below, reply_to, waiting_lines}
 use Rattle.script_play.proofs.EntryLines.{seats_of_replay}
+use Rattle.script_play.proofs.WholeLines.{sent_whole}
 use Rattle.script_play.proofs.SendingLemmas.{stops_behind, sent_from, sent_next, takens_next}
 use Rattle.script_play.proofs.sending.send_all.Goals as goal
 
@@ -32,7 +33,7 @@ returns-in-Err-clause-sends g c =
     let end : n < length c.args.campaign.now.origin.seats = omega (arith, c.loop-number-test.true, c.seat_count-number-end.ensures.value) in
     let x = sent_from c.args.campaign.now c.args.acting c.args.reply.now n _ end in
     stops_behind c.in-Err.stop _ _ _ (sent_below c.args.campaign.now c.args.acting c.args.reply.now n) (tagged_lines n (reply_to c.args.acting n c.args.reply.now ++ waiting_lines c.args.campaign.now n)) x.more _
-    c.loop-number.invariant.written c.in-Err.ensures.sends x.is
+    (sent_whole c.args.campaign.now c.args.acting c.args.reply.now n) c.loop-number.invariant.written c.in-Err.ensures.sends x.is
 
 pub returns-clause-takens : goal.returns-clause-takens
 unfolding takens

@@ -3,12 +3,12 @@ use Rattle.tabletop.proofs.EndsLemmas.{run_ended, usage_if, usage_only, read_fau
 use Rattle.tabletop.proofs.top.tabletop.Goals as goal
 
 pub returns-clause-ends : goal.returns-clause-ends
-returns-clause-ends g c = run_ended c.status_of.result c.job-ended.result c.print_last_line.result _ _ _ _ _ _ _ _ _ _ c.status_of.ensures c.print_last_line.ensures.ended c.job-ended.ensures.ends c.job-ended.ensures.out_count c.print_last_line.ensures.line
+returns-clause-ends g c = run_ended _ _ c.status_of.result c.job-ended.result c.print_last_line.result _ _ _ _ _ _ _ _ _ _ c.status_of.ensures c.print_last_line.ensures.ended c.job-ended.ensures.ends c.job-ended.ensures.out_count c.print_last_line.ensures.line
 
 pub returns-clause-usage : goal.returns-clause-usage
 returns-clause-usage g c =
-    let h = run_ended c.status_of.result c.job-ended.result c.print_last_line.result _ _ _ _ _ _ _ _ _ _ c.status_of.ensures c.print_last_line.ensures.ended c.job-ended.ensures.ends c.job-ended.ensures.out_count c.print_last_line.ensures.line in
-    (usage_if _ _ _ _ _ _ _ _ h, usage_only _ _ _ _ _ _ _ _ h)
+    let h = run_ended _ _ c.status_of.result c.job-ended.result c.print_last_line.result _ _ _ _ _ _ _ _ _ _ c.status_of.ensures c.print_last_line.ensures.ended c.job-ended.ensures.ends c.job-ended.ensures.out_count c.print_last_line.ensures.line in
+    (usage_if _ _ _ _ _ _ _ _ _ _ h, usage_only _ _ _ _ _ _ _ _ _ _ h)
 
 pub returns-clause-read_fault : goal.returns-clause-read_fault
 returns-clause-read_fault g c = λ e. c.job-ended.ensures.read_fault (read_fault_of c.status_of.result c.job-ended.result c.print_last_line.result c.status_of.ensures c.print_last_line.ensures.ended e)
@@ -18,8 +18,8 @@ returns-clause-write_fault g c = λ e. count_before _ _ _ c.print_last_line.ensu
 
 pub returns-clause-complete : goal.returns-clause-complete
 returns-clause-complete g c =
-    let h = run_ended c.status_of.result c.job-ended.result c.print_last_line.result _ _ _ _ _ _ _ _ _ _ c.status_of.ensures c.print_last_line.ensures.ended c.job-ended.ensures.ends c.job-ended.ensures.out_count c.print_last_line.ensures.line in
+    let h = run_ended _ _ c.status_of.result c.job-ended.result c.print_last_line.result _ _ _ _ _ _ _ _ _ _ c.status_of.ensures c.print_last_line.ensures.ended c.job-ended.ensures.ends c.job-ended.ensures.out_count c.print_last_line.ensures.line in
     λ campaign text origin t small is s d no_desk no_script no_out.
-    completes c.status_of.result (g.D.Desk.text_of c.args.desk.now) _ _ _ _ _ _ campaign text origin h t small is s d
+    completes c.status_of.result (g.D.Desk.text_of c.args.desk.now) _ _ _ _ _ _ _ _ campaign text origin h t small is s d
     (λ e. elim (c.job-ended.ensures.read_fault (read_fault_of c.status_of.result c.job-ended.result c.print_last_line.result c.status_of.ensures c.print_last_line.ensures.ended e)) [ inl desk ↦ no_desk desk | inr script ↦ no_script script ])
     (λ e. no_out (count_before _ _ _ c.print_last_line.ensures.count (c.job-ended.ensures.write_fault (write_fault_of c.status_of.result c.job-ended.result c.print_last_line.result c.status_of.ensures c.print_last_line.ensures.ended e))))
