@@ -16,8 +16,8 @@ use campaign_core::{Campaign, OpenFault};
 use line_io::{Desk, DeskFault, Sink, Source, write_whole};
 use names::{LineText, Memory};
 use script_play::{Played, play};
-use std::alloc::Global;
 use sight_sweep::SweepEye;
+use std::alloc::Global;
 
 /// Does what the words ask for and gives the program's status. `play FILE` plays the script on the
 /// campaign of that file and writes the lines that it sends. After a stop the last line says why. A fault
