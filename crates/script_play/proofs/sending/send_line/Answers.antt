@@ -1,11 +1,11 @@
-use Rattle.std.proofs.Common.{◌∙◌, subst}
+use Rattle.std.proofs.Common.{◌≡◌, ◌∙◌, subst}
 use Rattle.script_play.specs.declared.run.Played.TheVariants.{Memory, WriteFault}
 use Rattle.script_play.specs.Sending.{WroteFront}
 use Rattle.script_play.proofs.SendingLemmas.{front_taken, stops_first}
 use Rattle.script_play.proofs.sending.send_line.Goals as goal
 
-pub returns-in-Err-clause-sends : goal.returns-in-Err-clause-sends
-returns-in-Err-clause-sends g c = stops_first Memory _ _ tt
+pub returns-in_default-clause-sends : goal.returns-in_default-clause-sends
+returns-in_default-clause-sends g c = stops_first Memory _ _ tt
 
 pub returns-clause-sends : goal.returns-clause-sends
 returns-clause-sends g c = record {

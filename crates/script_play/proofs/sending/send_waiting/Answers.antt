@@ -3,7 +3,8 @@ use Rattle.std.specs.List.{AllByRecursion, flat_map}
 use Rattle.std.specs.Io.KnownBytes.{append_known}
 use Rattle.script_play.specs.Tagged.{seat_tag, IsWholeLines}
 use Rattle.script_play.specs.Sending.{waiting_lines, WroteTill}
-use Rattle.script_play.proofs.SendingLemmas.{tagged_ended, ended_whole}
+use Rattle.script_play.specs.declared.run.Played.TheVariants.{Memory}
+use Rattle.script_play.proofs.SendingLemmas.{tagged_ended, ended_whole, stops_first}
 use Rattle.script_play.proofs.sending.send_waiting.Goals as goal
 
 pub returns-in-Ok-send_lines-clause-sends : goal.returns-in-Ok-send_lines-clause-sends
@@ -19,3 +20,6 @@ returns-clause-sends g c =
     subst (λ t. WroteTill c.in-Err.stop (g.O.Sink.written c.args.out.now) t (g.O.Sink.written c.send_lines.new.out))
     (ap (flat_map (λ line. seat_tag c.args.seat ++ line)) (c.deref.ensures.value ∙ c.in-Ok.ensures) ∙ tagged_ended c.args.seat (waiting_lines c.args.campaign.now c.args.seat))
     c.in-Err.ensures.sends
+
+pub returns-in_default-clause-sends : goal.returns-in_default-clause-sends
+returns-in_default-clause-sends g c = stops_first Memory _ _ tt
