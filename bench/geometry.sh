@@ -1,12 +1,13 @@
 #!/usr/bin/env bash
-# Prints the microseconds that each eye takes for a field on the drill's map (96 by 96 cells, 600 walls, 40 eyes; seeds 7,
-# 1, 2, 3 and 4): median, least and greatest of the rounds of one run. Then the time of 10,000 joins of sets of that size.
+# Prints the microseconds of processor time that each eye takes for a field on the drill's map (96 by 96 cells, 600 walls,
+# 40 eyes; seeds 7, 1, 2, 3 and 4): median, least and greatest of five rounds of one run, in which the eyes take turns. Then
+# the time of 10,000 joins of sets of that size.
 #
-# The program is geometry.txt: a throw-away crate is made of it beside copies of the crates, proved, built and run. It has
-# the time of the clock, so run it on a machine with nothing else to do.
+# The program is geometry.txt: a throw-away crate is made of it beside copies of the crates, proved, built and run.
 #
-# YARDSTICK names a folder with unverified programs that do the same, of which fov/ is built (by g++) and run in the same
-# run: shadow painting and sweeps in C++, in processor time. Without it the eyes are measured alone.
+# YARDSTICK names a folder with unverified programs that do the same, of which fov/ is built (by g++; two of its ways want a
+# processor with AVX-512) and run in the same run: shadow painting and sweeps in C++, in processor time as well. Without it
+# the eyes are measured alone.
 set -eu
 root=$(cd "$(dirname "$0")/.." && pwd)
 work=$(mktemp -d)
@@ -29,12 +30,31 @@ abbrev pub invariant-joins : goal.invariant-joins
 invariant-joins l = l.all.extent ≡ l.other.extent
 PROOF
 cp "$root/bench/geometry.txt" "$crate/src/main.rt"
+# The run that `rt run` makes has no words, and prints the time of joins.
 (cd "$crate" && rt run) >"$work/log" 2>&1 || { cat "$work/log"; exit 1; }
+program=$crate/out/bench_geometry
 
-# Lines 'eye NAME TIMES NANOSECONDS CELLS', each of 40 eyes TIMES over.
-awk '$1 == "eye" { printf "%s %.2f %.1f\n", $2, $4 / $3 / 40000, $5 / 40 }' "$work/log" | sort -k1,1 -k2,2n | awk '
-    function show() { printf "%-38s %10.2f %10.2f %10.2f %9.1f\n", name, us[int((n + 1) / 2)], us[1], us[n], cells / n }
-    BEGIN { printf "%-38s %10s %10s %10s %9s\n", "eye", "median", "least", "greatest", "cells" }
+# The seconds of processor time of one run: NAME SEED TIMES.
+TIMEFORMAT=%U
+seconds() {
+    { time "$program" "$@" >"$work/cells"; } 2>&1
+}
+
+# Lines 'NAME MICROSECONDS CELLS', without the time that making the map takes.
+for round in 1 2 3 4 5; do
+    for seed in 7 1 2 3 4; do
+        base=$(seconds none "$seed" 0)
+        for eye in PlainEye:2 PaintEye:50 SweepEye:50; do
+            name=${eye%:*} times=${eye#*:}
+            took=$(seconds "$name" "$seed" "$times")
+            awk -v name="$name" -v took="$took" -v base="$base" -v times="$times" \
+                '{ printf "%s %.2f %.1f\n", name, (took - base) * 1000000 / (times * 40), $1 / 40 }' "$work/cells"
+        done
+    done
+done >"$work/rounds"
+sort -k1,1 -k2,2n "$work/rounds" | awk '
+    function show() { printf "%-38s %10.2f %10.2f %10.2f %17.1f\n", name, us[int((n + 1) / 2)], us[1], us[n], cells / n }
+    BEGIN { printf "%-38s %10s %10s %10s %17s\n", "eye", "median", "least", "greatest", "cells" }
     $1 != name { if (n) show(); name = $1; n = 0; cells = 0 }
     { us[++n] = $2; cells += $3 }
     END { if (n) show() }'
@@ -64,4 +84,4 @@ CPP
 make -s OUT=built built/plain.o built/sweep.o built/paint.o built/paint512.o built/depth512.o built/main_bench.o >make.log 2>&1 ||
     { cat make.log; exit 1; }
 g++ -O2 -std=c++17 -o built/bench left_out.cpp built/*.o
-built/bench 9 7 1 2 3 4 | grep -E '^(body|a |b[0-9])'
+built/bench 5 7 1 2 3 4 | grep -E '^(body|a |b[0-9])'
