@@ -1,5 +1,7 @@
 //! Runs on the zero seed, whose first words show 14 and 12 as dice of twenty sides, worked out apart from this program.
 
+ghost use Rattle.std.specs.Prelude.{◌≡◌, ◌≤◌, IfOk};
+
 use crate::{FaultKind, MacroStop, Outcome, Readable, run};
 use chat::To;
 use macro_parse::read_macro;
@@ -16,7 +18,9 @@ fn ran(
     seat: u8,
     to: To,
     stream: &mut SeatStream,
-) -> Result<Outcome, MacroStop> {
+) -> Result<Outcome, MacroStop>
+    requires { readable.now.seats ≤ 33 }
+{
     let Ok(read) = read_macro(alloc, text) else {
         return Err(MacroStop::Memory);
     };
@@ -31,7 +35,9 @@ fn ran(
 }
 
 /// What seat 1 gets of what it runs to itself, or why the run stops.
-fn to_self(alloc: Global, text: &str, readable: &Readable) -> Result<String, MacroStop> {
+fn to_self(alloc: Global, text: &str, readable: &Readable) -> Result<String, MacroStop>
+    requires { readable.now.seats ≤ 33 }
+{
     let mut stream = SeatStream::new([0; 32], 0);
     let outcome = ran(alloc, text, readable, 1, To::SelfOnly, &mut stream)?;
     let Some(own) = outcome.texts.list.get(1) else {
@@ -44,7 +50,9 @@ fn to_self(alloc: Global, text: &str, readable: &Readable) -> Result<String, Mac
 }
 
 /// A table in which `1:ann` has a Public and an Own property.
-fn table(rt: &HostRuntime) -> Result<Readable, Fail> {
+fn table(rt: &HostRuntime) -> Result<Readable, Fail>
+    ensures { IfOk result (λ table. table.seats ≡ 3) }
+{
     let ann = TokenId::read(b"1:ann")?;
     let mut readable = Readable::new(rt.alloc(), 3);
     readable.put(
