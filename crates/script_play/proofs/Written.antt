@@ -1,5 +1,5 @@
 -- A player's lines in what was written are those that it is sent, or the first of them.
-use Rattle.std.proofs.Common.{◌≡◌, ℕ, suc, ◌≤◌, Bool, true, false, cond, eqb, List, [], ◌∷◌, ◌++◌, Some, None, refl, sym, ◌∙◌, ap, subst, append_assoc, ◌⊎◌, inl, inr}
+use Rattle.std.proofs.Common.{◌≡◌, ℕ, ◌≤◌, Bool, true, false, cond, eqb, List, [], ◌∷◌, ◌++◌, Some, None, refl, sym, ◌∙◌, ap, subst, append_assoc, ◌⊎◌, inl, inr}
 use Rattle.std.specs.Prelude.{Option, unwrap_or}
 use Rattle.std.specs.List.{filter_map, cons_option}
 use Rattle.std.proofs.lemmas.List.{append-nil}
@@ -111,8 +111,10 @@ kept_within tag lines whole p own h = by own h
   where
     some : (own : Option (List ℕ)) → behind tag p.front ≡ own → filter_map (behind tag) lines ≡ filter_map (behind tag) p.first ++ cons_option own []
     some own h = ap (filter_map (behind tag)) p.lines_are ∙ filter_map-append (behind tag) p.first (p.front ∷ []) ∙ ap (λ o. filter_map (behind tag) p.first ++ cons_option o []) h
+
     all : filter_map (behind tag) whole ≡ filter_map (behind tag) p.first ++ cons_option (behind tag p.next) (filter_map (behind tag) p.rest)
     all = ap (filter_map (behind tag)) p.whole_is ∙ filter_map-append (behind tag) p.first (p.next ∷ p.rest)
+
     by : (own : Option (List ℕ)) → behind tag p.front ≡ own → MayEndWithin (filter_map (behind tag) lines) (filter_map (behind tag) whole)
     by None h = inl (record {
       rest = cons_option (behind tag p.next) (filter_map (behind tag) p.rest);
