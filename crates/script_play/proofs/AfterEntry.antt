@@ -13,7 +13,7 @@ use Rattle.campaign_law.proofs.Lists.{ap₂}
 use Rattle.campaign_law.proofs.Sessions.{IsKept, kept_at, replay_more, session_more, seat_at-after}
 use Rattle.campaign_law.proofs.Seats.{IsSound}
 use Rattle.script_play.specs.Script.{entry_of, joining_key, NothingWaits}
-use Rattle.script_play.specs.Tagged.{tagged_lines, entry_text_below, entry_text, tagged}
+use Rattle.script_play.specs.Tagged.{tagged_lines, entry_text_below, entry_text}
 use Rattle.script_play.specs.Sending.{untaken, waiting_lines, reply_to, sent_below, WroteFront, Sends}
 use Rattle.script_play.specs.Played.{IsOfLine, IsPrefix, GoesOn, entries_since, HasAllButLast, HasWritten, played}
 use Rattle.script_play.specs.declared.run.Played.{Played}
