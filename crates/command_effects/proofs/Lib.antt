@@ -4,3 +4,5 @@ pub mod GmAllowed
 pub mod Allowed
 pub mod GmCommands
 pub mod Players
+pub mod NewTags
+pub mod KeptScenes
