@@ -6,3 +6,4 @@ pub mod GmCommands
 pub mod Players
 pub mod NewTags
 pub mod KeptScenes
+pub mod Following

@@ -6,3 +6,4 @@ pub mod Settle
 pub mod Allowed
 pub mod Seen
 pub mod Orders
+pub mod Follows
