@@ -1,11 +1,11 @@
 -- A client that reads the lines of its seat holds what the seat is shown.
-use Rattle.std.proofs.Common.{◌≡◌, ℕ, Bool, true, false, cond, ◌||◌, ◌&&◌, eqb, List, [], ◌∷◌, ◌++◌, length, Some, None, refl, sym, ◌∙◌, ap, subst}
+use Rattle.std.proofs.Common.{◌≡◌, ℕ, Bool, true, false, cond, ◌||◌, ◌&&◌, eqb, List, [], ◌++◌, length, Some, None, refl, sym, ◌∙◌, ap, subst}
 use Rattle.std.specs.Prelude.{Option, option_map, IfSome}
 use Rattle.std.proofs.lemmas.Bool.{eqb-true}
 use Rattle.views.specs.declared.view.View.{View}
 use Rattle.views.specs.declared.change.Change.{Change}
 use Rattle.views.specs.Same.{same_view}
-use Rattle.view_lines.specs.Lines.{full_line, change_line as line_of}
+use Rattle.view_lines.specs.Lines.{change_line as line_of}
 use Rattle.view_change.specs.Change.{change_of, difference, apply_change}
 use Rattle.view_change.proofs.ChangeLemmas.{none_if_same}
 use Rattle.player_view.specs.View.{view_of}
@@ -13,8 +13,8 @@ use Rattle.campaign_law.specs.declared.entry.Entry.{Entry}
 use Rattle.campaign_law.specs.Views.{change_line}
 use Rattle.campaign_law.specs.Seat.{Seat, was_joined, settled}
 use Rattle.campaign_law.specs.Outcome.{Outcome, seat_of}
-use Rattle.campaign_law.specs.World.{World, seat_at, asked_of, steps_of, outcome_of, scene_after, is_present, view_lines, some_to_list, queued_lines, changed, seat_after, step}
-use Rattle.campaign_law.specs.Client.{Told, full, change, told_line, told_by, told_of, view_with, held_after, reply_of, messages_of, LinesTellViews}
+use Rattle.campaign_law.specs.World.{World, seat_at, asked_of, steps_of, outcome_of, scene_after, is_present, view_lines, some_to_list, queued_lines, changed, step}
+use Rattle.campaign_law.specs.Client.{change, told_line, told_by, told_of, held_after, reply_of, LinesTellViews}
 use Rattle.campaign_law.proofs.Outcomes.{IsFit}
 use Rattle.campaign_law.proofs.Sessions.{seat_at-after}
 use Rattle.campaign_law.proofs.Seats.{joined_before}

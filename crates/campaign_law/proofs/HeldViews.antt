@@ -20,7 +20,7 @@ use Rattle.command_effects.proofs.Following.{scenes_follow}
 use Rattle.command_effects.proofs.Players.{players_kept}
 use Rattle.campaign_law.specs.declared.entry.Entry.{Entry}
 use Rattle.campaign_law.specs.Seat.{Seat, IsFreshSeat, was_joined}
-use Rattle.campaign_law.specs.Outcome.{Outcome, seat_of}
+use Rattle.campaign_law.specs.Outcome.{seat_of}
 use Rattle.campaign_law.specs.World.{World, seat_at, asked_of, steps_of, outcome_of, scene_after, is_present, step, replay}
 use Rattle.campaign_law.specs.Law.{IsOpening}
 use Rattle.campaign_law.specs.Worlds.{FitsTogether}

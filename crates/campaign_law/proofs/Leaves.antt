@@ -1,12 +1,11 @@
 -- A seat after a Leave.
-use Rattle.std.proofs.Common.{◌≡◌, ℕ, Bool, true, false, cond, eqb, List, length, refl, sym, ◌∙◌, ap, subst, eq-eqb}
-use Rattle.std.specs.Prelude.{Option, Some, None, option_map, unwrap_or}
+use Rattle.std.proofs.Common.{◌≡◌, ℕ, Bool, true, false, cond, eqb, length, refl, sym, ap, subst, eq-eqb}
+use Rattle.std.specs.Prelude.{Option, Some, None, option_map}
 use Rattle.seats.specs.Book.{left, freed}
 use Rattle.seats.specs.SeatState.{is_free, is_joined, closed}
 use Rattle.seats.specs.declared.seat_state.SeatState.{SeatState}
 use Rattle.seats.specs.declared.seat_state.SeatState.TheVariants.{Free, Joined, Closing}
 use Rattle.player_view.specs.View.{view_of}
-use Rattle.campaign_law.specs.declared.entry.Entry.{Entry}
 use Rattle.campaign_law.specs.declared.entry.Entry.TheVariants.{Leave}
 use Rattle.campaign_law.specs.Seat.{Seat, freed_seat, is_let_go, settled}
 use Rattle.campaign_law.specs.Outcome.{Outcome, nothing, outcome_at}

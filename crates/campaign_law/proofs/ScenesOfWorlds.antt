@@ -1,10 +1,9 @@
 -- The parts of the scene of each world of a replay fit together, and its tables are in order.
-use Rattle.std.proofs.Common.{◌≡◌, ℕ, suc, ◌+◌, ◌≤◌, ◌<◌, List, [], ◌∷◌, length, map, Some, None, refl, sym, ◌∙◌, ap, arith}
+use Rattle.std.proofs.Common.{◌≡◌, ℕ, suc, ◌≤◌, ◌<◌, List, [], ◌∷◌, length, map, Some, None, refl, ap, arith}
 use Rattle.std.specs.Prelude.{Option}
 use Rattle.command_json.specs.declared.command.Command.{Command}
 use Rattle.command_effects.specs.Effects.{scene_by}
 use Rattle.player_view.specs.Tables.{HasTables}
-use Rattle.command_effects.specs.Settle.{settled}
 use Rattle.command_effects.proofs.KeptScenes.{scene_kept, settled_kept}
 use Rattle.campaign_law.specs.declared.entry.Entry.{Entry}
 use Rattle.campaign_law.specs.Seat.{Seat}

@@ -1,23 +1,22 @@
 -- The laws of one session, along a history.
-use Rattle.std.proofs.Common.{◌≡◌, ℕ, zero, suc, ◌≤◌, ◌<◌, ◌+◌, Bool, true, false, cond, ◌||◌, ◌&&◌, eqb, List, [], ◌∷◌, ◌++◌, length, take, drop, slice_get, refl, sym, ◌∙◌, ap, subst, arith, append_assoc, length-append, max, min, ◌⊎◌, inl, inr}
+use Rattle.std.proofs.Common.{◌≡◌, ℕ, zero, suc, ◌≤◌, ◌<◌, ◌+◌, Bool, true, false, cond, ◌||◌, eqb, List, [], ◌∷◌, ◌++◌, length, take, drop, slice_get, refl, sym, ◌∙◌, ap, subst, arith, length-append, ◌⊎◌, inl, inr}
 use Rattle.std.specs.Prelude.{Option, Some, None, option_map, IfSome}
 use Rattle.std.proofs.lemmas.List.{take-append-drop, length-take, drop_all, take_all}
-use mathlib.Core.List.{IsPrefix}
 use Rattle.seats.specs.SeatState.{is_free}
 use Rattle.seats.specs.declared.seat_state.SeatState.{SeatState}
 use Rattle.player_view.specs.View.{view_of}
 use Rattle.campaign_law.specs.declared.entry.Entry.{Entry}
-use Rattle.campaign_law.specs.declared.entry.Entry.TheVariants.{Join, Line, Leave, Taken}
+use Rattle.campaign_law.specs.declared.entry.Entry.TheVariants.{Join, Taken}
 use Rattle.campaign_law.specs.Seat.{Seat, freed_seat, is_let_go}
-use Rattle.campaign_law.specs.Outcome.{Outcome, seat_of}
+use Rattle.campaign_law.specs.Outcome.{seat_of}
 use Rattle.campaign_law.specs.World.{World, seat_at, outcome_of, changed, queued_lines, scene_after, seat_after, step, replay}
 use Rattle.campaign_law.specs.Law.{IsOpening}
 use Rattle.campaign_law.specs.Session.{queued_of, session, standing, standing_after, is_held_by, is_drop_of, session_at, is_freed_by, has_ended, DropsNone, TakesAtMost, IsSeated, NoneRejoins}
 use Rattle.campaign_law.proofs.Seats.{grown}
-use Rattle.campaign_law.proofs.Sessions.{IsKept, kept_at, seat_at-after, replay_more}
-use Rattle.campaign_law.proofs.SessionFronts.{session_stays, session_grows, session_is_present}
+use Rattle.campaign_law.proofs.Sessions.{IsKept, kept_at, seat_at-after}
+use Rattle.campaign_law.proofs.SessionFronts.{session_stays, session_is_present}
 use Rattle.campaign_law.proofs.Turns.{Turns, seat_turns, remains, comes, free_held}
-use Rattle.campaign_law.proofs.SessionEnds.{Next, next_of, ended_more, session_longer, taken_when_freed, none_while_free, AtMost, step_takes, free_takes, replay_next, within_take, ended_next, open_before, open_there, or_false, changed_takes}
+use Rattle.campaign_law.proofs.SessionEnds.{Next, next_of, session_longer, taken_when_freed, none_while_free, AtMost, step_takes, free_takes, replay_next, within_take, ended_next, open_before, open_there, changed_takes}
 
 -- ---- how a seat stands after an entry
 
