@@ -54,7 +54,7 @@ unfolding scene_by gm_scene_by test
 written_after steps seat s (Move token path) is all = steps_are steps token path (own_token s seat token) s all
 written_after steps seat s (Setprop token class name value) is all = changed_is (with_prop class name value) (prop_keeps class name value) token s all
 written_after steps seat s (Light token light) is all = changed_is (with_light light) (λ u. (refl, refl)) token s all
-written_after steps seat s (Make tag map place name) is all = made_is (players_token seat tag map place name) s (written (length name) 1 is (omega arith) (omega arith)) all
+written_after steps seat s (Make tag map place name) is all = made_is (players_token seat tag map place name) s (written (length name) 1 is.0 (omega arith) (omega arith)) all
 written_after steps seat s (Remove token) is all = all_without test token s.tokens all
 written_after steps seat s (Token tag map place name size layer) is all = made_is (new_token seat tag map place name (coordinate size) layer 0) s (written (length name) (coordinate size) is.0 (sized size is.1).0 (sized size is.1).1) all
 written_after steps seat s (Own token owner on) is all = changed_is (owned_by owner on) (λ u. (refl, refl)) token s all

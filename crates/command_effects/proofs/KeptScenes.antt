@@ -10,7 +10,7 @@ use Rattle.names.specs.declared.kinds.PropClass.TheVariants.{Secret as SecretCla
 use Rattle.names.specs.declared.token_id.TokenId.{TokenId}
 use Rattle.cells.specs.Cells.{Cells, Extent}
 use Rattle.cells.specs.declared.cell.Cell.{Cell}
-use Rattle.fog_book.specs.Exposures.{blank_sets, with_each_seen, with_map as with_fog_of_map}
+use Rattle.fog_book.specs.Exposures.{with_each_seen, with_map as with_fog_of_map}
 use Rattle.fog_book.specs.Rects.{with_rect}
 use Rattle.fog_book.proofs.Adding.{adds_after}
 use Rattle.maps.specs.Maps.{Grid, new_map, with_map, has_map, with_mode, shown_if as map_shown_if, with_letters, walled}
@@ -119,7 +119,7 @@ no_map maps name none = by (has_map name maps) (if nat_le 8 (length maps) then S
 
 new_map_kept : (s : Scene) (name : List ℕ) (size : Extent) → map_fault s.maps name ≡ None → HasTables s → HasTables (with_new_map name size s)
 new_map_kept s name size none is = record {
-  fitting = IsScene-map_added s (with_map (new_map name size) s.maps) (with_fog_of_map s.fog name size) name size refl refl (adds_after name size s.fog s.fog.players s.fog.sets (with_fog_of_map s.fog name size).sets (blank_sets s.fog.players name size) refl refl refl) none is.fitting;
+  fitting = IsScene-map_added s (with_map (new_map name size) s.maps) (with_fog_of_map s.fog name size) name size refl refl (adds_after name size s.fog s.fog.players s.fog.sets (with_fog_of_map s.fog name size).sets refl refl) none is.fitting;
   maps = in_order-with_map (new_map name size) s.maps (no_map s.maps name none) is.maps;
   tokens = is.tokens;
   lights = is.lights;

@@ -74,7 +74,8 @@ fn free_steps(
 ) -> Result<usize, Memory>
     requires start { fits map.now.walls.extent token.now.cell token.now.size ≡ true }
     requires path { list_all (fits_at_lem map.now.walls.extent token.now.size) path.now ≡ true }
-    ensures { IfOk result (λ n. n ≡ free_steps_lem map.now.walls token.now.size token.now.cell path.now) }
+    ensures value { IfOk result (λ n. n ≡ free_steps_lem map.now.walls token.now.size token.now.cell path.now) }
+    ensures most { IfOk result (λ n. n ≤ length path.now) }
 {
     let eyes = eyes_along(alloc, map, token, path)?;
     Ok(map.walls().first_block(&eyes).unwrap_or(path.len()))
@@ -106,7 +107,8 @@ fn move_steps(
     path: &CellPath,
 ) -> Result<usize, Memory>
     requires { MayMove scene.now seat token path.now }
-    ensures { IfOk result (λ n. n ≡ steps_with_lem scene.now seat path.now (own_token scene.now seat token)) }
+    ensures value { IfOk result (λ n. n ≡ steps_with_lem scene.now seat path.now (own_token scene.now seat token)) }
+    ensures most { IfOk result (λ n. n ≤ length path.now) }
 {
     let Some(token) = mine(scene, seat, token) else {
         unreachable!();
@@ -236,10 +238,8 @@ pub fn steps_by(
     let _told = told(scene);
     match command {
         Command::Move { token, path } => {
-            match u32::try_from(move_steps(alloc, scene, seat, *token, path)?) {
-                Ok(steps) => Ok(steps),
-                Err(_) => Err(Memory),
-            }
+            // A path has 64 cells at most.
+            Ok(move_steps(alloc, scene, seat, *token, path)? as u32)
         }
         _ => Ok(0),
     }

@@ -15,7 +15,7 @@ use command_json::{CellPath, Command};
 use maps::GridMap;
 use names::{PropClass, SeatNo, Tag, TokenId};
 use player_view::{has_light, is_exposed, known, mine};
-use seats::SeatBook;
+use seats::{SeatBook, most_tags};
 use tokens::{Props, Token};
 use world::Scene;
 
@@ -141,8 +141,7 @@ fn light_rule(scene: &Scene, seat: SeatNo, token: TokenId, light: Option<Tag>) -
 fn tags_spent(seat: SeatNo, book: &SeatBook) -> bool
     ensures { result ≡ tags_spent_lem seat book.now.tags }
 {
-    let most = if seat.number() == 0 { 2048 } else { 16 };
-    book.tag_count() >= most
+    book.tag_count() >= most_tags(seat)
 }
 
 fn cell_rule(
@@ -209,7 +208,7 @@ fn by_scene(scene: &Scene, seat: SeatNo, book: &SeatBook, command: &Command) -> 
     ensures { result ≡ by_scene_lem book.now.tags command.now (if is_gm seat then Some scene.now else None) }
 {
     if seat.number() == 0 {
-        gm_rule(scene, book, command)
+        gm_rule(scene, seat, book, command)
     } else {
         Some(Refusal::GmOnly)
     }
