@@ -44,8 +44,29 @@ pub none_is : (seat : ℕ) (acts : Bool) (o : Outcome) (v v' : View) (post : Pos
 none_is seat true o v v' post sound idle none = cc
 none_is seat false o v v' post sound idle none = sym (rests seat o v v' post sound none)
 
+own_cond : (acts : Bool) (book : Option Book) → (acts ≡ false → book ≡ None) → book ≡ cond acts book None
+own_cond true book own = refl
+own_cond false book own = own refl
+
+taken_same : (acts : Bool) (o : Outcome) (book : Option Book) (s : Seat) → (changed o acts s).taken ≡ (changed (record o { book = book }) acts s).taken
+taken_same true o book s = refl
+taken_same false o book s = refl
+
+-- where something was made, with this book
+pub some_own : (seat : ℕ) (acts : Bool) (o : Outcome) (book : Option Book) (v v' : View) (post : Post) (n : NextPost) → n.book ≡ book → (acts ≡ false → book ≡ None) → n.queued ≡ post.seat.queued + length n.lines.items
+    → n.taken ≡ (changed o acts post.seat).taken → n.lines.items ≡ queued_lines seat acts (Some post.seat) o v v' → moved n post ≡ post_by seat acts (with_book o book) v v' post
+unfolding with_book
+some_own seat acts o book v v' post n is own queued taken lines =
+    some_is seat acts (record o { book = book }) v v' post n (is ∙ own_cond acts book own) queued (taken ∙ taken_same acts o book post.seat) lines
+
+-- where nothing was made
+pub none_own : (seat : ℕ) (acts : Bool) (o : Outcome) (book : Option Book) (v v' : View) (post : Post) → IsSound post → acts ≡ false → queued_lines seat acts (Some post.seat) o v v' ≡ [] → post ≡ post_by seat acts (with_book o book) v v' post
+unfolding with_book
+none_own seat acts o book v v' post sound idle none = none_is seat acts (record o { book = book }) v v' post sound idle none
+
 -- the book of the seat that acts is asked for it alone
 pub own_post : (seat : ℕ) (acts : Bool) (o : Outcome) (own book : Option Book) (v v' : View) (post : Post) → own ≡ cond acts book None → post_by seat acts (with_book o own) v v' post ≡ post_by seat acts (with_book o book) v v' post
+unfolding with_book
 own_post seat true o own book v v' post is = ap (λ b. post_by seat true (with_book o b) v v' post) is
 own_post seat false o own book v v' post is = refl
 

@@ -107,3 +107,9 @@ made_is places before kept stage s made is at fits = subst (IsMade places before
 
 pub if_is : {A : Type 0} (o : Option A) (a : A) (P : A → Type 0) → o ≡ Some a → P a → IfSome o P
 if_is o a P is h = subst (λ x. IfSome x P) (sym is) h
+
+-- ---- by the course
+
+-- the same of the entry that is staged
+pub if_staged : (stage : Option Entry) (e : Entry) (P : Entry → Type 0) → Some e ≡ stage → P e → IfSome stage P
+if_staged stage e P is h = subst (λ o. IfSome o P) is h

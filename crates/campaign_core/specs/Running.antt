@@ -22,7 +22,7 @@ entry_in staged = staged.entry
 -- all that the entry makes is prepared, and there is room for it: in the queues, and in the history a place for it and two for
 -- each of 33 seats
 pub record IsWhole (places : ℕ) (before : Standing) (kept : Kept) (e : Entry) (p : Prepared) : Type 0 where
-  pub places : 67 ≤ places
+  pub enough : 67 ≤ places
   pub room : HaveRoom p.nexts.items before.posts
   pub prepared : IsPrepared (law before) kept e p
 

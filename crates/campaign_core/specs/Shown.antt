@@ -19,6 +19,10 @@ IsShown scene views seat before = was_joined before ≡ true → view_at seat vi
 pub record AreShown (w : World) (views : List KeptView) : Type 0 where
   pub each : (seat : ℕ) → IsShown w.scene views seat (seat_at w seat)
 
+-- what a seat is shown that is Joined
+abbrev pub kept_view : World → ℕ → Option View
+kept_view w seat = if was_joined (seat_at w seat) then Some (view_of w.scene seat) else None
+
 -- the view of a seat, where it isn't known to be the kept one
 abbrev pub new_view : Bool → Scene → ℕ → Option View
 new_view kept scene seat = if kept then None else Some (view_of scene seat)

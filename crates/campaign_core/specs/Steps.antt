@@ -20,5 +20,5 @@ told None o = o
 told (Some line) o = record o { reply = line ∷ [] }
 
 -- with this book
-abbrev pub with_book : Outcome → Option Book → Outcome
+unfoldable pub with_book : Outcome → Option Book → Outcome
 with_book o book = record o { book = book }

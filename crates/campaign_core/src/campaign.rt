@@ -4,7 +4,9 @@ ghost use Rattle.campaign_file.specs.Campaign.{IsOpening as IsOpeningList};
 ghost use Rattle.mails.specs.Texts.{text_of};
 ghost use Rattle.campaign_core.specs.Opening.{opening_world, world_of_text, IsOpenFault, IsBadForm};
 ghost use Rattle.std.specs.Option.{option_copied};
+ghost use Rattle.command_looks.specs.Fields.{field_for};
 ghost use Rattle.command_looks.specs.Touched.{looks_of, looks_of_opening};
+ghost use Rattle.campaign_core.specs.Shown.{kept_view};
 ghost use Rattle.campaign_law.specs.World.{outcome_of, seat_at};
 ghost use Rattle.campaign_law.specs.Session.{session, waiting, changes_state};
 ghost use Rattle.campaign_law.specs.Law.{IsOpening, IsSentAsMachine, ChangesLittle, world_of, answer_after};
@@ -13,16 +15,18 @@ use crate::next::{Prepared, act, leave, made_by};
 use crate::state::{Post, State};
 use campaign_file::{BadCampaign, FileFault, Rule, read_campaign};
 use campaign_law::{Answer, Entry};
+use cells::CellSet;
 use command_effects::settle;
 use command_looks::{Touched, fields_after, serve};
 use mails::Mail;
-use names::{LineText, Memory, SeatNo, Text};
+use names::{LineText, Memory, SeatNo, Text, TokenId};
 use seats::SeatState;
 use std::alloc::Global;
 use std::marker::Model;
 use topology::Eye;
 use turn_lock::Object;
 use view_keep::Keep;
+use views::View;
 use vision::Fields;
 use world::World;
 
@@ -270,6 +274,26 @@ impl<E: Eye + Drop> Campaign<E> {
             Ok(()) => Ok(self.commit()),
             Err(entry) => Err(entry),
         }
+    }
+
+    /// What the seat is shown now, as it is kept; `None` exactly where the seat isn't Joined.
+    pub fn view(&self, seat: SeatNo) -> Option<&View>
+        requires { seat < length self.now.origin.seats }
+        ensures { option_copied result ≡ kept_view (world_of self.now) seat }
+    {
+        if self.post(seat).book.state().is_joined() {
+            Some(self.keep.view(seat))
+        } else {
+            None
+        }
+    }
+
+    /// The field of the token's eye by the walls of its map, as it is kept; `None` exactly where there is no such token or
+    /// it has neither a sight nor a light.
+    pub fn field(&self, id: TokenId) -> Option<&CellSet>
+        ensures { option_copied result ≡ field_for (world_of self.now).scene id }
+    {
+        self.keep.fields().get(id)
     }
 
     /// How many looks the eye made.

@@ -21,7 +21,7 @@ ghost use Rattle.campaign_core.specs.Steps.{with_book};
 ghost use Rattle.campaign_core.specs.Prepared.{IsPrepared};
 ghost use Rattle.campaign_core.specs.Shown.{AreShown, is_none, made_or, made_view, view_then};
 
-use crate::outcome::{Outcome, decide, own_seat};
+use crate::outcome::{Outcome, decide};
 use crate::queues::{Glances, NextSeats, next_seats};
 use crate::state::{NextPost, State};
 use campaign_law::{Answer, Entry};
@@ -170,7 +170,7 @@ pub(crate) fn changed_scene<E: Eye>(
     let before = state.scene();
     // The scene tells with its maps that its parts fit together.
     let _maps = before.maps();
-    let Some(scene) = scene_by(alloc, before, own_seat(entry), command, steps)? else {
+    let Some(scene) = scene_by(alloc, before, entry.seat(), command, steps)? else {
         return Ok(None);
     };
     // The table tells with its length that no id is there twice.
@@ -203,7 +203,7 @@ pub(crate) fn seats_after(
     ensures views { IfOk result (λ n. n.views.items ≡ mapped_from (λ seat p. made_view (is_none changed.now) (seat_of entry.now == seat) (outcome_of (world_at state.now) entry.now) (scene_after (world_at state.now) entry.now) seat p.seat) 0 state.now.posts) }
 {
     let glances = glances(state, keep, entry, changed);
-    next_seats(alloc, outcome, book, own_seat(entry), state.posts(), &glances)
+    next_seats(alloc, outcome, book, entry.seat(), state.posts(), &glances)
 }
 
 /// What is seen before the entry and after it.

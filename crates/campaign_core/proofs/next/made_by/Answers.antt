@@ -7,6 +7,7 @@ use Rattle.campaign_law.specs.Law.{answer_of}
 use Rattle.campaign_law.proofs.Lists.{length-mapped_from, mapped_from-map}
 use Rattle.campaign_core.specs.Changed.{IsChanged}
 use Rattle.campaign_core.specs.Places.{Place, posted, world_at}
+use Rattle.campaign_core.specs.Steps.{with_book}
 use Rattle.campaign_core.specs.Shown.{is_none, view_then}
 use Rattle.campaign_core.proofs.Laws.{world_law}
 use Rattle.campaign_core.proofs.Shows.{stays_in_view, views_stand}
@@ -30,6 +31,10 @@ returns-clause-prepared g c =
       nexts = omega (arith, posts, nexts);
       count = omega (arith, posts, views);
       views = subst (λ (x : World). (seat : ℕ) → was_joined (seat_at (step x e) seat) ≡ true → view_then p.views.items c.args.keep.now.views seat ≡ Some (view_of (scene_after x e) seat)) same seen;
-      answer = c.told-answer.ensures ∙ ap (answer_of c.in_ok-steps.field-0.0) c.take_book-book.ensures.outcome ∙ (λ i. answer_of (c.in_ok-steps.ensures.steps i) (c.in_ok-steps.ensures.outcome i))
+      answer = c.told-answer.ensures ∙ ap (answer_of _) c.take_book-book.ensures.outcome ∙ (λ i. answer_of (c.in_ok-steps.ensures.steps i) (c.in_ok-steps.ensures.outcome i))
           ∙ ap (λ (x : World). answer_of (steps_of x e) (outcome_of x e)) same;
     }
+
+pub seats_after-requires-clause-outcome : goal.seats_after-requires-clause-outcome
+unfolding with_book
+seats_after-requires-clause-outcome g c = (λ i. with_book (c.take_book-book.ensures.outcome i) (c.take_book-book.ensures.book i)) ∙ c.in_ok-steps.ensures.outcome

@@ -17,6 +17,7 @@ use Rattle.campaign_core.proofs.Shows.{joins_full, shown_seats, stays_in_view}
 use Rattle.campaign_core.proofs.next.seats_after.Goals as goal
 
 pub next_seats-requires-clause-joins : goal.next_seats-requires-clause-joins
+unfolding with_book
 next_seats-requires-clause-joins c = λ joins.
     ap (λ (o : Outcome). o.full) c.requires.outcome ∙ joins_full (world_at c.args.state.now) c.args.entry.now (sym (ap (λ (o : Outcome). o.joins) c.requires.outcome) ∙ joins)
 
@@ -33,14 +34,16 @@ next_seats-requires-clause-sound c = subst (λ ps. AreSound (map posted ps)) (sy
 pub returns-clause-state : goal.returns-clause-state
 returns-clause-state c = if_ok c.next_seats.result _ _ (λ n is. stated_law c.args.state.now c.args.entry.now (with_book c.args.outcome.now c.args.book) (scene_in c.args.state.now.scene c.args.changed.now) (put_all n.nexts.items (map posted c.args.state.now.posts)) c.requires.outcome
     (stands (world_at c.args.state.now) c.args.entry.now c.args.keep.now.fields c.args.changed.now c.requires.changed)
-    (ap (λ ps. put_all n.nexts.items (map posted ps)) (sym c.posts.ensures.value) ∙ is ∙ (λ i. mapped_from (λ seat post. post_by seat (eqb (c.own_seat.ensures i) seat) (with_book c.args.outcome.now c.args.book) (view_of (c.glances-glances.ensures.before i) seat) (view_of (c.glances-glances.ensures.after i) seat) post) 0 (map posted (c.posts.ensures.value i))))) c.next_seats.ensures.posts
+    (ap (λ ps. put_all n.nexts.items (map posted ps)) (sym c.posts.ensures.value) ∙ is ∙ (λ i. mapped_from (λ seat post. post_by seat (eqb (c.seat.ensures i) seat) (with_book c.args.outcome.now c.args.book) (view_of (c.glances-glances.ensures.before i) seat) (view_of (c.glances-glances.ensures.after i) seat) post) 0 (map posted (c.posts.ensures.value i))))) c.next_seats.ensures.posts
 
 pub returns-clause-views : goal.returns-clause-views
+unfolding with_book
 returns-clause-views c = if_ok c.next_seats.result _ _ (λ n is. is
-    ∙ (λ i. mapped_from (λ seat (p : Place). made_view (c.glances-glances.ensures.same i) (eqb (c.own_seat.ensures i) seat) (c.requires.outcome i)
+    ∙ (λ i. mapped_from (λ seat (p : Place). made_view (c.glances-glances.ensures.same i) (eqb (c.seat.ensures i) seat) (c.requires.outcome i)
     ((c.glances-glances.ensures.after ∙ stands (world_at c.args.state.now) c.args.entry.now c.args.keep.now.fields c.args.changed.now c.requires.changed) i) seat p.seat) 0 (c.posts.ensures.value i))) c.next_seats.ensures.views
 
 pub next_seats-requires-clause-still : goal.next_seats-requires-clause-still
+unfolding with_book
 next_seats-requires-clause-still c =
     let w = world_at c.args.state.now in
     let after = c.glances-glances.ensures.after ∙ stands w c.args.entry.now c.args.keep.now.fields c.args.changed.now c.requires.changed in
