@@ -6,3 +6,6 @@ pub mod SightLemmas
 pub mod ViewLemmas
 pub mod KeepLemmas
 pub mod ToldLemmas
+pub mod LetterOrder
+pub mod ViewIs
+pub mod FollowLemmas
