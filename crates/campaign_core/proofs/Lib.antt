@@ -1,5 +1,6 @@
 pub mod Openings
 pub mod Steps
+pub mod Allowing
 pub mod Nexts
 pub mod Bounds
 pub mod Leaving

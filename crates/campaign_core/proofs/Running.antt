@@ -14,6 +14,8 @@ use Rattle.campaign_law.specs.World.{World, replay, step, scene_after, seat_afte
 use Rattle.campaign_law.specs.State.{Post, State, post_after, world_in, state_after, state_of}
 use Rattle.campaign_law.specs.Law.{IsOpening}
 use Rattle.campaign_law.proofs.Lists.{map-mapped_from, mapped_from-map}
+use Rattle.campaign_law.specs.Worlds.{FitsTogether}
+use Rattle.campaign_law.proofs.Worlds.{fits_always}
 use Rattle.campaign_law.proofs.Settled.{replay_settled}
 use Rattle.campaign_law.proofs.Sessions.{state_of-more, world_in-state_of}
 use Rattle.campaign_core.specs.declared.next.Prepared.{Prepared}
@@ -49,6 +51,9 @@ running_settled origin h room before kept stage r = subst (λ (w : World). IsSet
 pub running_sound : (origin : World) (h : List Entry) (room : ℕ) (before : Standing) (kept : Kept) (stage : Option Staged) → IsRunning origin h room before kept stage → AreSound (law before).posts
 running_sound origin h room before kept stage r = replayed_sound origin h (law before) r.opening r.now
 
+pub running_fits : (origin : World) (h : List Entry) (room : ℕ) (before : Standing) (kept : Kept) (stage : Option Staged) → IsRunning origin h room before kept stage → FitsTogether (world_in (law before))
+running_fits origin h room before kept stage r = subst FitsTogether (sym (world_now origin h room before kept stage r)) (fits_always origin h r.fits)
+
 -- ---- staging
 
 -- what leaves the state as it is and takes no place leaves it running
@@ -60,6 +65,7 @@ restaged origin h room room' before after kept stage stage' r same count more st
     record {
       now = same ∙ r.now;
       opening = r.opening;
+      fits = r.fits;
       fields = subst (λ (s : State). AreKept s.scene kept.fields) (sym same) r.fields;
       views = subst (λ (s : State). AreShown (world_in s) kept.views) (sym same) r.views;
       count = r.count ∙ sym count;
@@ -83,6 +89,7 @@ pub advances : (origin : World) (h h' : List Entry) (room room' : ℕ) (before a
 advances origin h h' room room' before after kept kept' stage e r next seats fields shown same owed more = record {
   now = next ∙ ap (λ s. state_after s e) r.now ∙ state_of-more origin h e r.opening ∙ ap (state_of origin) (sym more);
   opening = r.opening;
+  fits = r.fits;
   fields = fields;
   views = subst (λ w. AreShown w kept'.views) (sym (ap world_in next ∙ world_after (law before) e)) shown;
   count = same ∙ r.count ∙ sym seats;

@@ -1,5 +1,6 @@
 pub mod Opening
 pub mod Steps
+pub mod Allowing
 pub mod Places
 pub mod Sound
 pub mod Leaving

@@ -4,6 +4,7 @@ use Rattle.view_keep.specs.Kept.{Kept}
 use Rattle.command_looks.specs.Fields.{AreKept}
 use Rattle.campaign_law.specs.declared.entry.Entry.{Entry}
 use Rattle.campaign_law.specs.World.{World}
+use Rattle.campaign_law.specs.Worlds.{FitsTogether}
 use Rattle.campaign_law.specs.Session.{changes_state}
 use Rattle.campaign_law.specs.State.{State, world_in, state_of}
 use Rattle.campaign_law.specs.Law.{IsOpening}
@@ -39,6 +40,7 @@ IsStaged places before kept s = IsMade places before kept s.entry s.made
 pub record IsRunning (origin : World) (history : List Entry) (places : ℕ) (before : Standing) (kept : Kept) (stage : Option Staged) : Type 0 where
   pub now : law before ≡ state_of origin history
   pub opening : IsOpening origin
+  pub fits : FitsTogether origin
   pub fields : AreKept before.scene kept.fields
   pub views : AreShown (world_in (law before)) kept.views
   pub count : length kept.views ≡ length before.posts

@@ -2,7 +2,8 @@
 ghost use Rattle.std.specs.Prelude.{◌+◌, None, IfSome, ◌≡◌, ◌<◌, ◌≤◌, ◌++◌, ◌∷◌, [], ℕ, length, Some, IfOk, IsOk, OnOk, IfErr, OnErr, map, flat_map, drop, option_map, is_some, true};
 ghost use Rattle.campaign_file.specs.Campaign.{IsOpening as IsOpeningList};
 ghost use Rattle.mails.specs.Texts.{text_of};
-ghost use Rattle.campaign_core.specs.Opening.{opening_world, world_of_text, IsOpenFault, IsBadForm};
+ghost use Rattle.campaign_law.specs.Worlds.{opening_world};
+ghost use Rattle.campaign_core.specs.Opening.{world_of_text, IsOpenFault, IsBadForm};
 ghost use Rattle.std.specs.Option.{option_copied};
 ghost use Rattle.command_looks.specs.Fields.{field_for};
 ghost use Rattle.command_looks.specs.Touched.{looks_of, looks_of_opening};

@@ -9,6 +9,7 @@ ghost use Rattle.vision.specs.Fields.{field_at};
 ghost use Rattle.view_keep.specs.Kept.{view_at};
 ghost use Rattle.campaign_law.specs.Outcome.{seat_of};
 ghost use Rattle.campaign_law.specs.World.{outcome_of, steps_of, step, scene_after, mapped_from};
+ghost use Rattle.campaign_law.specs.Worlds.{FitsTogether};
 ghost use Rattle.campaign_law.specs.Session.{changes_state};
 ghost use Rattle.campaign_law.specs.State.{state_after, world_in};
 ghost use Rattle.campaign_core.specs.Places.{law, world_at, put_all, HaveRoom};
@@ -61,6 +62,7 @@ pub(crate) fn made_by<E: Eye>(
     eye: &mut E,
     entry: &Entry,
 ) -> Result<Prepared, Memory>
+    requires fits { FitsTogether (world_at state.now) }
     requires settled { IsSettled state.now.scene }
     requires sound { AreSound (law state.now).posts }
     requires fields { AreKept state.now.scene keep.now.fields }
@@ -155,6 +157,7 @@ pub(crate) fn changed_scene<E: Eye>(
     outcome: &Outcome,
     steps: u32,
 ) -> Result<Option<Changed>, Memory>
+    requires fits { FitsTogether (world_at state.now) }
     requires settled { IsSettled state.now.scene }
     requires fields { AreKept state.now.scene keep.now.fields }
     requires outcome { outcome.now ≡ outcome_of (world_at state.now) entry.now }
