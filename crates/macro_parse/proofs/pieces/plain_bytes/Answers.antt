@@ -1,6 +1,6 @@
 use Rattle.std.proofs.Common.{arith}
 use Rattle.macro_parse.proofs.PiecesFound.{plain_goes_on}
-use Rattle.macro_parse.proofs.pieces.plain.Goals as goal
+use Rattle.macro_parse.proofs.pieces.plain_bytes.Goals as goal
 
 pub loop-text-preserved : goal.loop-text-preserved
 loop-text-preserved c =

@@ -1,7 +1,7 @@
 use Rattle.std.proofs.Common.{◌≡◌, ◌≤◌, false, length}
 use Rattle.macro_grammar.specs.Readers.{plain_text}
 use Rattle.macro_parse.specs.Found.{with_bytes}
-use Rattle.macro_parse.proofs.pieces.plain.Given as goal
+use Rattle.macro_parse.proofs.pieces.plain_bytes.Given as goal
 
 abbrev pub invariant-loop-text : goal.invariant-loop-text
 invariant-loop-text l = record {
