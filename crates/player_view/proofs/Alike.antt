@@ -80,7 +80,7 @@ light_same name [] = refl
 light_same name (l ∷ ls) = ap (λ b. bytes_eq name l.0 || b) (light_same name ls)
 
 -- a player isn't the game master
-not_gm : (q : ℕ) → 1 ≤ q → is_gm q ≡ false
+pub not_gm : (q : ℕ) → 1 ≤ q → is_gm q ≡ false
 not_gm q player = grind (arith, nat_tests)
 
 pub asked_alike : AskedAlike

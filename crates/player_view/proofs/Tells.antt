@@ -23,7 +23,7 @@ use Rattle.player_view.specs.Shown.{exposed, is_in, touches, is_uncovered, is_un
 use Rattle.player_view.specs.Relations.{IsShownMap, Sees, Owns, IsVisible, Touches, TouchesSet, IsUncovered, IsInOpen, IsShown}
 use Rattle.player_view.specs.Laws.{TestsTell}
 
-itself_tells : (b : Bool) → Decides b (b ≡ true)
+pub itself_tells : (b : Bool) → Decides b (b ≡ true)
 itself_tells b = (λ e. e, λ e. e)
 
 not_hidden_tells : (layer : Layer) → Decides (not (is_hidden layer)) (layer ≢ Hidden)
@@ -32,7 +32,7 @@ not_hidden_tells Hidden = (λ e. absurd (false≢true e), λ n. absurd (n refl))
 not_hidden_tells Object = (λ _ e. cc, λ _. refl)
 not_hidden_tells Background = (λ _ e. cc, λ _. refl)
 
-map_tells : (s : Scene) (name : List ℕ) → Decides (map_shown s name) (IsShownMap s name)
+pub map_tells : (s : Scene) (name : List ℕ) → Decides (map_shown s name) (IsShownMap s name)
 map_tells s name = here (map_of name s.maps) refl
   where
     here : (o : Option Grid) → map_of name s.maps ≡ o → Decides (is_shown_map o) (IsShownMap s name)
@@ -75,13 +75,13 @@ visible_tells s p m x y =
     s.tokens
 
 -- P holds of one of n numbers from a on
-record SomeFrom (a n : ℕ) (P : ℕ → Type 0) : Type 0 where
-  at : ℕ
-  low : a ≤ at
-  high : at < a + n
-  holds : P at
+pub record SomeFrom (a n : ℕ) (P : ℕ → Type 0) : Type 0 where
+  pub at : ℕ
+  pub low : a ≤ at
+  pub high : at < a + n
+  pub holds : P at
 
-from_tells : (p : ℕ → Bool) (P : ℕ → Type 0) → ((k : ℕ) → Decides (p k) (P k)) → (a n : ℕ)
+pub from_tells : (p : ℕ → Bool) (P : ℕ → Type 0) → ((k : ℕ) → Decides (p k) (P k)) → (a n : ℕ)
     → Decides (list_any p (range_with_len a n)) (SomeFrom a n P)
 from_tells p P each a zero = (λ e. absurd (false≢true e), λ r. absurd (omega (arith, r.low, r.high)))
 from_tells p P each a (suc n) = Decides-like _ from to (Decides-or _ _ (each a) (from_tells p P each (a + 1) n))

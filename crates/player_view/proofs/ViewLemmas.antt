@@ -93,7 +93,7 @@ none_named p name a (x ∷ maps) same h =
     never true = refl
     never false = refl
 
-find-both : (p : Grid → Bool) (name : List ℕ) (maps : List Grid) → is_sorted tag_cmp (keyed maps) ≡ true
+pub find-both : (p : Grid → Bool) (name : List ℕ) (maps : List Grid) → is_sorted tag_cmp (keyed maps) ≡ true
     → find (λ m. p m && has_name name m) maps ≡ kept p (map_of name maps)
 find-both p name [] h = refl
 find-both p name (x ∷ maps) h = here (p x) (has_name name x) refl refl (find-both p name maps (second _ _ h))

@@ -1,15 +1,25 @@
 -- What a player's view has, in words.
-use Rattle.std.specs.Prelude.{ℕ, ◌≤◌, ◌<◌, ◌↔◌, IsTrue}
+use Rattle.std.specs.Prelude.{ℕ, ◌≡◌, ◌<◌, ◌↔◌, false, true, List, Some, None, All, Any, is_some}
+use Rattle.names.specs.declared.token_id.TokenId.{TokenId}
 use Rattle.cells.specs.Cells.{has}
-use Rattle.maps.specs.Maps.{Grid}
+use Rattle.maps.specs.Maps.{Grid, map_of}
 use Rattle.tokens.specs.declared.token.Token.{Token}
-use Rattle.player_view.specs.Relations.{IsVisible, IsShown}
-use Rattle.player_view.specs.View.{has_token, seen_by}
+use Rattle.tokens.specs.Tokens.{token_of}
+use Rattle.views.specs.declared.view.View.{View}
+use Rattle.player_view.specs.Relations.{IsShownMap, IsVisible, IsShown, Owns}
 use Rattle.world.specs.Scene.{Scene}
 
--- a player's view has just the tokens that the player is shown, and of a map it has in sight just the cells that the
--- player's tokens see
-pub record IsTold (s : Scene) (q : ℕ) : Type 0 where
-  pub tokens : 1 ≤ q → (t : Token) → IsTrue (has_token s q t) ↔ IsShown s q t
-  pub seen : 1 ≤ q → (m : Grid) (x y : ℕ) → x < m.walls.extent.w → y < m.walls.extent.h
-      → IsTrue (has (seen_by s q m) x y) ↔ IsVisible s q m x y
+-- the view v of the scene is a player's:
+-- it has a token of an id exactly where one of that id is shown to the player,
+-- a map of a name exactly where that map is shown to players,
+-- of a map just those cells in sight that the player's tokens see,
+-- what only owners see of a token exactly where the player owns it,
+-- and nothing that is the game master's alone
+pub record IsTold (s : Scene) (q : ℕ) (v : View) : Type 0 where
+  pub player : v.gm ≡ false
+  pub tokens : (id : TokenId) → Any (λ t. t.id ≡ id) v.tokens ↔ Any (λ t. (t.id ≡ id) × IsShown s q t) s.tokens
+  pub maps : (name : List ℕ) → Any (λ m. m.name ≡ name) v.maps ↔ IsShownMap s name
+  pub seen : All (λ m. (g : Grid) → map_of m.name s.maps ≡ Some g → (x y : ℕ) → x < g.walls.extent.w → y < g.walls.extent.h → (has m.seen x y ≡ true) ↔ IsVisible s q g x y) v.maps
+  pub owned : All (λ t. (token : Token) → token_of t.id s.tokens ≡ Some token → (is_some t.owned ≡ true) ↔ Owns s q token) v.tokens
+  pub no_whole : All (λ t. t.whole ≡ None) v.tokens
+  pub no_flag : All (λ m. m.shown ≡ None) v.maps

@@ -1,6 +1,8 @@
 //! What a seat sees of a scene.
 ghost use Rattle.std.specs.Prelude.{◌≡◌, ◌<◌, ◌≤◌, ◌+◌, ◌++◌, ◌∷◌, [], IfOk, OnOk, map, take, length};
 ghost use Rattle.player_view.specs.Fields.{HasFields};
+ghost use Rattle.views.specs.Views.{IsView};
+ghost use Rattle.player_view.specs.Tables.{HasTables};
 ghost use Rattle.player_view.specs.Told.{IsTold};
 ghost use Rattle.player_view.specs.View.{light_text, sight_text, view_of};
 
@@ -77,15 +79,26 @@ fn sight_texts(alloc: Global, scene: &Scene) -> Result<SightTexts, Memory>
     Ok(SightTexts { list })
 }
 
-/// What the seat, which is in the scene, sees. `fields` has the field of each token with a sight or a light.
-#[tactic(auto, unfolding(crate::specs::View::view_of), using(crate::proofs::ToldLemmas::told))]
-pub fn view_of(alloc: Global, scene: &Scene, seat: SeatNo, fields: &Fields) -> Result<View, Memory>
+/// Opens the scene's tables, so that a proof knows what they tell.
+fn open_tables(scene: &Scene)
+    ensures { HasTables scene.now }
+{
+    let _maps = scene.maps().len();
+    let _tokens = scene.tokens().len();
+    let _lights = scene.lights().len();
+    let _sights = scene.sights().len();
+}
+
+#[tactic(auto, unfolding(crate::specs::View::view_of))]
+fn seat_view(
+    alloc: Global,
+    scene: &Scene,
+    seat: SeatNo,
+    fields: &Fields,
+) -> Result<View, Memory>
     requires seat { seat ≤ scene.now.fog.players }
     requires fields { HasFields scene.now fields.now }
-    ensures value { IfOk result (λ view. view ≡ view_of scene.now seat) }
-
-    // Of a player's view the relations say the same.
-    ensures told { IsTold scene.now seat }
+    ensures { IfOk result (λ view. view ≡ view_of scene.now seat) }
 {
     let lights = light_texts(alloc, scene)?;
     let sights = sight_texts(alloc, scene)?;
@@ -98,4 +111,20 @@ pub fn view_of(alloc: Global, scene: &Scene, seat: SeatNo, fields: &Fields) -> R
         maps,
         tokens,
     })
+}
+
+/// What the seat, which is in the scene, sees. `fields` has the field of each token with a sight or a light.
+pub fn view_of(alloc: Global, scene: &Scene, seat: SeatNo, fields: &Fields) -> Result<View, Memory>
+    requires seat { seat ≤ scene.now.fog.players }
+    requires fields { HasFields scene.now fields.now }
+    ensures value { IfOk result (λ view. view ≡ view_of scene.now seat) }
+
+    // It is a view: in order, with nothing repeated, and each part fits the others.
+    ensures is_view { IfOk result IsView }
+
+    // A player's view has just what the relations say.
+    ensures told { 1 ≤ seat → IfOk result (IsTold scene.now seat) }
+{
+    open_tables(scene);
+    seat_view(alloc, scene, seat, fields)
 }

@@ -17,13 +17,16 @@ use Rattle.views.specs.declared.view.MapView.{MapView}
 use Rattle.views.specs.declared.view.View.{View}
 use Rattle.views.specs.Keys.{Named, Letter, cell_cmp, name_of, cell_of, map_name, change_name, token_id}
 use Rattle.views.specs.Same.{same_option, same_bool, same_mode, same_letter, same_light, same_bytes, same_map, same_token, same_view}
-use Rattle.view_change.specs.Keyed.{at, in_order, put_all, applied, gone_from, is_among, puts_from}
-use Rattle.view_change.specs.Views.{at_name, letter_at, is_on_map, IsMapView, IsView, FollowsView}
+use Rattle.views.specs.Order.{at, in_order}
+use Rattle.view_change.specs.Keyed.{put_all, applied, gone_from, is_among, puts_from}
+use Rattle.views.specs.Views.{at_name, letter_at, is_on_map, IsMapView, IsView, FollowsView}
 use Rattle.view_change.specs.Change.{minus, shown_change, map_change, or_old, map_with, difference, change_of, apply_change}
 use Rattle.views.specs.Lettered.{has_letter}
 use Rattle.views.proofs.SameLemmas.{Tells, same_option-tells, same_bool-tells, same_mode-tells, same_letter-tells, same_light-tells, same_bytes-tells, same_map-tells, same_token-tells, same_view-tells}
-use Rattle.view_change.proofs.OrderLemmas.{tag_total, tag_anti, tag_ties, id_total, id_anti, id_ties, cell_total, cell_anti}
-use Rattle.view_change.proofs.KeyedLemmas.{eq_is, kept, differs, applied-puts, is_among-gone_from, at-puts, at-key, at-all}
+use Rattle.views.proofs.Orders.{tag_total, id_total, cell_total}
+use Rattle.views.proofs.Orders.{tag_anti, tag_ties, id_anti, id_ties, cell_anti}
+use Rattle.views.proofs.Orders.{eq_is}
+use Rattle.view_change.proofs.KeyedLemmas.{kept, differs, applied-puts, is_among-gone_from, at-puts, at-key, at-all}
 use Rattle.view_change.proofs.DeltaLemmas.{patched-deltas}
 use lib.Dec.{T}
 

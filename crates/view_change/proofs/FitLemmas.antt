@@ -11,7 +11,8 @@ use Rattle.names.specs.Tag.{tag_cmp}
 use Rattle.views.specs.declared.view.MapView.{MapView}
 use Rattle.views.specs.Keys.{map_name}
 use Rattle.view_change.specs.Views.{fits_test, HaveOneSize, FitsAmong}
-use Rattle.view_change.proofs.OrderLemmas.{tag_total, tag_anti}
+use Rattle.views.proofs.Orders.{tag_total}
+use Rattle.views.proofs.Orders.{tag_anti}
 use Rattle.view_change.proofs.KeyedLemmas.{at-all, at-key}
 
 all_of : {X : Type 0} (p : X → Bool) (P : X → Type 0) → ((x : X) → p x ≡ true → P x) → (xs : List X) → list_all p xs ≡ true → All P xs

@@ -1,6 +1,5 @@
 pub mod KeyedLemmas
 pub mod DeltaLemmas
-pub mod OrderLemmas
 pub mod ChangeLemmas
 pub mod SetLemmas
 pub mod MapLoops
@@ -8,4 +7,6 @@ pub mod ChangeShape
 pub mod FitLemmas
 pub mod PutLemmas
 pub mod FillLemmas
+pub mod NewsLemmas
+pub mod GoneLemmas
 pub mod ApplyLemmas

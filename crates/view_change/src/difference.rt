@@ -1,112 +1,78 @@
 //! The change from one view to another.
-ghost use Rattle.std.specs.Prelude.{◌≡◌, ◌↔◌, ◌++◌, [], None, Some, IfOk, OnOk, IsTrue, All, cond};
+ghost use Rattle.std.specs.Prelude.{◌≡◌, map, ◌↔◌, ◌++◌, [], None, Some, IfOk, OnOk, IsTrue, All, cond};
 ghost use Rattle.std.specs.List.{cons_option, list_all};
 ghost use Rattle.std.specs.Str.{bytes_eq};
 ghost use Rattle.names.specs.TokenId.{id_eq};
 ghost use Rattle.names.specs.Tag.{tag_cmp};
 ghost use Rattle.views.specs.Keys.{map_name, change_name, token_id};
-ghost use Rattle.view_change.specs.Keyed.{has_key, gone_from, news, is_in, puts_from, delta_from, deltas};
+ghost use Rattle.view_change.specs.Keyed.{has_key, gone_from, news as news_list, puts_from, delta_from, deltas};
 ghost use Rattle.views.specs.Same.{same_light, same_bytes, same_letter, same_map as same_map_test, same_token as same_token_test};
-ghost use Rattle.view_change.specs.Views.{at_name, fits_test, HaveOneSize, FitsAmong};
+ghost use Rattle.views.specs.Views.{at_name};
+ghost use Rattle.view_change.specs.Views.{fits_test, HaveOneSize, FitsAmong};
 ghost use Rattle.view_change.specs.Change.{minus as minus_cells, mode_change as mode_change_of, shown_change as shown_change_of, map_change as map_change_of, difference as difference_of, change_of as change_between};
 
-use cells::{Cell, CellSet};
+use crate::news::news;
+use cells::CellSet;
 use names::{Memory, Mode, Tag, TokenId};
 use std::alloc::Global;
 use views::{
     Change, Letters, LightTexts, MapChange, MapChanges, MapView, MapViews, SightTexts, Tags,
-    TokenIds, TokenView, TokenViews, View, same_map, same_mode, same_shown, same_token, same_view,
+    TokenIds, TokenView, TokenViews, View, same_map, same_mode, same_shown, same_view,
 };
-
-fn has_light(list: &[(Tag, i64)], light: &(Tag, i64)) -> bool
-    ensures { result ≡ is_in same_light list.now light.now }
-{
-    list.iter().any(|old| old.0 == light.0 && old.1 == light.1)
-}
 
 fn new_lights(alloc: Global, before: &LightTexts, after: &LightTexts) -> Result<LightTexts, Memory>
     ensures { IfOk result (λ lights. lights ≡ puts_from same_light before.now after.now) }
 {
-    let mut list = Vec::new(alloc);
-    for light in after.items() {
-        if !has_light(before.items(), light) && list.push(*light).is_err() {
-            return Err(Memory);
-        }
-    }
-    Ok(LightTexts { list })
-}
-
-fn has_sight(list: &[(Tag, [u8; 3])], sight: &(Tag, [u8; 3])) -> bool
-    ensures { result ≡ is_in same_bytes list.now sight.now }
-{
-    list.iter().any(|old| old.0 == sight.0 && old.1 == sight.1)
+    Ok(LightTexts {
+        list: news(alloc, before.items(), after.items())?,
+    })
 }
 
 fn new_sights(alloc: Global, before: &SightTexts, after: &SightTexts) -> Result<SightTexts, Memory>
     ensures { IfOk result (λ sights. sights ≡ puts_from same_bytes before.now after.now) }
 {
-    let mut list = Vec::new(alloc);
-    for sight in after.items() {
-        if !has_sight(before.items(), sight) && list.push(*sight).is_err() {
-            return Err(Memory);
-        }
-    }
-    Ok(SightTexts { list })
-}
-
-fn has_letter(list: &[(Cell, u8)], letter: &(Cell, u8)) -> bool
-    ensures { result ≡ is_in same_letter list.now letter.now }
-{
-    list.iter()
-        .any(|old| old.0 == letter.0 && old.1 == letter.1)
+    Ok(SightTexts {
+        list: news(alloc, before.items(), after.items())?,
+    })
 }
 
 fn new_letters(alloc: Global, before: &Letters, after: &Letters) -> Result<Letters, Memory>
     ensures { IfOk result (λ letters. letters ≡ puts_from same_letter before.now after.now) }
 {
-    let mut list = Vec::new(alloc);
-    for letter in after.items() {
-        if !has_letter(before.items(), letter) && list.push(*letter).is_err() {
-            return Err(Memory);
-        }
-    }
-    Ok(Letters { list })
-}
-
-fn has_same_token(list: &[TokenView], token: &TokenView) -> bool
-    ensures { result ≡ is_in same_token_test list.now token.now }
-{
-    list.iter().any(|old| same_token(old, token))
+    Ok(Letters {
+        list: news(alloc, before.items(), after.items())?,
+    })
 }
 
 fn new_tokens(alloc: Global, before: &TokenViews, after: &TokenViews) -> Result<TokenViews, Memory>
     ensures { IfOk result (λ tokens. tokens ≡ puts_from same_token_test before.now after.now) }
 {
+    Ok(TokenViews {
+        list: news(alloc, before.items(), after.items())?,
+    })
+}
+
+fn ids(alloc: Global, tokens: &[TokenView]) -> Result<Vec<TokenId>, Memory>
+    ensures { IfOk result (λ list. list.items ≡ map token_id tokens.now) }
+{
     let mut list = Vec::new(alloc);
-    for token in after.items() {
-        if !has_same_token(before.items(), token) && list.push(token.copy()?).is_err() {
+    for token in tokens {
+        if list.push(token.id).is_err() {
             return Err(Memory);
         }
     }
-    Ok(TokenViews { list })
+    Ok(list)
 }
 
-fn has_token(list: &[TokenView], id: TokenId) -> bool
-    ensures { result ≡ has_key id_eq token_id list.now id }
-{
-    list.iter().any(|token| id == token.id)
-}
-
+#[tactic(auto, using(crate::proofs::GoneLemmas::gone_ids))]
 fn gone_tokens(alloc: Global, before: &TokenViews, after: &TokenViews) -> Result<TokenIds, Memory>
     ensures { IfOk result (λ ids. ids ≡ gone_from id_eq token_id before.now after.now) }
 {
-    let mut list = Vec::new(alloc);
-    for token in before.items() {
-        if !has_token(after.items(), token.id) && list.push(token.id).is_err() {
-            return Err(Memory);
-        }
-    }
-    Ok(TokenIds { list })
+    let before_ids = ids(alloc, before.items())?;
+    let after_ids = ids(alloc, after.items())?;
+    Ok(TokenIds {
+        list: news(alloc, &after_ids, &before_ids)?,
+    })
 }
 
 fn has_map(list: &[MapView], name: Tag) -> bool
@@ -128,7 +94,7 @@ fn gone_maps(alloc: Global, before: &MapViews, after: &MapViews) -> Result<Tags,
 }
 
 fn new_maps(alloc: Global, before: &MapViews, after: &MapViews) -> Result<MapViews, Memory>
-    ensures { IfOk result (λ maps. maps ≡ news bytes_eq map_name before.now after.now) }
+    ensures { IfOk result (λ maps. maps ≡ news_list bytes_eq map_name before.now after.now) }
 {
     let mut list = Vec::new(alloc);
     for map in after.items() {

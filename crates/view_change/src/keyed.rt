@@ -1,17 +1,21 @@
 //! Lists whose items stand in the order of a key.
-ghost use Rattle.std.specs.Prelude.{◌≡◌, ◌≤◌, ◌++◌, ◌∷◌, [], Some, IfOk, OnOk, vec_len};
+ghost use Rattle.std.specs.Prelude.{◌≡◌, ◌≤◌, ◌++◌, ◌∷◌, [], Bool, true, Some, IfOk, OnOk, vec_len};
 ghost use Rattle.std.specs.declared.cmp.Ordering.{Ordering};
 ghost use Rattle.std.specs.Ordering.{nat_cmp, is_le};
 ghost use Rattle.std.specs.List.{position, insert as inserted};
 ghost use Rattle.names.specs.Tag.{tag_cmp};
-ghost use Rattle.names.specs.TokenId.{id_cmp};
+ghost use Rattle.names.specs.TokenId.{id_cmp, id_eq};
 ghost use Rattle.views.specs.Keys.{cell_cmp, name_of, cell_of, map_name, token_id};
+ghost use Rattle.std.specs.Cmp.{IsTotalOrder};
+ghost use Rattle.views.specs.Same.{same_light, same_bytes, same_letter, same_map as same_map_test, same_token as same_token_test};
+ghost use Rattle.views.proofs.Orders.{tag_total, id_total, cell_total};
+ghost use Rattle.view_change.specs.Orders.{one_light, one_sight, one_letter, one_map, one_token, same_id, one_id};
 ghost use Rattle.view_change.specs.Keyed.{put as put_in, put_all as put_all_in};
 
 use cells::Cell;
 use names::{Memory, Tag, TokenId};
 use std::cmp::Ordering;
-use views::{MapView, TokenView};
+use views::{MapView, TokenView, same_map, same_token};
 
 /// An item of a list that stands in the order of a key.
 pub(crate) trait Keyed: Sized + Drop {
@@ -26,9 +30,19 @@ pub(crate) trait Keyed: Sized + Drop {
     fn compare(&self, other: &Self) -> Ordering
         ensures { result ≡ order (key self.now) (key other.now) };
 
+    ghost same: { Self → Self → Bool };
+
+    fn is_same(&self, other: &Self) -> bool
+        ensures { result ≡ same self.now other.now };
+
     /// The same item once more, or `Memory` for want of memory.
     fn again(&self) -> Result<Self, Memory>
         ensures { IfOk result (λ item. item ≡ self.now) };
+
+    ghost total: { IsTotalOrder order };
+
+    // items that are the same have one key
+    ghost one_key: { (x y : Self) → same x y ≡ true → order (key y) (key x) ≡ Ordering.Equal };
 }
 
 impl Keyed for (Tag, i64) {
@@ -38,8 +52,18 @@ impl Keyed for (Tag, i64) {
 
     ghost order = { tag_cmp };
 
+    ghost same = { same_light };
+
+    ghost total = { tag_total };
+
+    ghost one_key = { one_light };
+
     fn compare(&self, other: &(Tag, i64)) -> Ordering {
         self.0.cmp(&other.0)
+    }
+
+    fn is_same(&self, other: &(Tag, i64)) -> bool {
+        self.0 == other.0 && self.1 == other.1
     }
 
     fn again(&self) -> Result<(Tag, i64), Memory> {
@@ -54,8 +78,18 @@ impl Keyed for (Tag, [u8; 3]) {
 
     ghost order = { tag_cmp };
 
+    ghost same = { same_bytes };
+
+    ghost total = { tag_total };
+
+    ghost one_key = { one_sight };
+
     fn compare(&self, other: &(Tag, [u8; 3])) -> Ordering {
         self.0.cmp(&other.0)
+    }
+
+    fn is_same(&self, other: &(Tag, [u8; 3])) -> bool {
+        self.0 == other.0 && self.1 == other.1
     }
 
     fn again(&self) -> Result<(Tag, [u8; 3]), Memory> {
@@ -70,8 +104,18 @@ impl Keyed for (Cell, u8) {
 
     ghost order = { cell_cmp };
 
+    ghost same = { same_letter };
+
+    ghost total = { cell_total };
+
+    ghost one_key = { one_letter };
+
     fn compare(&self, other: &(Cell, u8)) -> Ordering {
         self.0.y.cmp(&other.0.y).then(self.0.x.cmp(&other.0.x))
+    }
+
+    fn is_same(&self, other: &(Cell, u8)) -> bool {
+        self.0 == other.0 && self.1 == other.1
     }
 
     fn again(&self) -> Result<(Cell, u8), Memory> {
@@ -86,8 +130,18 @@ impl Keyed for MapView {
 
     ghost order = { tag_cmp };
 
+    ghost same = { same_map_test };
+
+    ghost total = { tag_total };
+
+    ghost one_key = { one_map };
+
     fn compare(&self, other: &MapView) -> Ordering {
         self.name.cmp(&other.name)
+    }
+
+    fn is_same(&self, other: &MapView) -> bool {
+        same_map(self, other)
     }
 
     fn again(&self) -> Result<MapView, Memory> {
@@ -102,8 +156,18 @@ impl Keyed for TokenView {
 
     ghost order = { id_cmp };
 
+    ghost same = { same_token_test };
+
+    ghost total = { id_total };
+
+    ghost one_key = { one_token };
+
     fn compare(&self, other: &TokenView) -> Ordering {
         self.id.cmp(&other.id)
+    }
+
+    fn is_same(&self, other: &TokenView) -> bool {
+        same_token(self, other)
     }
 
     fn again(&self) -> Result<TokenView, Memory> {
@@ -111,14 +175,40 @@ impl Keyed for TokenView {
     }
 }
 
+impl Keyed for TokenId {
+    type Key = TokenId;
+
+    ghost key = { same_id };
+
+    ghost order = { id_cmp };
+
+    ghost same = { id_eq };
+
+    ghost total = { id_total };
+
+    ghost one_key = { one_id };
+
+    fn compare(&self, other: &TokenId) -> Ordering {
+        self.cmp(other)
+    }
+
+    fn is_same(&self, other: &TokenId) -> bool {
+        *self == *other
+    }
+
+    fn again(&self) -> Result<TokenId, Memory> {
+        Ok(*self)
+    }
+}
+
 /// Where the first item stands whose key isn't less than the item's.
-fn place<T: Keyed>(list: &[T], item: &T) -> Option<usize>
+pub(crate) fn place<T: Keyed>(list: &[T], item: &T) -> Option<usize>
     ensures { result ≡ position (λ old. is_le (T.order (T.key item.now) (T.key old))) list.now }
 {
     list.iter().position(|old| item.compare(old).is_le())
 }
 
-fn push<T: Keyed>(list: &mut Vec<T>, item: T) -> Result<(), Memory>
+pub(crate) fn push<T: Keyed>(list: &mut Vec<T>, item: T) -> Result<(), Memory>
     ensures { OnOk result (list.new.items ≡ list.old.items ++ item ∷ []) }
 {
     match list.push(item) {

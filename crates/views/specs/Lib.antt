@@ -1,3 +1,5 @@
 pub mod Keys
+pub mod Order
+pub mod Views
 pub mod Same
 pub mod Lettered
