@@ -178,7 +178,11 @@ fn blank_sets(alloc: Global, players: u8, map: Tag, size: Size) -> Result<Vec<Ex
 }
 
 /// Puts the fresh sets before the one at the place. After `Memory` the sets are as before.
-fn insert_all(sets: &mut Vec<Exposure>, place: usize, mut fresh: Vec<Exposure>) -> Result<(), Memory>
+fn insert_all(
+    sets: &mut Vec<Exposure>,
+    place: usize,
+    mut fresh: Vec<Exposure>,
+) -> Result<(), Memory>
     requires { place ≤ length sets.old.items }
     ensures ok { OnOk result (sets.new.items ≡ take place sets.old.items ++ (fresh.items ++ drop place sets.old.items)) }
     ensures unchanged { OnErr result (sets.new.items ≡ sets.old.items) }

@@ -12,7 +12,7 @@ mod seat_state;
 mod tag_fault;
 
 pub use book_fault::BookFault;
-pub use seat_book::SeatBook;
+pub use seat_book::{SeatBook, most_tags};
 pub use seat_state::{JoinRefusal, SeatState};
 pub use tag_fault::TagFault;
 

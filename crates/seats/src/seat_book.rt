@@ -222,12 +222,7 @@ impl SeatBook {
     pub fn tags_spent(&self) -> bool
         ensures { result ≡ tags_spent_lem self.now.seat self.now.tags }
     {
-        let limit = if self.seat.number() == 0 {
-            GM_TAG_LIMIT
-        } else {
-            TAG_LIMIT
-        };
-        self.tags.len() >= limit
+        self.tags.len() >= most_tags(self.seat)
     }
 
     /// How many tags the seat used: at most 2,048 for seat 0, else 16. No tag is used twice.
@@ -307,5 +302,16 @@ impl SeatBook {
         ensures joined { is_joined self.now.state ≡ true → result < line_limit }
     {
         self.lines
+    }
+}
+
+/// How many tags the seat uses at most: 2,048 for seat 0, the game master's, and 16 for another.
+pub fn most_tags(seat: SeatNo) -> usize
+    ensures { result ≡ most_tags seat }
+{
+    if seat.number() == 0 {
+        GM_TAG_LIMIT
+    } else {
+        TAG_LIMIT
     }
 }

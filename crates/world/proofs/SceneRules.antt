@@ -22,7 +22,8 @@ use Rattle.cells.specs.declared.cell.Rect.{Rect}
 use Rattle.cells.proofs.SetLaws.{IsToldByCells-cells_where}
 use Rattle.cells.specs.declared.cell.Cell.{Cell}
 use Rattle.fog_book.specs.Exposures.{Fog, exposed_of, joined, with_change, with_each_seen, with_map as with_fog_of_map, AddsMap}
-use Rattle.fog_book.specs.Rects.{is_in, with_rect}
+use Rattle.cells.specs.Rects.{is_in}
+use Rattle.fog_book.specs.Rects.{with_rect}
 use Rattle.maps.specs.Maps.{Grid, changed as changed_map, has_map, map_of, new_map, walled, with_map}
 use Rattle.sight_types.specs.declared.Sight.{Sight}
 use Rattle.tokens.specs.declared.token.Token.{Token}
