@@ -4,3 +4,4 @@ pub mod GmAllowed
 pub mod Allowed
 pub mod GmCommands
 pub mod Players
+pub mod Following

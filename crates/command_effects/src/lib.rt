@@ -3,10 +3,12 @@
 
 mod effects;
 mod gm_effects;
+mod laws;
 mod making;
 mod sight;
 mod tags;
 
 pub use effects::{scene_by, steps_by};
+pub use laws::scenes_follow;
 pub use sight::settle;
 pub use tags::use_made_tag;

@@ -8,3 +8,4 @@ pub mod KeepLemmas
 pub mod ToldLemmas
 pub mod LetterOrder
 pub mod ViewIs
+pub mod FollowLemmas

@@ -1,11 +1,11 @@
 -- A player's view has what the relations say.
-use Rattle.std.proofs.Common.{◌≡◌, ℕ, ◌<◌, ◌≤◌, Bool, true, false, cond, ◌&&◌, ◌||◌, List, Some, None, map, refl, sym, ◌∙◌, ap, subst, arith, get_or, ◌==◌}
+use Rattle.std.proofs.Common.{◌≡◌, ℕ, ◌<◌, ◌≤◌, Bool, true, false, cond, ◌&&◌, ◌||◌, List, [], ◌∷◌, Some, None, map, refl, sym, ◌∙◌, ap, subst, get_or}
 use Rattle.std.specs.Prelude.{◌↔◌, Option, option_map, is_some, All, Any, IfOk, Result, Ok, Err}
 use Rattle.std.specs.Bool.{Decides}
 use Rattle.std.specs.Str.{bytes_eq}
 use Rattle.std.specs.List.{filter, find, list_any}
-use Rattle.std.proofs.lemmas.Bool.Decides.{Decides-and, Decides-at, Decides-like, nat_tests}
-use Rattle.std.proofs.lemmas.List.Elements.{All-map, All-filter, filter_passes}
+use Rattle.std.proofs.lemmas.Bool.Decides.{Decides-and, Decides-at, Decides-like}
+use Rattle.std.proofs.lemmas.List.Elements.{All-map, All-filter}
 use Rattle.std.proofs.lemmas.Slice.Eq.{bytes_eq-Decides}
 use Rattle.names.specs.declared.token_id.TokenId.{TokenId}
 use Rattle.names.specs.TokenId.{id_cmp, id_eq}
@@ -22,10 +22,10 @@ use Rattle.views.proofs.Orders.{id_total, id_ties_turned}
 use Rattle.vision.proofs.SeenLemmas.{Decides-any}
 use Rattle.world.specs.Scene.{Scene}
 use Rattle.player_view.specs.Relations.{IsShownMap, IsVisible, IsShown, Owns}
-use Rattle.player_view.specs.Sight.{is_shown_map, map_shown, owns, visible}
+use Rattle.player_view.specs.Sight.{is_shown_map, owns, visible}
 use Rattle.player_view.specs.Shown.{is_shown}
 use Rattle.player_view.specs.Tables.{HasTables}
-use Rattle.player_view.specs.Told.{IsTold}
+use Rattle.player_view.specs.Told.{IsTold, HasSight, HasOwned}
 use Rattle.player_view.specs.View.{is_gm, has_map, has_token, all_cells, seen_by, map_view, token_view, owned_part, gm_part, view_of}
 use Rattle.player_view.proofs.Alike.{not_gm}
 use Rattle.player_view.proofs.LetterOrder.{any_kept}
@@ -81,11 +81,7 @@ module _ (s : Scene) (q : ℕ) (are : HasTables s) (gm : is_gm q ≡ false) wher
   seen_tells : (m : Grid) (x y : ℕ) → x < m.walls.extent.w → y < m.walls.extent.h → (has (seen_by s q m) x y ≡ true) ↔ IsVisible s q m x y
   seen_tells m x y hx hy = Decides-at _ _ (ap (λ b. has (cond b (all_cells m) (visible s q m)) x y) gm) (has_visible_tells s q m x y hx hy)
 
-  TellsSeen : MapView → Type 0
-  TellsSeen v = (g : Grid) → map_of v.name s.maps ≡ Some g → (x y : ℕ) → x < g.walls.extent.w → y < g.walls.extent.h → (has v.seen x y ≡ true) ↔ IsVisible s q g x y
-
-  seen_at : (m : Grid) → map_of m.name s.maps ≡ Some m → (g : Grid) → map_of m.name s.maps ≡ Some g
-      → (x y : ℕ) → x < g.walls.extent.w → y < g.walls.extent.h → (has (seen_by s q m) x y ≡ true) ↔ IsVisible s q g x y
+  seen_at : (m : Grid) → map_of m.name s.maps ≡ Some m → HasSight s q (map_view s q m)
   seen_at m there g found =
       let same : m ≡ g = cc in
       subst (λ z. (x y : ℕ) → x < z.walls.extent.w → y < z.walls.extent.h → (has (seen_by s q m) x y ≡ true) ↔ IsVisible s q z x y) same (seen_tells m)
@@ -97,8 +93,7 @@ module _ (s : Scene) (q : ℕ) (are : HasTables s) (gm : is_gm q ≡ false) wher
       here true = refl
       here false = refl
 
-  owned_at : (t : Token) → token_of t.id s.tokens ≡ Some t → (token : Token) → token_of t.id s.tokens ≡ Some token
-      → (is_some (token_view s q t).owned ≡ true) ↔ Owns s q token
+  owned_at : (t : Token) → token_of t.id s.tokens ≡ Some t → HasOwned s q (token_view s q t)
   owned_at t there token found =
       let same : t ≡ token = cc in
       subst (λ z. (is_some (token_view s q t).owned ≡ true) ↔ Owns s q z) same (owned_tells t)
@@ -111,12 +106,10 @@ told s q are player =
       player = gm;
       tokens = tokens_tell s q are gm;
       maps = maps_tell s q are gm;
-      seen = All-map (λ m. (g : Grid) → map_of m.name s.maps ≡ Some g → (x y : ℕ) → x < g.walls.extent.w → y < g.walls.extent.h → (has m.seen x y ≡ true) ↔ IsVisible s q g x y)
-          (map_view s q) (filter (has_map q) s.maps)
-          (All-filter (has_map q) _ s.maps (λ k d h. seen_at s q are gm (get_or s.maps k d) (each_map_there s are k d h)));
-      owned = All-map (λ t. (token : Token) → token_of t.id s.tokens ≡ Some token → (is_some t.owned ≡ true) ↔ Owns s q token)
-          (token_view s q) (filter (has_token s q) s.tokens)
-          (All-filter (has_token s q) _ s.tokens (λ k d h. owned_at s q are gm (get_or s.tokens k d) (each_token_there s are k d h)));
+      seen = All-map (HasSight s q) (map_view s q) (filter (has_map q) s.maps)
+          (All-filter (has_map q) (λ m. HasSight s q (map_view s q m)) s.maps (λ k d h. seen_at s q are gm (get_or s.maps k d) (each_map_there s are k d h)));
+      owned = All-map (HasOwned s q) (token_view s q) (filter (has_token s q) s.tokens)
+          (All-filter (has_token s q) (λ t. HasOwned s q (token_view s q t)) s.tokens (λ k d h. owned_at s q are gm (get_or s.tokens k d) (each_token_there s are k d h)));
       no_whole = All-map (λ (t : TokenView). t.whole ≡ None) (token_view s q) (filter (has_token s q) s.tokens)
           (λ k d h. ap (λ b. cond b (Some (gm_part (get_or (filter (has_token s q) s.tokens) k d))) None) gm);
       no_flag = All-map (λ (m : MapView). m.shown ≡ None) (map_view s q) (filter (has_map q) s.maps)

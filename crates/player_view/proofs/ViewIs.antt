@@ -1,6 +1,6 @@
 -- What a seat sees is a view.
-use Rattle.std.proofs.Common.{◌≡◌, ℕ, zero, suc, ◌+◌, ◌<◌, ◌≤◌, ◌⊎◌, inl, inr, Bool, true, false, cond, ◌&&◌, ◌||◌, List, [], ◌∷◌, Some, None, map, refl, sym, ◌∙◌, ap, subst, arith, get_or}
-use Rattle.std.specs.Prelude.{Option, option_map, is_some, All, IfSome, IfOk, Result, Ok, Err}
+use Rattle.std.proofs.Common.{◌≡◌, ℕ, zero, suc, ◌+◌, ◌<◌, ◌≤◌, inl, inr, Bool, true, false, cond, ◌&&◌, ◌||◌, List, Some, None, map, refl, sym, ◌∙◌, ap, subst, arith, get_or}
+use Rattle.std.specs.Prelude.{nat_le, Option, option_map, is_some, All, IfSome, IfOk, Result, Ok, Err}
 use Rattle.std.specs.Str.{bytes_eq}
 use Rattle.std.specs.Ordering.{nat_cmp, is_lt}
 use Rattle.std.specs.Cmp.{nat_cmp_is}
@@ -17,12 +17,11 @@ use Rattle.cells.proofs.SetLaws.{IsToldByCells-cells_where}
 use Rattle.fog_book.specs.Exposures.{exposed_of}
 use Rattle.maps.specs.Maps.{Grid, map_of, has_name}
 use Rattle.tokens.specs.declared.token.Token.{Token}
-use Rattle.tokens.specs.Owners.{has_owner, seats_of}
-use Rattle.views.specs.declared.view.MapView.{MapView}
+use Rattle.tokens.specs.Owners.{has_owner}
 use Rattle.views.specs.declared.view.View.{View}
 use Rattle.views.specs.Keys.{name_of, map_name, token_id}
 use Rattle.views.specs.Order.{keyed, in_order}
-use Rattle.views.specs.Views.{IsView, IsMapView, IsTokenView, at_name, itself}
+use Rattle.views.specs.Views.{IsView, IsMapView, IsTokenView, itself}
 use Rattle.views.proofs.InOrder.{both, in_order-entries, in_order-map, in_order-filter, each_found, at-find}
 use Rattle.views.proofs.Orders.{tag_total, tag_ties_turned}
 use Rattle.world.specs.Scene.{Scene}
@@ -31,7 +30,7 @@ use Rattle.player_view.specs.Relations.{IsShownMap, IsShown}
 use Rattle.player_view.specs.Sight.{owns, visible}
 use Rattle.player_view.specs.Shown.{exposed, set_or_none, is_shown}
 use Rattle.player_view.specs.Tables.{HasTables}
-use Rattle.player_view.specs.View.{is_gm, acts_on, has_map, has_token, all_cells, seen_by, exposed_to, light_text, sight_text, map_view, token_view, owned_part, gm_part, view_of}
+use Rattle.player_view.specs.View.{is_gm, has_map, has_token, all_cells, seen_by, exposed_to, light_text, sight_text, map_view, token_view, owned_part, gm_part, view_of}
 use Rattle.player_view.proofs.Alike.{find-map-filter}
 use Rattle.player_view.proofs.LetterOrder.{letters_rise, letters_there}
 use Rattle.player_view.proofs.SceneLemmas.{first, set_there}
@@ -49,7 +48,7 @@ each_map_there s are =
     ∙ each_found tag_cmp (λ g. g.name) tag_total s.maps are.maps.ordered k d h
 
 player : (seats q : ℕ) → is_gm q ≡ false → q ≤ seats → is_player seats q ≡ true
-player seats q e h = both _ _ (grind (arith, nat_tests)) (grind (arith, nat_tests))
+player seats q e h = both (nat_le 1 q) (nat_le q seats) (grind (arith, nat_tests)) (grind (arith, nat_tests))
 
 -- what is exposed to a player of a map that is there
 exposed_set : (s : Scene) (q : ℕ) (m : Grid) → IsScene s → map_of m.name s.maps ≡ Some m → q ≤ s.fog.players → is_gm q ≡ false

@@ -8,3 +8,4 @@ pub mod Walk
 pub mod Told
 pub mod Laws
 pub mod Tables
+pub mod Follows

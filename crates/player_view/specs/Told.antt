@@ -5,9 +5,19 @@ use Rattle.cells.specs.Cells.{has}
 use Rattle.maps.specs.Maps.{Grid, map_of}
 use Rattle.tokens.specs.declared.token.Token.{Token}
 use Rattle.tokens.specs.Tokens.{token_of}
+use Rattle.views.specs.declared.view.MapView.{MapView}
+use Rattle.views.specs.declared.view.TokenView.{TokenView}
 use Rattle.views.specs.declared.view.View.{View}
 use Rattle.player_view.specs.Relations.{IsShownMap, IsVisible, IsShown, Owns}
 use Rattle.world.specs.Scene.{Scene}
+
+-- of the map, just those cells are in sight that the player's tokens see
+abbrev pub HasSight : Scene → ℕ → MapView → Type 0
+HasSight s q m = (g : Grid) → map_of m.name s.maps ≡ Some g → (x y : ℕ) → x < g.walls.extent.w → y < g.walls.extent.h → (has m.seen x y ≡ true) ↔ IsVisible s q g x y
+
+-- what only owners see of the token is there exactly where the player owns it
+abbrev pub HasOwned : Scene → ℕ → TokenView → Type 0
+HasOwned s q t = (token : Token) → token_of t.id s.tokens ≡ Some token → (is_some t.owned ≡ true) ↔ Owns s q token
 
 -- the view v of the scene is a player's:
 -- it has a token of an id exactly where one of that id is shown to the player,
@@ -19,7 +29,7 @@ pub record IsTold (s : Scene) (q : ℕ) (v : View) : Type 0 where
   pub player : v.gm ≡ false
   pub tokens : (id : TokenId) → Any (λ t. t.id ≡ id) v.tokens ↔ Any (λ t. (t.id ≡ id) × IsShown s q t) s.tokens
   pub maps : (name : List ℕ) → Any (λ m. m.name ≡ name) v.maps ↔ IsShownMap s name
-  pub seen : All (λ m. (g : Grid) → map_of m.name s.maps ≡ Some g → (x y : ℕ) → x < g.walls.extent.w → y < g.walls.extent.h → (has m.seen x y ≡ true) ↔ IsVisible s q g x y) v.maps
-  pub owned : All (λ t. (token : Token) → token_of t.id s.tokens ≡ Some token → (is_some t.owned ≡ true) ↔ Owns s q token) v.tokens
+  pub seen : All (HasSight s q) v.maps
+  pub owned : All (HasOwned s q) v.tokens
   pub no_whole : All (λ t. t.whole ≡ None) v.tokens
   pub no_flag : All (λ m. m.shown ≡ None) v.maps

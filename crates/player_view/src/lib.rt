@@ -16,4 +16,4 @@ pub use laws::{asked_alike, tests_tell};
 pub use looks::visible_of;
 pub use map_views::is_exposed;
 pub use reads::{has_light, known, mine};
-pub use seat_view::view_of;
+pub use seat_view::{view_of, views_follow};

@@ -1,6 +1,7 @@
 //! What a seat sees of a scene.
 ghost use Rattle.std.specs.Prelude.{◌≡◌, ◌<◌, ◌≤◌, ◌+◌, ◌++◌, ◌∷◌, [], IfOk, OnOk, map, take, length};
 ghost use Rattle.player_view.specs.Fields.{HasFields};
+ghost use Rattle.player_view.specs.Follows.{Follows, ViewsFollow};
 ghost use Rattle.views.specs.Views.{IsView};
 ghost use Rattle.player_view.specs.Tables.{HasTables};
 ghost use Rattle.player_view.specs.Told.{IsTold};
@@ -90,12 +91,7 @@ fn open_tables(scene: &Scene)
 }
 
 #[tactic(auto, unfolding(crate::specs::View::view_of))]
-fn seat_view(
-    alloc: Global,
-    scene: &Scene,
-    seat: SeatNo,
-    fields: &Fields,
-) -> Result<View, Memory>
+fn seat_view(alloc: Global, scene: &Scene, seat: SeatNo, fields: &Fields) -> Result<View, Memory>
     requires seat { seat ≤ scene.now.fog.players }
     requires fields { HasFields scene.now fields.now }
     ensures { IfOk result (λ view. view ≡ view_of scene.now seat) }
@@ -127,4 +123,13 @@ pub fn view_of(alloc: Global, scene: &Scene, seat: SeatNo, fields: &Fields) -> R
 {
     open_tables(scene);
     seat_view(alloc, scene, seat, fields)
+}
+
+/// Opens the tables of both scenes: where the second follows the first, so does what each seat sees.
+pub fn views_follow(before: &Scene, after: &Scene)
+    requires { Follows before.now after.now }
+    ensures { ViewsFollow before.now after.now }
+{
+    open_tables(before);
+    open_tables(after);
 }
