@@ -16,13 +16,14 @@ use Rattle.names.specs.TokenId.{id_cmp, id_eq}
 use Rattle.views.specs.declared.view.MapView.{MapView}
 use Rattle.views.specs.declared.view.View.{View}
 use Rattle.views.specs.Keys.{Named, Letter, cell_cmp, name_of, cell_of, map_name, change_name, token_id}
-use Rattle.views.specs.Same.{same_option, same_bool, same_mode, same_letter, same_light, same_bytes, same_map, same_token, same_view}
+use Rattle.std.specs.Option.{option_eq, option_or}
+use Rattle.views.specs.Same.{same_bool, same_mode, same_letter, same_light, same_bytes, same_map, same_token, same_view}
 use Rattle.views.specs.Order.{at, in_order}
 use Rattle.view_change.specs.Keyed.{put_all, applied, gone_from, is_among, puts_from}
 use Rattle.views.specs.Views.{at_name, letter_at, is_on_map, IsMapView, IsView, FollowsView}
-use Rattle.view_change.specs.Change.{minus, shown_change, map_change, or_old, map_with, difference, change_of, apply_change}
+use Rattle.view_change.specs.Change.{minus, shown_change, map_change, map_with, difference, change_of, apply_change}
 use Rattle.views.specs.Lettered.{has_letter}
-use Rattle.views.proofs.SameLemmas.{Tells, same_option-tells, same_bool-tells, same_mode-tells, same_letter-tells, same_light-tells, same_bytes-tells, same_map-tells, same_token-tells, same_view-tells}
+use Rattle.views.proofs.SameLemmas.{Tells, option_eq-tells, same_bool-tells, same_mode-tells, same_letter-tells, same_light-tells, same_bytes-tells, same_map-tells, same_token-tells, same_view-tells}
 use Rattle.views.proofs.Orders.{tag_total, id_total, cell_total}
 use Rattle.views.proofs.Orders.{tag_anti, tag_ties, id_anti, id_ties, cell_anti}
 use Rattle.views.proofs.Orders.{eq_is}
@@ -49,15 +50,15 @@ mode-gives same tells x y = here (same x y) (tells x y)
     here true d = d.0 refl
     here false d = refl
 
-shown_change-gives : (x y : Option Bool) → is_some x ≡ is_some y → or_old (shown_change x y) x ≡ y
-shown_change-gives x y s = here (same_option same_bool x y) (same_option-tells same_bool same_bool-tells x y)
+shown_change-gives : (x y : Option Bool) → is_some x ≡ is_some y → option_or (shown_change x y) x ≡ y
+shown_change-gives x y s = here (option_eq same_bool x y) (option_eq-tells same_bool same_bool-tells x y)
   where
-    olds : (x y : Option Bool) → is_some x ≡ is_some y → or_old y x ≡ y
+    olds : (x y : Option Bool) → is_some x ≡ is_some y → option_or y x ≡ y
     olds x (Some b) s = refl
     olds None None s = refl
     olds (Some a) None s = cc
 
-    here : (b : Bool) → Decides b (x ≡ y) → or_old (cond b None y) x ≡ y
+    here : (b : Bool) → Decides b (x ≡ y) → option_or (cond b None y) x ≡ y
     here true d = d.0 refl
     here false d = olds x y s
 

@@ -1,5 +1,5 @@
 -- What the test of sizes says.
-use Rattle.std.proofs.Common.{◌≡◌, true, false, Bool, ◌&&◌, ◌||◌, ◌==◌, List, [], ◌∷◌, refl, arith}
+use Rattle.std.proofs.Common.{◌≡◌, true, false, Bool, ◌&&◌, ◌||◌, ◌==◌, List, [], ◌∷◌, refl, sym, ◌∙◌, arith, get_or}
 use Rattle.std.specs.Prelude.{All, not}
 use Rattle.std.specs.List.{list_all}
 use Rattle.std.specs.Str.{bytes_eq}
@@ -11,8 +11,9 @@ use Rattle.names.specs.Tag.{tag_cmp}
 use Rattle.views.specs.declared.view.MapView.{MapView}
 use Rattle.views.specs.Keys.{map_name}
 use Rattle.view_change.specs.Views.{fits_test, HaveOneSize, FitsAmong}
-use Rattle.views.proofs.Orders.{tag_total}
-use Rattle.views.proofs.Orders.{tag_anti}
+use Rattle.views.proofs.Orders.{tag_total, tag_anti}
+use Rattle.views.specs.declared.view.View.{View}
+use Rattle.views.specs.Views.{IsView, IsMapView, FollowsView}
 use Rattle.view_change.proofs.KeyedLemmas.{at-all, at-key}
 
 all_of : {X : Type 0} (p : X → Bool) (P : X → Type 0) → ((x : X) → p x ≡ true → P x) → (xs : List X) → list_all p xs ≡ true → All P xs
@@ -47,3 +48,18 @@ all_fit before after e =
     all_of (λ n. list_all (λ m. fits_test m n) before) (FitsAmong before)
     (λ n f m found. one_size m n (at-all tag_cmp map_name tag_total tag_anti (λ m. fits_test m n ≡ true) n.name before m (all_of (λ m. fits_test m n) (λ m. fits_test m n ≡ true) (λ m g. g) before f) found)
     (tag_anti n.name m.name (at-key tag_cmp map_name tag_total tag_anti n.name before m found))) after e
+
+-- of two views of which the second may follow the first, each map that is in both has one size
+pub follows_fits : (a b : View) → IsView a → IsView b → FollowsView a b → All (FitsAmong a.maps) b.maps
+follows_fits a b fa fb f =
+    λ k d h m found.
+    let n : MapView = get_or b.maps k d in
+    let old : IsMapView a.gm m = at-all tag_cmp map_name tag_total tag_anti (IsMapView a.gm) n.name a.maps m fa.each_map found in
+    let new : IsMapView b.gm n = fb.each_map k d h in
+    let name : n.name ≡ m.name = tag_anti n.name m.name (at-key tag_cmp map_name tag_total tag_anti n.name a.maps m found) in
+    let size : m.size ≡ n.size =
+    at-all tag_cmp map_name tag_total tag_anti (λ z. All (λ n. z.name ≡ n.name → z.size ≡ n.size) b.maps) n.name a.maps m f.sizes found k d h (sym name) in
+    record {
+      seen = new.seen_size ∙ sym size ∙ sym old.seen_size;
+      exposed = new.exposed_size ∙ sym size ∙ sym old.exposed_size;
+    }

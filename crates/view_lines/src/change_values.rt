@@ -53,7 +53,9 @@ fn put_mode(
 fn new_terrain(alloc: Global, change: &MapChange) -> Result<Vec<Value>, AllocError>
     ensures { IfOk result (λ vs. map view vs.items ≡ terrain_data (lettered_cells change.now) change.now.letters) }
 {
-    let cells = lettered(alloc, change.dark.size(), change.letters.items())?;
+    let Ok(cells) = lettered(alloc, change.dark.size(), change.letters.items()) else {
+        return Err(AllocError);
+    };
     terrain(alloc, &cells, change.letters.items())
 }
 

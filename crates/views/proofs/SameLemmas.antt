@@ -13,7 +13,8 @@ use Rattle.names.specs.declared.kinds.Mode.TheVariants.{Off, Day, Night}
 use Rattle.names.specs.declared.kinds.Layer.{Layer}
 use Rattle.names.specs.declared.kinds.Layer.TheVariants.{Token, Hidden, Object, Background}
 use Rattle.names.proofs.SameIds.{id_eq-Decides}
-use Rattle.views.specs.Same.{same_option, same_bool, mode_number, same_mode, layer_number, same_layer, same_extent, same_cell, same_letter, same_light, same_bytes, same_props, same_map, same_owned, same_whole, same_token, same_view}
+use Rattle.std.specs.Option.{option_eq}
+use Rattle.views.specs.Same.{same_bool, mode_number, same_mode, layer_number, same_layer, same_extent, same_cell, same_letter, same_light, same_bytes, same_props, same_map, same_owned, same_whole, same_token, same_view}
 
 -- a test that tells equality
 abbrev pub Tells : {A : Type 0} → (A → A → Bool) → Type 0
@@ -22,11 +23,11 @@ Tells {A} same = (x y : A) → Decides (same x y) (x ≡ y)
 pub pointwise-tells : {A : Type 0} (same : A → A → Bool) → Tells same → Tells (pointwise same)
 pointwise-tells same tells xs ys = slice_eq-Decides tells xs ys _ refl
 
-pub same_option-tells : {A : Type 0} (same : A → A → Bool) → Tells same → Tells (same_option same)
-same_option-tells same tells None None = (λ _. refl, λ _. refl)
-same_option-tells same tells None (Some y) = (λ h. cc, λ h. cc)
-same_option-tells same tells (Some x) None = (λ h. cc, λ h. cc)
-same_option-tells same tells (Some x) (Some y) = Decides-like _ (λ e. ap Some e) (λ e. ap (λ o. unwrap_or o x) e) (tells x y)
+pub option_eq-tells : {A : Type 0} (same : A → A → Bool) → Tells same → Tells (option_eq same)
+option_eq-tells same tells None None = (λ _. refl, λ _. refl)
+option_eq-tells same tells None (Some y) = (λ h. cc, λ h. cc)
+option_eq-tells same tells (Some x) None = (λ h. cc, λ h. cc)
+option_eq-tells same tells (Some x) (Some y) = Decides-like _ (λ e. ap Some e) (λ e. ap (λ o. unwrap_or o x) e) (tells x y)
 
 pub same_bool-tells : Tells same_bool
 same_bool-tells true true = (λ _. refl, λ _. refl)
@@ -91,12 +92,12 @@ pub same_map-tells : Tells same_map
 same_map-tells a b = Decides-like _
     (λ p. λ i. record { name = p.0 i; size = p.1.0 i; mode = p.1.1.0 i; shown = p.1.1.1.0 i; seen = p.1.1.1.1.0 i; exposed = p.1.1.1.1.1.0 i; letters = p.1.1.1.1.1.1 i })
     (λ e. (ap (λ z. z.name) e, (ap (λ z. z.size) e, (ap (λ z. z.mode) e, (ap (λ z. z.shown) e, (ap (λ z. z.seen) e, (ap (λ z. z.exposed) e, ap (λ z. z.letters) e)))))))
-    (Decides-and _ _ (bytes_eq-Decides a.name b.name) (Decides-and _ _ (same_extent-tells a.size b.size) (Decides-and _ _ (same_mode-tells a.mode b.mode) (Decides-and _ _ (same_option-tells same_bool same_bool-tells a.shown b.shown)
+    (Decides-and _ _ (bytes_eq-Decides a.name b.name) (Decides-and _ _ (same_extent-tells a.size b.size) (Decides-and _ _ (same_mode-tells a.mode b.mode) (Decides-and _ _ (option_eq-tells same_bool same_bool-tells a.shown b.shown)
     (Decides-and _ _ (cells_eq_tells a.seen b.seen) (Decides-and _ _ (cells_eq_tells a.exposed b.exposed) (pointwise-tells same_letter same_letter-tells a.letters b.letters)))))))
 
 same_owned-tells : Tells same_owned
 same_owned-tells a b = Decides-like _ (λ p. λ i. record { sight = p.0 i; light = p.1.0 i; own = p.1.1 i }) (λ e. (ap (λ z. z.sight) e, (ap (λ z. z.light) e, ap (λ z. z.own) e)))
-    (Decides-and _ _ (same_option-tells bytes_eq bytes_eq-Decides a.sight b.sight) (Decides-and _ _ (same_option-tells bytes_eq bytes_eq-Decides a.light b.light) (same_props-tells a.own b.own)))
+    (Decides-and _ _ (option_eq-tells bytes_eq bytes_eq-Decides a.sight b.sight) (Decides-and _ _ (option_eq-tells bytes_eq bytes_eq-Decides a.light b.light) (same_props-tells a.own b.own)))
 
 same_whole-tells : Tells same_whole
 same_whole-tells a b = Decides-like _ (λ p. λ i. record { owners = p.0 i; secret = p.1.0 i; visible = p.1.1 i }) (λ e. (ap (λ z. z.owners) e, (ap (λ z. z.secret) e, ap (λ z. z.visible) e)))
@@ -107,7 +108,7 @@ same_token-tells a b = Decides-like _
     (λ p. λ i. record { id = p.0 i; name = p.1.0 i; map = p.1.1.0 i; cell = p.1.1.1.0 i; size = p.1.1.1.1.0 i; layer = p.1.1.1.1.1.0 i; props = p.1.1.1.1.1.1.0 i; owned = p.1.1.1.1.1.1.1.0 i; whole = p.1.1.1.1.1.1.1.1 i })
     (λ e. (ap (λ z. z.id) e, (ap (λ z. z.name) e, (ap (λ z. z.map) e, (ap (λ z. z.cell) e, (ap (λ z. z.size) e, (ap (λ z. z.layer) e, (ap (λ z. z.props) e, (ap (λ z. z.owned) e, ap (λ z. z.whole) e)))))))))
     (Decides-and _ _ (id_eq-Decides a.id b.id) (Decides-and _ _ (bytes_eq-Decides a.name b.name) (Decides-and _ _ (bytes_eq-Decides a.map b.map) (Decides-and _ _ (same_cell-tells a.cell b.cell) (Decides-and _ _ (Decides-eqb a.size b.size)
-    (Decides-and _ _ (same_layer-tells a.layer b.layer) (Decides-and _ _ (same_props-tells a.props b.props) (Decides-and _ _ (same_option-tells same_owned same_owned-tells a.owned b.owned) (same_option-tells same_whole same_whole-tells a.whole b.whole)))))))))
+    (Decides-and _ _ (same_layer-tells a.layer b.layer) (Decides-and _ _ (same_props-tells a.props b.props) (Decides-and _ _ (option_eq-tells same_owned same_owned-tells a.owned b.owned) (option_eq-tells same_whole same_whole-tells a.whole b.whole)))))))))
 
 pub same_view-tells : Tells same_view
 unfolding same_view

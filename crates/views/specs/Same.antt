@@ -1,5 +1,6 @@
 -- Tests that tell whether two views, or two parts of views, are equal.
-use Rattle.std.specs.Prelude.{ℕ, ℤ, ◌==◌, ◌&&◌, Bool, true, false, List, Option, Some, None, not, cond}
+use Rattle.std.specs.Prelude.{ℕ, ℤ, ◌==◌, ◌&&◌, Bool, true, false, List, not, cond}
+use Rattle.std.specs.Option.{option_eq}
 use Rattle.std.specs.Ordering.{int_eq}
 use Rattle.std.specs.Str.{bytes_eq}
 use Rattle.std.specs.Cmp.Lexicographic.{pointwise}
@@ -16,12 +17,6 @@ use Rattle.views.specs.declared.view.TokenView.{TokenView}
 use Rattle.views.specs.declared.view.OwnedPart.{OwnedPart}
 use Rattle.views.specs.declared.view.GmPart.{GmPart}
 use Rattle.views.specs.declared.view.View.{View}
-
-abbrev pub same_option : {A : Type 0} → (A → A → Bool) → Option A → Option A → Bool
-same_option same None None = true
-same_option same None (Some y) = false
-same_option same (Some x) None = false
-same_option same (Some x) (Some y) = same x y
 
 abbrev pub same_bool : Bool → Bool → Bool
 same_bool a b = cond a b (not b)
@@ -64,11 +59,11 @@ same_props = pointwise same_bytes
 
 abbrev pub same_map : MapView → MapView → Bool
 same_map a b =
-    bytes_eq a.name b.name && (same_extent a.size b.size && (same_mode a.mode b.mode && (same_option same_bool a.shown b.shown
+    bytes_eq a.name b.name && (same_extent a.size b.size && (same_mode a.mode b.mode && (option_eq same_bool a.shown b.shown
     && (cells_eq a.seen b.seen && (cells_eq a.exposed b.exposed && pointwise same_letter a.letters b.letters)))))
 
 abbrev pub same_owned : OwnedPart → OwnedPart → Bool
-same_owned a b = same_option bytes_eq a.sight b.sight && (same_option bytes_eq a.light b.light && same_props a.own b.own)
+same_owned a b = option_eq bytes_eq a.sight b.sight && (option_eq bytes_eq a.light b.light && same_props a.own b.own)
 
 abbrev pub same_whole : GmPart → GmPart → Bool
 same_whole a b = bytes_eq a.owners b.owners && (same_props a.secret b.secret && same_bool a.visible b.visible)
@@ -76,7 +71,7 @@ same_whole a b = bytes_eq a.owners b.owners && (same_props a.secret b.secret && 
 abbrev pub same_token : TokenView → TokenView → Bool
 same_token a b =
     id_eq a.id b.id && (bytes_eq a.name b.name && (bytes_eq a.map b.map && (same_cell a.cell b.cell && ((a.size == b.size)
-    && (same_layer a.layer b.layer && (same_props a.props b.props && (same_option same_owned a.owned b.owned && same_option same_whole a.whole b.whole)))))))
+    && (same_layer a.layer b.layer && (same_props a.props b.props && (option_eq same_owned a.owned b.owned && option_eq same_whole a.whole b.whole)))))))
 
 unfoldable pub same_view : View → View → Bool
 same_view a b =

@@ -5,7 +5,8 @@ ghost use Rattle.cells.specs.Cells.{has, cells_where};
 ghost use Rattle.views.specs.Lettered.{has_letter, with_lettered};
 
 use cells::{Cell, CellSet, Size};
-use std::alloc::{AllocError, Global};
+use names::Memory;
+use std::alloc::Global;
 
 /// Adds the cell, where it is on the map.
 fn add_on_map(cells: &mut CellSet, cell: Cell)
@@ -27,15 +28,11 @@ fn add_lettered(cells: &mut CellSet, letters: &[(Cell, u8)])
     }
 }
 
-/// The cells of a map of that size that have a letter. `AllocError` for want of memory.
-pub fn lettered(alloc: Global, size: Size, letters: &[(Cell, u8)]) -> Result<CellSet, AllocError>
+/// The cells of a map of that size that have a letter, or `Memory` for want of memory.
+pub fn lettered(alloc: Global, size: Size, letters: &[(Cell, u8)]) -> Result<CellSet, Memory>
     ensures { IfOk result (λ cells. cells ≡ cells_where size (has_letter letters.now)) }
 {
-    match CellSet::new(alloc, size) {
-        Ok(mut cells) => {
-            add_lettered(&mut cells, letters);
-            Ok(cells)
-        }
-        Err(_) => Err(AllocError),
-    }
+    let mut cells = CellSet::new(alloc, size)?;
+    add_lettered(&mut cells, letters);
+    Ok(cells)
 }

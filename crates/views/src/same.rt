@@ -1,5 +1,6 @@
 //! Whether two views, or two parts of views, are equal.
 ghost use Rattle.std.specs.Prelude.{◌≡◌, ◌↔◌, IsTrue};
+ghost use Rattle.std.specs.Option.{option_eq};
 ghost use Rattle.std.specs.Str.{bytes_eq};
 ghost use Rattle.std.specs.Cmp.Lexicographic.{pointwise};
 ghost use Rattle.cells.specs.Cells.{cells_eq};
@@ -31,7 +32,7 @@ fn same_layer(a: Layer, b: Layer) -> bool
 }
 
 fn same_flag(a: Option<bool>, b: Option<bool>) -> bool
-    ensures { result ≡ same.same_option same.same_bool a b }
+    ensures { result ≡ option_eq same.same_bool a b }
 {
     match (a, b) {
         (None, None) => true,
@@ -42,14 +43,14 @@ fn same_flag(a: Option<bool>, b: Option<bool>) -> bool
 
 /// Whether the two are equal: what a view says of whether players are shown a map.
 pub fn same_shown(a: Option<bool>, b: Option<bool>) -> bool
-    ensures test { result ≡ same.same_option same.same_bool a b }
+    ensures test { result ≡ option_eq same.same_bool a b }
     ensures tells { IsTrue result ↔ (a ≡ b) }
 {
     same_flag(a, b)
 }
 
 fn same_name(a: Option<Tag>, b: Option<Tag>) -> bool
-    ensures { result ≡ same.same_option bytes_eq a b }
+    ensures { result ≡ option_eq bytes_eq a b }
 {
     match (a, b) {
         (None, None) => true,
@@ -112,7 +113,7 @@ fn same_owned_part(a: &OwnedPart, b: &OwnedPart) -> bool
 }
 
 fn same_owned(a: &Option<OwnedPart>, b: &Option<OwnedPart>) -> bool
-    ensures { result ≡ same.same_option same.same_owned a.now b.now }
+    ensures { result ≡ option_eq same.same_owned a.now b.now }
 {
     match (a, b) {
         (None, None) => true,
@@ -130,7 +131,7 @@ fn same_gm_part(a: &GmPart, b: &GmPart) -> bool
 }
 
 fn same_whole(a: &Option<GmPart>, b: &Option<GmPart>) -> bool
-    ensures { result ≡ same.same_option same.same_whole a.now b.now }
+    ensures { result ≡ option_eq same.same_whole a.now b.now }
 {
     match (a, b) {
         (None, None) => true,
