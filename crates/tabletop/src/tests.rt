@@ -40,6 +40,14 @@ const PLAIN: Run<'static> = Run {
     output: "",
 };
 
+fn plain_run<'a>(campaign: &'a str, script: &'a str) -> Run<'a> {
+    Run {
+        campaign,
+        script,
+        ..PLAIN
+    }
+}
+
 const WORDS: [&str; 2] = ["play", "table.json"];
 
 // So many bytes an output takes.

@@ -2,9 +2,8 @@
 //! properties of each class at one token, and as many used tags as the game master and a player may use.
 
 use super::campaigns::THREE_SEATS;
-use super::{PLAIN, Run, WORDS, played, with_tabs};
+use super::{WORDS, plain_run, played, with_tabs};
 use std::alloc::Global;
-use std::process::Abort;
 use std::test::Fail;
 
 // The script's line, and the one line that it sends.
@@ -281,31 +280,32 @@ fn full_campaign(alloc: Global) -> Result<String, Fail> {
     Ok(text)
 }
 
-// What was printed of the script in the full campaign, which is played to its end.
-fn played_in_full(rt: &impl Abort, alloc: Global, script: &str) -> Result<String, Fail> {
+// The status of the script in the full campaign, and what was printed.
+fn played_in_full(alloc: Global, script: &str) -> Result<(u8, String), Fail> {
     let campaign = full_campaign(alloc)?;
-    let run = Run {
-        campaign: campaign.as_str(),
-        script,
-        ..PLAIN
-    };
-    let (status, output) = played(alloc, &WORDS, &run)?;
-    assert_eq!(rt; status, 0);
-    Ok(output)
+    played(alloc, &WORDS, &plain_run(&campaign, script))
 }
 
 #[test]
 fn each_refusal_is_given(rt: HostRuntime) -> Result<(), Fail> {
     let alloc = rt.alloc();
     let mut script = String::from_str(alloc, HELLOS)?;
-    let mut wanted = played_in_full(&rt, alloc, HELLOS)?;
+    let (status, mut wanted) = played_in_full(alloc, HELLOS)?;
+    assert_eq!(rt; status, 0);
     for (line, refusal) in &REFUSED {
         script.push_str(line)?;
-        script.push_str("\n")?;
+        script.push_str(
+            "
+",
+        )?;
         wanted.push_str(&with_tabs(alloc, refusal)?)?;
-        wanted.push_str("\n")?;
+        wanted.push_str(
+            "
+",
+        )?;
     }
-    let output = played_in_full(&rt, alloc, &script)?;
+    let (status, output) = played_in_full(alloc, &script)?;
+    assert_eq!(rt; status, 0);
     assert_eq!(rt; output.as_str(), wanted.as_str());
     Ok(())
 }
@@ -327,12 +327,7 @@ fn spending(alloc: Global) -> Result<String, Fail> {
 fn a_seat_has_so_many_lines_in_a_run(rt: HostRuntime) -> Result<(), Fail> {
     let alloc = rt.alloc();
     let script = spending(alloc)?;
-    let run = Run {
-        campaign: THREE_SEATS,
-        script: script.as_str(),
-        ..PLAIN
-    };
-    let (status, output) = played(alloc, &WORDS, &run)?;
+    let (status, output) = played(alloc, &WORDS, &plain_run(THREE_SEATS, &script))?;
     assert_eq!(rt; status, 0);
     let end = r#"2 {"n":16383,"no":1,"refused":"BadJson"}
 2 {"n":16384,"no":1,"refused":"BadJson"}

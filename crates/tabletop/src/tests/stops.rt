@@ -1,7 +1,7 @@
 //! Runs that stop before the end of their script, and the limits of lines and campaigns.
 
 use super::campaigns::{THREE_SEATS, TWO_SEATS};
-use super::{PLAIN, Run, WORDS, played, with_tabs};
+use super::{PLAIN, Run, WORDS, plain_run, played, with_tabs};
 use std::alloc::Global;
 use std::test::Fail;
 
@@ -117,12 +117,7 @@ fn long_line(alloc: Global, bytes: usize) -> Result<String, Fail> {
 // The status, and what was printed of a script with such a line.
 fn played_long(alloc: Global, bytes: usize) -> Result<(u8, String), Fail> {
     let script = long_line(alloc, bytes)?;
-    let run = Run {
-        campaign: THREE_SEATS,
-        script: script.as_str(),
-        ..PLAIN
-    };
-    played(alloc, &WORDS, &run)
+    played(alloc, &WORDS, &plain_run(THREE_SEATS, &script))
 }
 
 const JOINED: &str = r#"1 {"n":1,"ok":"hello","seat":1,"seats":3}
@@ -155,11 +150,7 @@ fn a_line_has_a_limit(rt: HostRuntime) -> Result<(), Fail> {
 fn a_campaign_has_a_limit(rt: HostRuntime) -> Result<(), Fail> {
     let alloc = rt.alloc();
     let campaign = String::from_utf8(vec![in alloc; b' '; 16_777_217]?)?;
-    let run = Run {
-        campaign: campaign.as_str(),
-        ..PLAIN
-    };
-    let (status, output) = played(alloc, &WORDS, &run)?;
+    let (status, output) = played(alloc, &WORDS, &plain_run(&campaign, ""))?;
     assert_eq!(rt; status, 8);
     assert_eq!(rt; output.as_str(), "tabletop: too large\n");
     Ok(())
