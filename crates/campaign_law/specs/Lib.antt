@@ -8,3 +8,5 @@ pub mod State
 pub mod Player
 pub mod Law
 pub mod SessionLaws
+pub mod Written
+pub mod Worlds

@@ -1,8 +1,9 @@
 //! What a campaign is: entries, their outcomes, the replay, what is sent, and the player machine, which
-//! holds no world. The laws of what players are sent and of one session stand on functions.
+//! holds no world. The laws of what players are sent, of one session and of the worlds of a replay stand on functions.
 #![tactic(auto)]
 
 ghost use Rattle.campaign_law.specs.Law.{SentIsMachine, AgreeingSendAlike, NoLineEndIsSent, RefusedChangesLittle};
+ghost use Rattle.campaign_law.specs.Worlds.{OpeningWorldFits, WorldsFit, MadeTokensAreNew, OpeningSceneIsOrderly, ScenesAreOrderly, OpeningWorldIsWritten, WorldsAreWritten};
 ghost use Rattle.campaign_law.specs.SessionLaws.{AcceptedJoinSeats, LeaveCloses, JoinedSeatStays, LastingSessionIsHeld, HeldSessionLasts, SessionGrows, EndedSessionStays, EndedSessionWasTaken, TakensBoundSession};
 
 mod answer;
@@ -39,4 +40,20 @@ pub fn session_laws()
 
     ensures taken { EndedSessionWasTaken }
     ensures bounded { TakensBoundSession }
+{}
+
+/// The laws of the worlds of a replay. A world that fits together opens to one that does, and so does each world after it: 1 to 33
+/// seats, numbered by their places, of which all but the first are its scene's players, and each token's maker used its
+/// tag. So a token that an accepted command makes is new. The parts of each scene fit together and its tables stay in order.
+/// Names, sizes and keys stay as a campaign text takes them.
+pub fn worlds_fit()
+    ensures opens { OpeningWorldFits }
+    ensures always { WorldsFit }
+    ensures new { MadeTokensAreNew }
+
+    ensures opens_orderly { OpeningSceneIsOrderly }
+    ensures orderly { ScenesAreOrderly }
+
+    ensures opens_written { OpeningWorldIsWritten }
+    ensures written { WorldsAreWritten }
 {}

@@ -5,4 +5,5 @@ pub mod Tags
 pub mod Settle
 pub mod Allowed
 pub mod Seen
+pub mod Orders
 pub mod Follows
