@@ -1,3 +1,11 @@
 pub mod Openings
+pub mod Steps
 pub mod Nexts
+pub mod Bounds
+pub mod Leaving
+pub mod Laws
+pub mod Posts
+pub mod Puts
+pub mod Shows
+pub mod Running
 pub mod Lines
