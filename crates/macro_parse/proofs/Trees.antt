@@ -1,7 +1,10 @@
 -- A node's tree is what it shows, and its parts stand before it.
-use Rattle.std.proofs.Common.{◌≡◌, ℕ, zero, suc, ◌<◌, List, [], ◌∷◌, Some, None, refl, sym, ◌∙◌, ap, ap₂, subst, arith}
-use Rattle.std.specs.Prelude.{All}
+use Rattle.std.proofs.Common.{◌≡◌, ℕ, zero, suc, ◌<◌, ◌≤◌, List, [], ◌∷◌, Some, None, refl, sym, ◌∙◌, ap, ap₂, subst, arith}
+use Rattle.std.specs.Prelude.{slice_get, All}
+use Rattle.macro_grammar.specs.declared.words.Operator.{Operator}
+use Rattle.macro_grammar.specs.declared.words.Function.{Function}
 use Rattle.macro_parse.specs.declared.nodes.Node.{Node}
+use Rattle.macro_parse.specs.declared.nodes.Node.TheVariants.{Binary as BinaryNode, Negated as NegatedNode}
 use Rattle.std.proofs.lemmas.List.Elements.{All-nil, All-cons}
 use Rattle.macro_parse.specs.declared.nodes.Address.{Address as FlatAddress}
 use Rattle.macro_parse.specs.declared.nodes.Branch.{Branch as FlatBranch}

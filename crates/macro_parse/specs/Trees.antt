@@ -1,5 +1,5 @@
 -- The tree and the pieces that flat nodes stand for, as functions of the nodes.
-use Rattle.std.specs.Prelude.{ℕ, zero, suc, All, List, map, Option, Some, None, slice_get}
+use Rattle.std.specs.Prelude.{ℕ, zero, suc, All, List, [], ◌∷◌, map, Option, Some, None, slice_get}
 use Rattle.macro_parse.specs.declared.nodes.Node.{Node}
 use Rattle.macro_parse.specs.declared.nodes.Node.TheVariants.{Number as NumberNode, Dice as DiceNode, Quoted as QuotedNode, Name as NameNode, Call as CallNode, Negated as NegatedNode, Inverted as InvertedNode, Binary as BinaryNode, Assigned as AssignedNode}
 use Rattle.macro_parse.specs.declared.nodes.Arguments.TheVariants.{Nothing, One, Two, Three}

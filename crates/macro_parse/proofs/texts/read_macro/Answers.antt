@@ -7,6 +7,7 @@ use Rattle.macro_parse.proofs.MacrosFound.{text_read, text_off, told_off, text_l
 use Rattle.macro_parse.proofs.Limits.{macro_fit, macro_too_much, macro_bad}
 use Rattle.macro_grammar.specs.Limits.{PiecesFit}
 use Rattle.macro_parse.specs.Answers.{macro_of}
+use Rattle.macro_parse.specs.Trees.{pieces_at}
 use Rattle.std.specs.Prelude.{Ok}
 use Rattle.macro_parse.proofs.texts.read_macro.Goals as goal
 
