@@ -1,9 +1,10 @@
 // The rows in which a wall hides cells within reach.
 
-ghost use Rattle.std.specs.Prelude.{◌≡◌, ℕ, ◌+◌, ◌-◌, ◌*◌, ◌<◌, ◌≤◌, true};
+ghost use Rattle.std.specs.Prelude.{◌≡◌, ℕ, ◌+◌, ◌-◌, ◌*◌, ◌<◌, ◌≤◌, min, max, true};
 ghost use Rattle.lattice.specs.Coordinates.{centre_of, difference};
 ghost use Rattle.lattice.specs.Turning.{left_sum, right_sum, shadow_test};
 ghost use Rattle.topology.specs.Sight.{reach_test};
+ghost use Rattle.sight_sweep.specs.Spans.{IsRowOf};
 
 use crate::field::{REACH, across, down};
 use crate::paint::Span;
@@ -17,21 +18,30 @@ pub(crate) fn shadow_rows(eye: Point, a: Point, b: Point, rows: u8) -> Span
     ensures cover { (x y : ℕ) → y < rows → reach_test eye x y 40 ≡ true → shadow_test eye a b (centre_of x y) ≡ true → (result.first ≤ y) × (y < result.past) }
     ensures bound { result.past ≤ rows }
 {
-    let first = first_row(down(eye), down(a).min(down(b)));
-    let past = past_row(down(eye), down(a).max(down(b)), rows);
+    let near = near_rows(eye, a, b, rows);
     if across(eye) < across(a).min(across(b)) {
         Span {
-            first: first.max(first_risen(eye, a)),
-            past: past.min(past_fallen(eye, b)),
+            first: near.first.max(first_risen(eye, a)),
+            past: near.past.min(past_fallen(eye, b)),
         }
     } else if across(a).max(across(b)) < across(eye) {
         Span {
-            first: first.max(first_risen(eye, b)),
-            past: past.min(past_fallen(eye, a)),
+            first: near.first.max(first_risen(eye, b)),
+            past: near.past.min(past_fallen(eye, a)),
         }
     } else {
-        Span { first, past }
+        near
     }
+}
+
+// The rows, of so many, that are near the eye's height, and behind the wall from `a` to `b` or beside it.
+pub(crate) fn near_rows(eye: Point, a: Point, b: Point, rows: u8) -> Span
+    ensures cover { (y : ℕ) → y < rows → IsRowOf eye.y (min a.y b.y) (max a.y b.y) y → (result.first ≤ y) × (y < result.past) }
+    ensures bound { result.past ≤ rows }
+{
+    let first = first_row(down(eye), down(a).min(down(b)));
+    let past = past_row(down(eye), down(a).max(down(b)), rows);
+    Span { first, past }
 }
 
 // The first row that a wall hides cells of, whose upper end is at `top`, for an eye at that height.
