@@ -1,5 +1,5 @@
 -- What no command changes of a token: its id, its name and its size.
-use Rattle.std.proofs.Common.{◌≡◌, ℕ, ◌≤◌, Bool, true, false, cond, ◌&&◌, nat_le, length, List, Some, None, refl, ℤ, pos, negsuc, subst, sym, arith}
+use Rattle.std.proofs.Common.{◌≡◌, ℕ, ◌≤◌, Bool, true, ◌&&◌, nat_le, length, List, Some, None, refl, ℤ, pos, negsuc, subst, sym, arith}
 use Rattle.std.specs.Prelude.{Option}
 use Rattle.std.specs.List.{list_all}
 use Rattle.std.proofs.lemmas.Bool.Decides.{nat_tests}
@@ -7,7 +7,7 @@ use Rattle.names.specs.declared.kinds.PropClass.{PropClass}
 use Rattle.names.specs.declared.kinds.PropClass.TheVariants.{Public, Own as OwnClass, Secret as SecretClass}
 use Rattle.names.specs.declared.token_id.TokenId.{TokenId}
 use Rattle.tokens.specs.declared.token.Token.{Token as Made}
-use Rattle.tokens.specs.Tokens.{put, has_token, placed, with_light, with_prop, owned_by, on_layer, shown_if, with_sight}
+use Rattle.tokens.specs.Tokens.{placed, with_light, with_prop, owned_by, on_layer, shown_if, with_sight}
 use Rattle.command_json.specs.Limits.{IsCommand, IsNumber, IsWithin}
 use Rattle.command_json.specs.declared.command.Command.{Command}
 use Rattle.command_json.specs.declared.command.Command.TheVariants.{Move, Make, Token, Setprop, Light, Remove, Own, Layer, Visible, Sight, Place, Secret}

@@ -1,11 +1,11 @@
 -- Whom the tokens are of that a command leaves.
-use Rattle.std.proofs.Common.{◌≡◌, ℕ, Bool, true, false, cond, List, Some, None, refl, ℤ, subst, sym}
+use Rattle.std.proofs.Common.{◌≡◌, ℕ, Bool, true, List, Some, None, refl, ℤ, subst, sym}
 use Rattle.std.specs.Prelude.{Option}
 use Rattle.std.specs.List.{list_all}
 use Rattle.names.specs.declared.kinds.PropClass.TheVariants.{Secret as SecretClass}
 use Rattle.names.specs.declared.token_id.TokenId.{TokenId}
 use Rattle.tokens.specs.declared.token.Token.{Token as Made}
-use Rattle.tokens.specs.Tokens.{put, has_token, placed, with_light, with_prop, owned_by, on_layer, shown_if, with_sight}
+use Rattle.tokens.specs.Tokens.{placed, with_light, with_prop, owned_by, on_layer, shown_if, with_sight}
 use Rattle.command_json.specs.declared.command.Command.{Command}
 use Rattle.command_json.specs.declared.command.Command.TheVariants.{Move, Make, Token, Setprop, Light, Remove, Own, Layer, Visible, Sight, Place, Secret}
 use Rattle.world.specs.Scene.{Scene, with_token}

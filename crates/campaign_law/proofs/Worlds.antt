@@ -139,7 +139,7 @@ module _ (w : World) (e : Entry) where
   unfolding settled_scene
   same_tokens s = refl
 
-  same_players : (s : Scene) → (settled_scene s).fog.players ≡ s.fog.players
+  pub same_players : (s : Scene) → (settled_scene s).fog.players ≡ s.fog.players
   unfolding settled_scene
   same_players s = refl
 

@@ -10,3 +10,4 @@ pub mod Law
 pub mod SessionLaws
 pub mod Written
 pub mod Worlds
+pub mod Client

@@ -1,5 +1,5 @@
 -- The laws of one session of a seat, over every opening world and every history.
-use Rattle.std.specs.Prelude.{◌≡◌, ◌<◌, ◌≤◌, ℕ, suc, ◌==◌, Bool, true, false, List, [], ◌∷◌, ◌++◌, take, length, slice_get, Option, Some, None}
+use Rattle.std.specs.Prelude.{◌≡◌, ◌<◌, ◌≤◌, ℕ, suc, ◌==◌, Bool, true, false, List, [], ◌∷◌, ◌++◌, take, length, slice_get, Some, None}
 use mathlib.Core.List.{IsPrefix}
 use Rattle.seats.specs.SeatState.{is_free, is_joined}
 use Rattle.seats.specs.declared.seat_state.SeatState.{SeatState}

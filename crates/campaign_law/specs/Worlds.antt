@@ -2,7 +2,7 @@
 use Rattle.std.specs.Prelude.{◌≡◌, List, map, Some}
 use Rattle.world.specs.World.{World as Opened, IsWorld}
 use Rattle.command_json.specs.declared.command.Command.{Command}
-use Rattle.command_effects.specs.Orders.{IsOrderly}
+use Rattle.player_view.specs.Tables.{HasTables}
 use Rattle.command_effects.specs.Settle.{settled}
 use Rattle.command_effects.specs.Tags.{MakesNew}
 use Rattle.campaign_law.specs.declared.entry.Entry.{Entry}
@@ -36,12 +36,12 @@ WorldsFit = (w : World) (h : List Entry) → FitsTogether w → FitsTogether (re
 abbrev pub MadeTokensAreNew : Type 0
 MadeTokensAreNew = (w : World) (e : Entry) (c : Command) → FitsTogether w → (outcome_of w e).done ≡ Some c → MakesNew w.scene (seat_of e) c
 
--- the scene stays orderly
-abbrev pub OpeningSceneIsOrderly : Type 0
-OpeningSceneIsOrderly = (opened : Opened) → IsOrderly opened.scene → IsOrderly (opening_world opened).scene
+-- the parts of the scene fit together, and its tables are in order
+abbrev pub OpeningSceneHasTables : Type 0
+OpeningSceneHasTables = (opened : Opened) → HasTables opened.scene → HasTables (opening_world opened).scene
 
-abbrev pub ScenesAreOrderly : Type 0
-ScenesAreOrderly = (w : World) (h : List Entry) → FitsTogether w → IsOrderly w.scene → IsOrderly (replay w h).scene
+abbrev pub ScenesHaveTables : Type 0
+ScenesHaveTables = (w : World) (h : List Entry) → FitsTogether w → HasTables w.scene → HasTables (replay w h).scene
 
 -- names, sizes and keys stay as a campaign text takes them
 abbrev pub OpeningWorldIsWritten : Type 0

@@ -1,9 +1,11 @@
 //! What a campaign is: entries, their outcomes, the replay, what is sent, and the player machine, which
-//! holds no world. The laws of what players are sent, of one session and of the worlds of a replay stand on functions.
+//! holds no world. The laws of what players are sent, of one session, of the worlds of a replay and of a client that
+//! reads its lines stand on functions.
 #![tactic(auto)]
 
 ghost use Rattle.campaign_law.specs.Law.{SentIsMachine, AgreeingSendAlike, NoLineEndIsSent, RefusedChangesLittle};
-ghost use Rattle.campaign_law.specs.Worlds.{OpeningWorldFits, WorldsFit, MadeTokensAreNew, OpeningSceneIsOrderly, ScenesAreOrderly, OpeningWorldIsWritten, WorldsAreWritten};
+ghost use Rattle.campaign_law.specs.Client.{LinesTellViews, ClientHoldsView};
+ghost use Rattle.campaign_law.specs.Worlds.{OpeningWorldFits, WorldsFit, MadeTokensAreNew, OpeningSceneHasTables, ScenesHaveTables, OpeningWorldIsWritten, WorldsAreWritten};
 ghost use Rattle.campaign_law.specs.SessionLaws.{AcceptedJoinSeats, LeaveCloses, JoinedSeatStays, LastingSessionIsHeld, HeldSessionLasts, SessionGrows, EndedSessionStays, EndedSessionWasTaken, TakensBoundSession};
 
 mod answer;
@@ -51,9 +53,17 @@ pub fn worlds_fit()
     ensures always { WorldsFit }
     ensures new { MadeTokensAreNew }
 
-    ensures opens_orderly { OpeningSceneIsOrderly }
-    ensures orderly { ScenesAreOrderly }
+    ensures opens_tables { OpeningSceneHasTables }
+    ensures tables { ScenesHaveTables }
 
     ensures opens_written { OpeningWorldIsWritten }
     ensures written { WorldsAreWritten }
+{}
+
+/// The laws of a client that reads the lines of its seat, the game master's or a player's. Each line is a reply, a message, or tells the
+/// whole view or the change from the view before. A client that takes the one, and applies the other to the view that it
+/// holds, holds just what its seat is shown after each entry at which the seat is present.
+pub fn client_laws()
+    ensures lines { LinesTellViews }
+    ensures holds { ClientHoldsView }
 {}

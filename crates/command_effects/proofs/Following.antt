@@ -1,6 +1,6 @@
 -- No command takes a map or a type, or changes a map's size.
 use Rattle.std.proofs.Common.{◌≡◌, ℕ, Bool, true, false, cond, List, Option, Some, None, refl, sym, ◌∙◌, ap, ℤ}
-use Rattle.std.specs.Prelude.{option_map, is_some, nat_le}
+use Rattle.std.specs.Prelude.{option_map, is_some}
 use Rattle.std.specs.Ordering.{eq_by_cmp}
 use Rattle.std.specs.Cmp.Lexicographic.{nat_list_cmp_total}
 use Rattle.std.specs.FinMap.Entries.{find-put}
@@ -9,14 +9,13 @@ use Rattle.std.proofs.lemmas.Slice.Eq.{bytes_eq-Decides}
 use Rattle.names.specs.Tag.{tag_cmp}
 use Rattle.names.specs.declared.token_id.TokenId.{TokenId}
 use Rattle.cells.specs.Cells.{Extent}
-use Rattle.maps.specs.Maps.{Grid, map_of, has_map, with_map, new_map, with_mode, shown_if as map_shown_if, with_letters, with_wall_of, without_wall_of}
+use Rattle.maps.specs.Maps.{Grid, map_of, new_map, with_mode, shown_if as map_shown_if, with_letters, with_wall_of, without_wall_of}
 use Rattle.maps.specs.MapFaults.{map_fault}
 use Rattle.maps.specs.declared.map_table.MapFault.TheVariants.{MapExists, MapLimit}
 use Rattle.topology.specs.WallLists.{with_wall, without_wall}
 use Rattle.topology.specs.Order.{wall_between}
 use Rattle.tokens.specs.declared.token.Token.{Token as Made}
 use Rattle.type_table.specs.Types.{type_of, with_type}
-use Rattle.command_json.specs.declared.command.Command.{Command}
 use Rattle.command_json.specs.declared.command.Command.TheVariants.{Move, Map, Mode, Show, Terrain, Wall, Unwall, Lighttype, Sighttype}
 use Rattle.world.specs.Scene.{Scene, with_grid, with_new_map}
 use Rattle.world.specs.Rules.{size_of}
@@ -24,7 +23,6 @@ use Rattle.world.proofs.FogRules.{size_of-changed, size_of-with_map}
 use Rattle.world.proofs.SceneRules.{walls_keep_size}
 use Rattle.player_view.specs.Follows.{Follows}
 use Rattle.command_rules.specs.Places.{coordinate, rect_at, point_at}
-use Rattle.command_effects.specs.Allowed.{IsAllowed}
 use Rattle.command_effects.specs.GmEffects.{gm_scene_by, sight_by}
 use Rattle.command_effects.specs.Effects.{own_token, after_steps, scene_by}
 use Rattle.command_effects.specs.Follows.{ScenesFollow}

@@ -1,4 +1,4 @@
--- A scene that is orderly stays so by each command that breaks no rule.
+-- The parts of a scene fit together and its tables are in order after each command that breaks no rule.
 use lib.Dec.{T}
 use Rattle.std.proofs.Common.{◌≡◌, ℕ, ◌≤◌, Bool, true, false, List, map, length, Some, None, refl, sym, ◌∙◌, ap, subst, ℤ}
 use Rattle.std.specs.Prelude.{Option, IfSome, nat_le, if◌then◌else◌}
@@ -37,7 +37,7 @@ use Rattle.command_effects.specs.Allowed.{IsAllowed, MayMove, MayPlace}
 use Rattle.command_effects.specs.Effects.{own_token, cell_after, after_steps, scene_by}
 use Rattle.command_effects.specs.GmEffects.{gm_scene_by, sight_by, with_fog}
 use Rattle.command_effects.specs.Making.{new_token, players_token, with_new}
-use Rattle.command_effects.specs.Orders.{IsOrderly}
+use Rattle.player_view.specs.Tables.{HasTables}
 use Rattle.command_effects.specs.Seen.{seen_for}
 use Rattle.command_effects.specs.Settle.{settled}
 use Rattle.command_effects.specs.Tags.{MakesNew}
@@ -49,27 +49,27 @@ use Rattle.command_effects.proofs.Settling.{is_settled}
 -- ---- tokens
 
 -- one token is changed, which keeps its id and belongs to the scene as before
-changed_kept : (s : Scene) (f : Made → Made) → ((t : Made) → (f t).id ≡ t.id) → ((t : Made) → belongs s t ≡ true → belongs s (f t) ≡ true) → (id : TokenId) → IsOrderly s → IsOrderly (with_token id f s)
+changed_kept : (s : Scene) (f : Made → Made) → ((t : Made) → (f t).id ≡ t.id) → ((t : Made) → belongs s t ≡ true → belongs s (f t) ≡ true) → (id : TokenId) → HasTables s → HasTables (with_token id f s)
 changed_kept s f same keeps id is = record {
-  fits = IsScene-changed s f keeps id is.fits;
+  fitting = IsScene-changed s f keeps id is.fitting;
   maps = is.maps;
   tokens = in_order-changed f same id s.tokens ∙ is.tokens;
   lights = is.lights;
   sights = is.sights;
 }
 
-made_kept : (s : Scene) (t : Made) → has_token t.id s.tokens ≡ false → belongs s t ≡ true → IsOrderly s → IsOrderly (with_new t s)
+made_kept : (s : Scene) (t : Made) → has_token t.id s.tokens ≡ false → belongs s t ≡ true → HasTables s → HasTables (with_new t s)
 made_kept s t new fitting is = record {
-  fits = IsScene-put s t fitting is.fits;
+  fitting = IsScene-put s t fitting is.fitting;
   maps = is.maps;
   tokens = in_order-put t s.tokens new is.tokens;
   lights = is.lights;
   sights = is.sights;
 }
 
-removed_kept : (s : Scene) (id : TokenId) → IsOrderly s → IsOrderly (record s { tokens = without id s.tokens })
+removed_kept : (s : Scene) (id : TokenId) → HasTables s → HasTables (record s { tokens = without id s.tokens })
 removed_kept s id is = record {
-  fits = IsScene-without s id is.fits;
+  fitting = IsScene-without s id is.fitting;
   maps = is.maps;
   tokens = in_order-without id s.tokens is.tokens;
   lights = is.lights;
@@ -77,21 +77,21 @@ removed_kept s id is = record {
 }
 
 -- the token of that id, which is there, goes to a cell of a map on which its square is
-placed_kept : (s : Scene) (id : TokenId) (map : List ℕ) (cell : Cell) → IfSome (token_of id s.tokens) (λ t. fits_on (size_of map s.maps) cell t.size ≡ true) → IsOrderly s → IsOrderly (with_token id (placed map cell) s)
+placed_kept : (s : Scene) (id : TokenId) (map : List ℕ) (cell : Cell) → IfSome (token_of id s.tokens) (λ t. fits_on (size_of map s.maps) cell t.size ≡ true) → HasTables s → HasTables (with_token id (placed map cell) s)
 placed_kept s id map cell fitting is = record {
-  fits = IsScene-placed s id map cell is.tokens fitting is.fits;
+  fitting = IsScene-placed s id map cell is.tokens fitting is.fitting;
   maps = is.maps;
   tokens = in_order-changed (placed map cell) (λ t. refl) id s.tokens ∙ is.tokens;
   lights = is.lights;
   sights = is.sights;
 }
 
-steps_kept : (steps seat : ℕ) (s : Scene) (id : TokenId) (path : List (ℤ × ℤ)) → MayMove s seat id path → (o : Option Made) → own_token s seat id ≡ o → IsOrderly s → IsOrderly (after_steps steps id path o s)
+steps_kept : (steps seat : ℕ) (s : Scene) (id : TokenId) (path : List (ℤ × ℤ)) → MayMove s seat id path → (o : Option Made) → own_token s seat id ≡ o → HasTables s → HasTables (after_steps steps id path o s)
 steps_kept steps seat s id path may None found is = is
 steps_kept steps seat s id path may (Some t) found is =
     placed_kept s id t.map (cell_after steps t.cell path) (placing s seat id path t steps (cell_after steps t.cell path) s may is.tokens found refl refl).1 is
 
-place_kept : (s : Scene) (id : TokenId) (map : List ℕ) (place : ℤ × ℤ) → MayPlace s id map place → IsOrderly s → IsOrderly (with_token id (placed map (cell_at place)) s)
+place_kept : (s : Scene) (id : TokenId) (map : List ℕ) (place : ℤ × ℤ) → MayPlace s id map place → HasTables s → HasTables (with_token id (placed map (cell_at place)) s)
 place_kept s id map place may is =
     placed_kept s id map (cell_at place)
     (subst (λ (o : Option Made). IfSome o (λ t. fits_on (size_of map s.maps) (cell_at place) t.size ≡ true)) (sym may.found)
@@ -101,9 +101,9 @@ place_kept s id map place may is =
 -- ---- maps
 
 -- one map is changed, which keeps its name and its size
-grid_kept : (s : Scene) (f : Grid → Grid) → ((m : Grid) → (f m).name ≡ m.name) → ((m : Grid) → (f m).walls.extent ≡ m.walls.extent) → (name : List ℕ) → IsOrderly s → IsOrderly (with_grid name f s)
+grid_kept : (s : Scene) (f : Grid → Grid) → ((m : Grid) → (f m).name ≡ m.name) → ((m : Grid) → (f m).walls.extent ≡ m.walls.extent) → (name : List ℕ) → HasTables s → HasTables (with_grid name f s)
 grid_kept s f names sizes name is = record {
-  fits = IsScene-grid s f names sizes name is.fits;
+  fitting = IsScene-grid s f names sizes name is.fitting;
   maps = grids_in_order f names name s.maps ∙ is.maps;
   tokens = is.tokens;
   lights = is.lights;
@@ -117,9 +117,9 @@ no_map maps name none = by (has_map name maps) (if nat_le 8 (length maps) then S
     by true rest e = cc
     by false rest e = refl
 
-new_map_kept : (s : Scene) (name : List ℕ) (size : Extent) → map_fault s.maps name ≡ None → IsOrderly s → IsOrderly (with_new_map name size s)
+new_map_kept : (s : Scene) (name : List ℕ) (size : Extent) → map_fault s.maps name ≡ None → HasTables s → HasTables (with_new_map name size s)
 new_map_kept s name size none is = record {
-  fits = IsScene-map_added s (with_map (new_map name size) s.maps) (with_fog_of_map s.fog name size) name size refl refl (adds_after name size s.fog s.fog.players s.fog.sets (with_fog_of_map s.fog name size).sets (blank_sets s.fog.players name size) refl refl refl) none is.fits;
+  fitting = IsScene-map_added s (with_map (new_map name size) s.maps) (with_fog_of_map s.fog name size) name size refl refl (adds_after name size s.fog s.fog.players s.fog.sets (with_fog_of_map s.fog name size).sets (blank_sets s.fog.players name size) refl refl refl) none is.fitting;
   maps = in_order-with_map (new_map name size) s.maps (no_map s.maps name none) is.maps;
   tokens = is.tokens;
   lights = is.lights;
@@ -139,18 +139,18 @@ still_sorted name value types h = true_of (is_sorted tag_cmp (with_type name val
     T_of true h = tt
     T_of false h = cc
 
-light_kept : (s : Scene) (name : List ℕ) (radius : ℕ) → IsOrderly s → IsOrderly (record s { lights = with_type name radius s.lights })
+light_kept : (s : Scene) (name : List ℕ) (radius : ℕ) → HasTables s → HasTables (record s { lights = with_type name radius s.lights })
 light_kept s name radius is = record {
-  fits = IsScene-with_light s name radius is.fits;
+  fitting = IsScene-with_light s name radius is.fitting;
   maps = is.maps;
   tokens = is.tokens;
   lights = still_sorted name radius s.lights is.lights;
   sights = is.sights;
 }
 
-sight_kept : (s : Scene) (name : List ℕ) (sight : SightType) → IsOrderly s → IsOrderly (record s { sights = with_type name sight s.sights })
+sight_kept : (s : Scene) (name : List ℕ) (sight : SightType) → HasTables s → HasTables (record s { sights = with_type name sight s.sights })
 sight_kept s name sight is = record {
-  fits = IsScene-with_sight s name sight is.fits;
+  fitting = IsScene-with_sight s name sight is.fitting;
   maps = is.maps;
   tokens = is.tokens;
   lights = is.lights;
@@ -159,21 +159,21 @@ sight_kept s name sight is = record {
 
 -- ---- what is exposed
 
-rect_kept : (s : Scene) (seat : ℕ) (map : List ℕ) (rect : Numbers) (shown : Bool) → IsOrderly s → IsOrderly (with_fog seat map rect shown s)
+rect_kept : (s : Scene) (seat : ℕ) (map : List ℕ) (rect : Numbers) (shown : Bool) → HasTables s → HasTables (with_fog seat map rect shown s)
 rect_kept s seat map rect shown is = record {
-  fits = IsScene-with_change s seat map (λ cells. with_rect cells (rect_at rect) shown) (keeps-rect (rect_at rect) shown) is.fits;
+  fitting = IsScene-with_change s seat map (λ cells. with_rect cells (rect_at rect) shown) (keeps-rect (rect_at rect) shown) is.fitting;
   maps = is.maps;
   tokens = is.tokens;
   lights = is.lights;
   sights = is.sights;
 }
 
-pub settled_kept : (s : Scene) → IsOrderly s → IsOrderly (settled s)
+pub settled_kept : (s : Scene) → HasTables s → HasTables (settled s)
 settled_kept s is =
     let seen : List Cells = map (seen_for s) s.fog.sets in
-    let same = is_settled s (record s { fog = record s.fog { sets = with_each_seen s.fog.sets seen } }) seen is.fits refl refl in
-    subst IsOrderly same (record {
-      fits = IsScene-with_each_seen s seen is.fits;
+    let same = is_settled s (record s { fog = record s.fog { sets = with_each_seen s.fog.sets seen } }) seen is.fitting refl refl in
+    subst HasTables same (record {
+      fitting = IsScene-with_each_seen s seen is.fitting;
       maps = is.maps;
       tokens = is.tokens;
       lights = is.lights;
@@ -183,21 +183,21 @@ settled_kept s is =
 -- ---- all commands
 
 -- what a player makes is its own
-made_by_player : (s : Scene) (seat : ℕ) (tag map : List ℕ) (place : ℤ × ℤ) (name : List ℕ) → seat ≤ s.fog.players → IsAllowed s seat (Make tag map place name) → MakesNew s seat (Make tag map place name) → IsOrderly s → IsOrderly (with_new (players_token seat tag map place name) s)
+made_by_player : (s : Scene) (seat : ℕ) (tag map : List ℕ) (place : ℤ × ℤ) (name : List ℕ) → seat ≤ s.fog.players → IsAllowed s seat (Make tag map place name) → MakesNew s seat (Make tag map place name) → HasTables s → HasTables (with_new (players_token seat tag map place name) s)
 made_by_player s seat tag map place name low allowed new is =
     made_kept s (players_token seat tag map place name) (new tag refl)
     (players_token_belongs s (players_token seat tag map place name) seat place (may_make s seat tag map place name is.maps allowed) (makes_as_player s seat tag map place name low allowed) refl refl refl refl)
     is
 
-made_by_gm : (s : Scene) (seat : ℕ) (tag map : List ℕ) (place : ℤ × ℤ) (name : List ℕ) (size : ℤ) (layer : LayerKind) → IsAllowed s seat (Token tag map place name size layer) → MakesNew s seat (Token tag map place name size layer) → IsOrderly s → IsOrderly (with_new (new_token seat tag map place name (coordinate size) layer 0) s)
+made_by_gm : (s : Scene) (seat : ℕ) (tag map : List ℕ) (place : ℤ × ℤ) (name : List ℕ) (size : ℤ) (layer : LayerKind) → IsAllowed s seat (Token tag map place name size layer) → MakesNew s seat (Token tag map place name size layer) → HasTables s → HasTables (with_new (new_token seat tag map place name (coordinate size) layer 0) s)
 made_by_gm s seat tag map place name size layer allowed new is =
     made_kept s (new_token seat tag map place name (coordinate size) layer 0) (new tag refl)
     (gm_token_belongs s (new_token seat tag map place name (coordinate size) layer 0) place (token_may s seat tag map place name size layer allowed) refl refl refl refl)
     is
 
-pub scene_kept : (steps seat : ℕ) (s : Scene) (c : Command) → seat ≤ s.fog.players → IsAllowed s seat c → MakesNew s seat c → IsOrderly s → IsOrderly (scene_by steps seat s (Some c))
+pub scene_kept : (steps seat : ℕ) (s : Scene) (c : Command) → seat ≤ s.fog.players → IsAllowed s seat c → MakesNew s seat c → HasTables s → HasTables (scene_by steps seat s (Some c))
 unfolding scene_by gm_scene_by
-scene_kept steps seat s (Move token path) low allowed new is = steps_kept steps seat s token path (may_move s seat token path is.fits is.maps allowed) (own_token s seat token) refl is
+scene_kept steps seat s (Move token path) low allowed new is = steps_kept steps seat s token path (may_move s seat token path is.fitting is.maps allowed) (own_token s seat token) refl is
 scene_kept steps seat s (Setprop token class name value) low allowed new is = changed_kept s (with_prop class name value) (with_prop_keeps_id class name value) (keeps-prop s class name value) token is
 scene_kept steps seat s (Light token light) low allowed new is = changed_kept s (with_light light) (λ t. refl) (keeps-light s light (may_light s seat token light is.tokens allowed).1) token is
 scene_kept steps seat s (Make tag map place name) low allowed new is = made_by_player s seat tag map place name low allowed new is

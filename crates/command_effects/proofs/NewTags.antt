@@ -1,18 +1,17 @@
 -- The seat may use the tag of what its command makes, where the command breaks no rule.
-use Rattle.std.proofs.Common.{◌≡◌, ℕ, Bool, true, false, cond, not, eqb, List, Some, None, refl, ap, subst, sym, ℤ}
+use Rattle.std.proofs.Common.{◌≡◌, ℕ, Bool, true, false, cond, not, List, Some, None, refl, subst, sym, ℤ}
 use Rattle.std.specs.Prelude.{Option, option_map, ◌&&◌}
 use Rattle.std.specs.List.{find}
 use Rattle.std.specs.Option.{ForSome}
 use Rattle.std.proofs.lemmas.Bool.{eqb-true}
 use Rattle.cells.specs.Cells.{has}
-use Rattle.maps.specs.Maps.{Grid, has_name}
+use Rattle.maps.specs.Maps.{has_name}
 use Rattle.seats.specs.Book.{tag_used, tags_spent}
 use Rattle.command_json.specs.declared.command.Command.{Command}
 use Rattle.command_json.specs.declared.command.Command.TheVariants.{Make, Token}
 use Rattle.world.specs.Scene.{Scene}
 use Rattle.player_view.specs.View.{is_gm, has_map}
 use Rattle.player_view.specs.Asked.{Known, asked_of, known_of}
-use Rattle.command_rules.specs.declared.refusal.Refusal.{Refusal}
 use Rattle.command_rules.specs.declared.refusal.Refusal.TheVariants.{OffMap, TagUsed, TagsSpent, IdUsed, TokenLimit, NotExposed, PlayersOnly}
 use Rattle.command_rules.specs.Places.{coordinate, fits_at, cell_at}
 use Rattle.command_rules.specs.GmRules.{tag_rule, square_rule, new_token_rule, gm_rule}

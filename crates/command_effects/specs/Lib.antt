@@ -5,5 +5,4 @@ pub mod Tags
 pub mod Settle
 pub mod Allowed
 pub mod Seen
-pub mod Orders
 pub mod Follows

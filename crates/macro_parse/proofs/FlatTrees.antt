@@ -20,7 +20,7 @@ get_in (y ∷ xs) (suc i) x e = let k = get_in xs i x e in omega arith
 pub shown_in : (xs : List Node) (i : ℕ) (t : Tree) → Shows xs i t → i < length xs
 shown_in xs i (Number at n) h = get_in xs i (NumberNode at n) h
 shown_in xs i (Dice at g) h = get_in xs i (DiceNode at g) h
-shown_in xs i (Quoted at m) (v, e, f) = get_in xs i (QuotedNode at v) e
+shown_in xs i (Quoted at m) h = get_in xs i (QuotedNode at m) h
 shown_in xs i (Name at name) (v, e, f) = get_in xs i (NameNode at v) e
 shown_in xs i (Call0 at f) h = get_in xs i (CallNode at f Nothing) h
 shown_in xs i (Call1 at f x) (j, lt, e, h) = get_in xs i (CallNode at f (One j)) e
@@ -43,7 +43,7 @@ get_last (y ∷ xs) x = get_last xs x
 shows_more : (xs ys : List Node) (i : ℕ) (t : Tree) → Shows xs i t → Shows (xs ++ ys) i t
 shows_more xs ys i (Number at n) h = get_more xs ys i (NumberNode at n) h
 shows_more xs ys i (Dice at g) h = get_more xs ys i (DiceNode at g) h
-shows_more xs ys i (Quoted at m) (v, e, f) = (v, get_more xs ys i (QuotedNode at v) e, f)
+shows_more xs ys i (Quoted at m) h = get_more xs ys i (QuotedNode at m) h
 shows_more xs ys i (Name at name) (v, e, f) = (v, get_more xs ys i (NameNode at v) e, f)
 shows_more xs ys i (Call0 at f) h = get_more xs ys i (CallNode at f Nothing) h
 shows_more xs ys i (Call1 at f x) (j, lt, e, h) = (j, lt, get_more xs ys i (CallNode at f (One j)) e, shows_more xs ys j x h)
@@ -87,8 +87,8 @@ put_number xs zs i at n k = record { shows = kept_get xs zs i (NumberNode at n) 
 pub put_dice : (xs zs : List Node) (i at : ℕ) (g : Group) → Kept xs zs i (DiceNode at g) → Puts xs zs i (Dice at g)
 put_dice xs zs i at g k = record { shows = kept_get xs zs i (DiceNode at g) k; keeps = kept_keeps xs zs i (DiceNode at g) k; fits = λ f d. kept_fits xs zs i (DiceNode at g) k f d }
 
-pub put_quoted : (xs zs : List Node) (i at : ℕ) (v : Vec ℕ) → Kept xs zs i (QuotedNode at v) → Puts xs zs i (Quoted at v.items)
-put_quoted xs zs i at v k = record { shows = (v, kept_get xs zs i (QuotedNode at v) k, refl); keeps = kept_keeps xs zs i (QuotedNode at v) k; fits = λ f d. kept_fits xs zs i (QuotedNode at v) k f tt }
+pub put_quoted : (xs zs : List Node) (i at : ℕ) (m : List ℕ) → Kept xs zs i (QuotedNode at m) → Puts xs zs i (Quoted at m)
+put_quoted xs zs i at m k = record { shows = kept_get xs zs i (QuotedNode at m) k; keeps = kept_keeps xs zs i (QuotedNode at m) k; fits = λ f d. kept_fits xs zs i (QuotedNode at m) k f tt }
 
 pub put_name : (xs zs : List Node) (i at : ℕ) (v : Vec ℕ) → Kept xs zs i (NameNode at v) → Puts xs zs i (Name at v.items)
 put_name xs zs i at v k = record { shows = (v, kept_get xs zs i (NameNode at v) k, refl); keeps = kept_keeps xs zs i (NameNode at v) k; fits = λ f d. kept_fits xs zs i (NameNode at v) k f tt }

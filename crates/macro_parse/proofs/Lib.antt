@@ -1,5 +1,6 @@
 pub mod Scans
 pub mod FlatTrees
+pub mod Trees
 pub mod Comparing
 pub mod Finding
 pub mod Loops
@@ -11,3 +12,4 @@ pub mod RollsFound
 pub mod RollsWhole
 pub mod PiecesFound
 pub mod MacrosFound
+pub mod Limits

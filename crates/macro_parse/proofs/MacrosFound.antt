@@ -75,15 +75,15 @@ no_nodes = λ k d lt. absurd (omega arith)
 -- ---- whole texts
 
 module _ (depth end : ℕ) (s r : List ℕ) (n0 n1 : List Node) (whole : end ≡ length s) (empty : n0 ≡ []) where
-  pub text_read : (v : Vec FlatPiece) → FindsPieces depth end n0 n1 (Ok v) s r → (ts : List Piece) × IsMacro (suc depth) 0 s ts × ShowsPieces n1 v.items ts × (PiecesFit ts → NodesFit n1)
+  pub text_read : (v : Vec FlatPiece) → FindsPieces depth end n0 n1 (Ok v) s r → (ts : List Piece) × IsMacro (suc depth) 0 s ts × ShowsPieces n1 v.items ts × (PiecesFit ts → NodesFit n1) × ((turns : ℕ) → length s < turns → macro_at depth turns s ≡ (Some ts, []))
   unfolding macro_at
   text_read v (ts, a, told) =
       let at : place end s ≡ 0 = omega arith in
       let e = told (suc (length s)) (omega arith) in
       let f = rw at at e in
-      (ts, macro_found depth s ts (suc (length s)) f, a.shows, λ u. a.fits (rw empty no_nodes) u)
+      (ts, macro_found depth s ts (suc (length s)) f, a.shows, λ u. a.fits (rw empty no_nodes) u, λ turns lt. rw at at (told turns lt))
 
-  told_off : FindsPieces depth end n0 n1 (Err Off) s r → (turns : ℕ) → length s < turns → macro_at depth turns s ≡ (None, r)
+  pub told_off : FindsPieces depth end n0 n1 (Err Off) s r → (turns : ℕ) → length s < turns → macro_at depth turns s ≡ (None, r)
   unfolding macro_at
   told_off h turns lt = let at : place end s ≡ 0 = omega arith in rw at at (h turns lt)
 

@@ -18,7 +18,7 @@ use Rattle.macro_parse.specs.Flat.{Keeps, place}
 use Rattle.macro_parse.specs.FlatPieces.{ShowsPiece, ShowsPieces, Adds}
 use Rattle.macro_parse.specs.Found.{with_bytes}
 use Rattle.macro_parse.specs.Levels.{HeadIs}
-use Rattle.macro_parse.specs.Turns.{PlainStep, FindsPlain, in_front_of, with_pieces, RollGives, TurnGives, FindsPieces}
+use Rattle.macro_parse.specs.Turns.{PlainStep, FindsBytes, FindsPlain, in_front_of, with_pieces, RollGives, TurnGives, FindsPieces}
 use Rattle.macro_parse.proofs.FlatTrees.{shows_kept, keeps_itself, keeps_then}
 use Rattle.macro_grammar.specs.Grammar.{is_bracket}
 use Rattle.macro_parse.proofs.Scans.{carry_front, front_twice}
@@ -33,7 +33,7 @@ plain_goes_on whole text rest r b h e = h ∙ rw e (ap (λ (o : Option (List ℕ
 pub plain_ends : (whole text rest r : List ℕ) → plain_text false whole ≡ with_bytes text (plain_text false rest) → plain_text false rest ≡ (Some [], r) → plain_text false whole ≡ (Some text, r)
 plain_ends whole text rest r h e = h ∙ rw e (ap (λ (w : List ℕ). got (Some w) r) (append-nil text))
 
-pub plain_stops : (whole text rest r : List ℕ) (stop : Stop) → plain_text false whole ≡ with_bytes text (plain_text false rest) → PlainStep rest (Err stop) r → FindsPlain (Err stop) whole r
+pub plain_stops : (whole text rest r : List ℕ) (stop : Stop) → plain_text false whole ≡ with_bytes text (plain_text false rest) → PlainStep rest (Err stop) r → FindsBytes (Err stop) whole r
 plain_stops whole text rest r Off h e = h ∙ rw e refl
 plain_stops whole text rest r Memory h e = tt
 
@@ -122,15 +122,15 @@ plain_turn : (d room n at : ℕ) (s : List ℕ) → HeadIs (nat_eq 91) s false �
 plain_turn d room n at [] h f = absurd (f refl)
 plain_turn d room n at (b ∷ s) h f = rw h refl
 
-module _ (d end at : ℕ) (v : Vec ℕ) (s r : List ℕ) (ps0 ps1 : List FlatPiece) (n0 : List Node) (room : length s ≤ end) (shrinks : length r ≤ length s)
+module _ (d end at : ℕ) (v : List ℕ) (s r : List ℕ) (ps0 ps1 : List FlatPiece) (n0 : List Node) (room : length s ≤ end) (shrinks : length r ≤ length s)
     (h : HeadIs (nat_eq 91) s false) (f : length s ≡ 0 → ⊥) (text : FindsPlain (Ok v) s r) (here : at ≡ place end s) (put : ps1 ≡ ps0 ++ (FlatPlain at v ∷ [])) where
-  plain_adds : Adds ShowsPiece PieceFits n0 n0 (FlatPlain at v) (Plain (place end s) v.items)
-  plain_adds = record { shows = (v, rw here refl, refl); keeps = keeps_itself n0; fits = λ g u. g }
+  plain_adds : Adds ShowsPiece PieceFits n0 n0 (FlatPlain at v) (Plain (place end s) v)
+  plain_adds = record { shows = rw here refl; keeps = keeps_itself n0; fits = λ g u. g }
 
-  turn_is : (turns n : ℕ) → pieces_at d turns (suc n) (place end s) s ≡ after_plain d turns n (place end s) (place end r) v.items r
+  turn_is : (turns n : ℕ) → pieces_at d turns (suc n) (place end s) s ≡ after_plain d turns n (place end s) (place end r) v r
   turn_is turns n = let m : place end s + (length s - length r) ≡ place end r = omega arith in plain_turn d turns n (place end s) s h f ∙ rw (text, m) refl
 
-  end_is : (turns n at2 : ℕ) (w : List ℕ) → length w ≡ 0 → after_plain d turns n (place end s) at2 v.items w ≡ (Some (Plain (place end s) v.items ∷ []), [])
+  end_is : (turns n at2 : ℕ) (w : List ℕ) → length w ≡ 0 → after_plain d turns n (place end s) at2 v w ≡ (Some (Plain (place end s) v ∷ []), [])
   end_is turns n at2 [] e = refl
   end_is turns n at2 (b ∷ w) e = absurd (omega arith)
 
@@ -139,12 +139,12 @@ module _ (d end at : ℕ) (v : Vec ℕ) (s r : List ℕ) (ps0 ps1 : List FlatPie
   nil_is (b ∷ w) e = absurd (omega arith)
 
   pub plain_last : length r ≡ 0 → TurnGives d end ps0 ps1 n0 n0 (Ok false) s r
-  plain_last e = (Plain (place end s) v.items ∷ [], (FlatPlain at v ∷ [], put, adds_one n0 n0 (FlatPlain at v) (Plain (place end s) v.items) plain_adds), nil_is r e, λ turns n lt. turn_is turns n ∙ end_is turns n (place end r) r e)
+  plain_last e = (Plain (place end s) v ∷ [], (FlatPlain at v ∷ [], put, adds_one n0 n0 (FlatPlain at v) (Plain (place end s) v) plain_adds), nil_is r e, λ turns n lt. turn_is turns n ∙ end_is turns n (place end r) r e)
 
   module _ (g : length r ≡ 0 → ⊥) (r2 : List ℕ) (ps2 : List FlatPiece) (n1 : List Node) (shrinks2 : length r2 ≤ length r) where
     pub plain_then_roll : {U : Type 0} (u : U) → RollGives {U = U} d end ps1 ps2 n0 n1 (Ok u) r r2 → TurnGives d end ps0 ps2 n0 n1 (Ok true) s r2
     plain_then_roll u (t, (more, e, adds), told) =
-        let a = Plain (place end s) v.items in
+        let a = Plain (place end s) v in
         let joined = adds_join n0 n0 n1 (FlatPlain at v ∷ []) more (a ∷ []) (t ∷ []) (adds_one n0 n0 (FlatPlain at v) a plain_adds) adds in (
           a ∷ (t ∷ []),
           (FlatPlain at v ∷ more, rw (e, put) (append_assoc ps0 (FlatPlain at v ∷ []) more), joined),
@@ -156,7 +156,7 @@ module _ (d end at : ℕ) (v : Vec ℕ) (s r : List ℕ) (ps0 ps1 : List FlatPie
 
     pub plain_then_stops : (stop : Stop) → RollGives {U = Unit {0}} d end ps1 ps2 n0 n1 (Err stop) r r2 → TurnGives d end ps0 ps2 n0 n1 (Err stop) s r2
     plain_then_stops Off told = λ turns n lt.
-        let a = Plain (place end s) v.items in
+        let a = Plain (place end s) v in
         let k = told turns (omega arith) in
         turn_is turns n ∙ (roll_not_end d turns (place end r) r (a ∷ []) (with_both d turns n a) g ∙ rw k refl)
     plain_then_stops Memory told = tt

@@ -15,7 +15,7 @@ use Rattle.macro_grammar.specs.Grammar.{DiceFit}
 abbrev pub Shows : List Node → ℕ → Tree → Type 0
 Shows nodes i (Number at n) = slice_get nodes i ≡ Some (NumberNode at n)
 Shows nodes i (Dice at g) = slice_get nodes i ≡ Some (DiceNode at g)
-Shows nodes i (Quoted at m) = (v : Vec ℕ) × (slice_get nodes i ≡ Some (QuotedNode at v)) × (v.items ≡ m)
+Shows nodes i (Quoted at m) = slice_get nodes i ≡ Some (QuotedNode at m)
 Shows nodes i (Name at name) = (v : Vec ℕ) × (slice_get nodes i ≡ Some (NameNode at v)) × (v.items ≡ name)
 Shows nodes i (Call0 at f) = slice_get nodes i ≡ Some (CallNode at f Nothing)
 Shows nodes i (Call1 at f x) = (j : ℕ) × (j < i) × (slice_get nodes i ≡ Some (CallNode at f (One j))) × Shows nodes j x
@@ -39,7 +39,7 @@ pub record Kept (old new : List Node) (i : ℕ) (node : Node) : Type 0 where
 abbrev pub NodeFits : Node → Type 0
 NodeFits (NumberNode at n) = Unit {0}
 NodeFits (DiceNode at g) = GroupFits g
-NodeFits (QuotedNode at v) = Unit {0}
+NodeFits (QuotedNode at m) = Unit {0}
 NodeFits (NameNode at v) = Unit {0}
 NodeFits (CallNode at f a) = Unit {0}
 NodeFits (NegatedNode at j) = Unit {0}

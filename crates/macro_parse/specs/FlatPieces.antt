@@ -1,6 +1,5 @@
 -- Options and pieces as they stand over a list of nodes.
 use Rattle.std.specs.Prelude.{◌≡◌, ℕ, List, [], ◌∷◌, Some, None}
-use Rattle.std.specs.Global.{Vec}
 use Rattle.macro_parse.specs.declared.nodes.Node.{Node}
 use Rattle.macro_parse.specs.declared.nodes.Address.{Address as FlatAddress}
 use Rattle.macro_parse.specs.declared.nodes.Address.TheVariants.{Receivers as FlatReceivers, Hidden as FlatHidden, Master as FlatMaster, Runner as FlatRunner, Both as FlatBoth, Whisper as FlatWhisper}
@@ -40,7 +39,7 @@ ShowsOptions nodes o (AddressFirst x y) = (a : FlatAddress) × (b : FlatBranch) 
 ShowsOptions nodes o (BranchFirst y x) = (b : FlatBranch) × (a : FlatAddress) × (o ≡ FlatBranchFirst b a) × ShowsBranch nodes b y × ShowsAddress nodes a x
 
 abbrev pub ShowsPiece : List Node → FlatPiece → Piece → Type 0
-ShowsPiece nodes p (Plain at m) = (v : Vec ℕ) × (p ≡ FlatPlain at v) × (v.items ≡ m)
+ShowsPiece nodes p (Plain at m) = p ≡ FlatPlain at m
 ShowsPiece nodes p (Roll at o x None) = (q : FlatOptions) × (j : ℕ) × (p ≡ FlatRoll at q j None) × ShowsOptions nodes q o × Shows nodes j x
 ShowsPiece nodes p (Roll at o x (Some y)) = (q : FlatOptions) × (j : ℕ) × (k : ℕ) × (p ≡ FlatRoll at q j (Some k)) × ShowsOptions nodes q o × Shows nodes j x × Shows nodes k y
 

@@ -4,3 +4,5 @@ pub mod Levels
 pub mod FlatPieces
 pub mod Turns
 pub mod Faults
+pub mod Trees
+pub mod Answers

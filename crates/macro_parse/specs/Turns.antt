@@ -19,8 +19,13 @@ PlainStep s (Ok (Some b)) rest = plain_text false s ≡ with_bytes (b ∷ []) (p
 PlainStep s (Err Off) rest = plain_text false s ≡ (None, rest)
 PlainStep s (Err Memory) rest = ⊥
 
-abbrev pub FindsPlain : Result (Vec ℕ) Stop → List ℕ → List ℕ → Type 0
-FindsPlain (Ok v) s rest = plain_text false s ≡ (Some v.items, rest)
+abbrev pub FindsBytes : Result (Vec ℕ) Stop → List ℕ → List ℕ → Type 0
+FindsBytes (Ok v) s rest = plain_text false s ≡ (Some v.items, rest)
+FindsBytes (Err Off) s rest = plain_text false s ≡ (None, rest)
+FindsBytes (Err Memory) s rest = Unit {0}
+
+abbrev pub FindsPlain : Result (List ℕ) Stop → List ℕ → List ℕ → Type 0
+FindsPlain (Ok text) s rest = plain_text false s ≡ (Some text, rest)
 FindsPlain (Err Off) s rest = plain_text false s ≡ (None, rest)
 FindsPlain (Err Memory) s rest = Unit {0}
 

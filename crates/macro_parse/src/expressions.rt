@@ -15,7 +15,7 @@ ghost use Rattle.macro_parse.specs.Found.{FindsName, Prefixes, Argues, Calls, Cl
 use crate::atoms::{Numeral, blanks, name, number_or_dice, quoted};
 use crate::levels::{Level, Next, operator};
 use crate::nodes::{Arguments, Node};
-use crate::reader::{Reader, Stop, keep};
+use crate::reader::{Reader, Stop, keep, text_of};
 use macro_grammar::{Function, function_of};
 use reading::Cursor;
 
@@ -70,9 +70,10 @@ impl Reader<'_> {
         let Ok(found) = quoted(*self.nodes.allocator(), &mut self.cursor) else {
             return Err(Stop::Memory);
         };
-        let Some(text) = found else {
+        let Some(bytes) = found else {
             return Err(Stop::Off);
         };
+        let text = text_of(bytes)?;
         keep(&mut self.nodes, Node::Quoted { at, text })
     }
 

@@ -2,6 +2,7 @@
 
 use dice_parse::Group;
 use macro_grammar::{Function, Operator};
+use names::Text;
 
 /// The arguments of a call, as indices of nodes.
 #[derive(Clone, Copy, Debug, PartialEq, Eq)]
@@ -14,7 +15,7 @@ pub enum Arguments {
 
 /// A node of an expression. The nodes of a macro stand in one list, and a node names its parts by their indices there.
 /// `at` is the node's first byte in the text, or the operator's of a binary one.
-#[derive(Debug, Drop)]
+#[derive(Drop)]
 pub enum Node {
     Number {
         at: u32,
@@ -26,7 +27,7 @@ pub enum Node {
     },
     Quoted {
         at: u32,
-        text: Vec<u8>,
+        text: Text,
     },
     Name {
         at: u32,
@@ -94,12 +95,12 @@ pub enum Options {
 }
 
 /// A piece of a macro. `at` is its first byte.
-#[derive(Debug, Drop)]
+#[derive(Drop)]
 pub enum Piece {
     /// Plain text with its escapes undone, as long as no roll comes.
     Plain {
         at: u32,
-        text: Vec<u8>,
+        text: Text,
     },
     /// A roll: its options, the node of its statement, and that of the second one where there is one.
     Roll {

@@ -2,10 +2,11 @@
 
 ghost use Rattle.std.specs.Prelude.{◌≡◌, ◌≤◌, ◌<◌, ◌-◌, ◌++◌, ◌∷◌, [], IfOk, IfErr, IfSome, OnOk, IsTrue, length};
 ghost use Rattle.macro_parse.specs.Flat.{place};
-ghost use Rattle.macro_parse.specs.Turns.{PlainStep, FindsPlain, FindsPieces, TurnGives, RollGives};
+ghost use Rattle.macro_parse.specs.Turns.{PlainStep, FindsBytes, FindsPlain, FindsPieces, TurnGives, RollGives};
 
 use crate::nodes::Piece;
-use crate::reader::{Reader, Stop};
+use crate::reader::{Reader, Stop, text_of};
+use names::Text;
 use reading::Cursor;
 use std::alloc::Global;
 
@@ -38,9 +39,9 @@ fn plain_byte(cursor: &mut Cursor<'_>) -> Result<Option<u8>, Stop>
     Ok(Some(*second))
 }
 
-/// Plain text up to a roll or the end, with its escapes undone.
-fn plain(alloc: Global, cursor: &mut Cursor<'_>) -> Result<Vec<u8>, Stop>
-    ensures value { FindsPlain result cursor.old.rest.now cursor.new.rest.now }
+/// The bytes of plain text up to a roll or the end, with their escapes undone.
+fn plain_bytes(alloc: Global, cursor: &mut Cursor<'_>) -> Result<Vec<u8>, Stop>
+    ensures value { FindsBytes result cursor.old.rest.now cursor.new.rest.now }
     ensures shrinks { length cursor.new.rest.now ≤ length cursor.old.rest.now }
 {
     let mut text = Vec::new(alloc);
@@ -50,6 +51,15 @@ fn plain(alloc: Global, cursor: &mut Cursor<'_>) -> Result<Vec<u8>, Stop>
         };
     }
     Ok(text)
+}
+
+/// Plain text up to a roll or the end, with its escapes undone.
+fn plain(alloc: Global, cursor: &mut Cursor<'_>) -> Result<Text, Stop>
+    ensures value { FindsPlain result cursor.old.rest.now cursor.new.rest.now }
+    ensures shrinks { length cursor.new.rest.now ≤ length cursor.old.rest.now }
+{
+    let bytes = plain_bytes(alloc, cursor)?;
+    text_of(bytes)
 }
 
 /// Puts a piece behind the others.

@@ -7,6 +7,7 @@ ghost use Rattle.macro_parse.specs.Levels.{HeadIs};
 ghost use Rattle.macro_parse.specs.Found.{Expects};
 
 use crate::nodes::Node;
+use names::Text;
 use reading::Cursor;
 
 /// Why reading stops.
@@ -53,6 +54,17 @@ impl Reader<'_> {
             None => false,
             Some((first, _)) => first.is_ascii_lowercase(),
         }
+    }
+}
+
+/// The bytes as a text. What stands between ASCII bytes of a text is UTF-8 again, so that only memory can want.
+pub(crate) fn text_of(bytes: Vec<u8>) -> Result<Text, Stop>
+    ensures text { IfOk result (λ text. text ≡ bytes.items) }
+    ensures memory { IfErr result (λ stop. stop ≡ Stop.Memory) }
+{
+    match String::from_utf8(bytes) {
+        Ok(text) => Ok(Text::new(text)),
+        Err(_) => Err(Stop::Memory),
     }
 }
 

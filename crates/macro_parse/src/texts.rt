@@ -1,8 +1,10 @@
 //! Whole macro texts.
 
-ghost use Rattle.std.specs.Prelude.{◌≡◌, ◌↔◌, IsTrue, IfOk, IfErr};
+ghost use Rattle.std.specs.Prelude.{◌≡◌, ◌↔◌, IsTrue, IfOk, IfErr, Ok};
 ghost use Rattle.macro_parse.specs.Flat.{NodeFits, NodesFit};
+ghost use Rattle.macro_parse.specs.Trees.{pieces_of};
 ghost use Rattle.macro_parse.specs.Faults.{IsReadFrom, IsFaultOf};
+ghost use Rattle.macro_parse.specs.Answers.{macro_of, IsFaultIn};
 
 use crate::macros::Macro;
 use crate::nodes::Node;
@@ -46,8 +48,12 @@ fn all_fit(nodes: &[Node]) -> bool
 /// wants.
 pub fn read_macro(alloc: Global, text: &str) -> Result<Macro, MacroParseFault>
     // What is read shows what the text spells, within the limits.
-    ensures read { IfOk result (IsReadFrom text.now) }
+    ensures read { IfOk result (λ m. IsReadFrom text.now (pieces_of m)) }
     ensures fault { IfErr result (IsFaultOf text.now) }
+
+    // The same as a function of the text, for definitions that run macros.
+    ensures ok { IfOk result (λ m. macro_of text.now ≡ Ok (pieces_of m)) }
+    ensures refused { IfErr result (IsFaultIn (macro_of text.now)) }
 {
     let bytes = text.as_bytes();
     let Ok(end) = u32::try_from(bytes.len()) else {

@@ -16,8 +16,8 @@ use campaign_core::{Campaign, OpenFault};
 use line_io::{Desk, DeskFault, Sink, Source, write_whole};
 use names::{LineText, Memory};
 use script_play::{Played, play};
+use sight_sweep::SweepEye;
 use std::alloc::Global;
-use topology::PlainEye;
 
 /// Does what the words ask for and gives the program's status. `play FILE` plays the script on the
 /// campaign of that file and writes the lines that it sends. After a stop the last line says why. A fault
@@ -90,7 +90,7 @@ fn play_text<S: Source, O: Sink>(
     ensures write_fault { result ≡ Ended.WriteFault → CountRose (O.faults_of out.old) (O.faults_of out.new) }
     ensures out_count { O.faults_of out.old ≤ O.faults_of out.new }
 {
-    match Campaign::open(alloc, text.bytes(), PlainEye::new()) {
+    match Campaign::open(alloc, text.bytes(), SweepEye::new(alloc)) {
         Ok(mut campaign) => ended_by(play(alloc, &mut campaign, script, out)),
         Err(OpenFault::Bad(_)) => Ended::BadCampaign,
         Err(OpenFault::Memory) => Ended::Memory,

@@ -8,6 +8,7 @@ ghost use Rattle.turn_lock.specs.SeatView.{first_view};
 use crate::object::{Job, Object};
 use crate::turns::{
     HallSeat, HallTable, close_table, join_seats, load_made, split_seat, turn, wait_made_past,
+    wake_waiters,
 };
 use atomic_table::{Refused, Table};
 use std::alloc::Global;
@@ -193,6 +194,22 @@ impl<O: Object> Hall<O> {
     /// that history with the job's entries behind it, whose places join the own places. It refuses
     /// nothing.
     pub fn act<R: Wait, J: Job<O>>(&self, rt: &R, pass: &mut Pass<O>, job: &mut J)
+        requires { IsPassOf self.now pass.old }
+        ensures hall { IsPassOf self.now pass.new }
+        ensures number { pass.new.number ≡ pass.old.number }
+        ensures front { IsPrefix pass.old.front pass.new.front }
+        ensures turn { HasTurn (λ found left. J.ran self.now.origin job.old found job.new left)
+            (J.entries job.old job.new) (known pass.old) (known pass.new) }
+        ensures within { OwnsWithin pass.new.front pass.new.own }
+    {
+        self.act_quietly(rt, pass, job);
+        wake_waiters(&self.table.shared);
+    }
+
+    /// Does what `act` does, and wakes nobody: who waits for a longer history sleeps on until a turn
+    /// of `act`, or finds the entries when it is awake. For jobs whose entries nobody waits for, so
+    /// that they don't rouse every thread.
+    pub fn act_quietly<R: Wait, J: Job<O>>(&self, rt: &R, pass: &mut Pass<O>, job: &mut J)
         requires { IsPassOf self.now pass.old }
         ensures hall { IsPassOf self.now pass.new }
         ensures number { pass.new.number ≡ pass.old.number }

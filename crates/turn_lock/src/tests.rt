@@ -80,7 +80,7 @@ fn a_turn_finds_what_the_other_pass_appended(rt: HostRuntime) -> Result<(), Fail
     let mut one = Append::of(1);
     let mut two = Append::of(2);
     hall.act(&rt, &mut left, &mut one);
-    hall.act(&rt, &mut right, &mut two);
+    hall.act_quietly(&rt, &mut right, &mut two);
     assert!(rt; one.done && one.found == 0 && two.done && two.found == 1);
 
     let mut both = hall.meet(left, right);

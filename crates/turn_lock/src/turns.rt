@@ -101,6 +101,12 @@ pub fn add_entries<O: Object>(shared: &SharedTable<O>, seat: &mut HallSeat<O>, m
     ensures object { HasObject seat.old.me (λ object. seat.new.me ≡ (grown seat.old.me.0 (O.history object), seat.old.me.1)) }
 {
     shared.fetch_add::<AddEntries>(seat, MADE, more);
+}
+
+/// Wakes all that wait for a longer history.
+pub fn wake_waiters<O: Object>(shared: &SharedTable<O>)
+    requires { IsSized shared.now.table_id }
+{
     shared.wake_all(MADE);
 }
 

@@ -35,36 +35,6 @@ pub with_more : (s t : Cells) (f g k : ℕ → ℕ → Bool) → t ≡ with_cell
     → ((x y : ℕ) → x < s.extent.w → y < s.extent.h → (f x y || g x y) ≡ k x y) → with_cells t g ≡ with_cells s k
 with_more s t f g k e h = ap (λ (u : Cells). with_cells u g) e ∙ with_both s f g ∙ with_same s _ _ h
 
--- ---- a row, from column to column
-
--- the cells of row y, in the columns before x, at which f holds
-abbrev pub row_part : (ℕ → ℕ → Bool) → ℕ → ℕ → ℕ → ℕ → Bool
-row_part f y x u v = nat_eq v y && (nat_lt u x && f u v)
-
-pub row_none : (f : ℕ → ℕ → Bool) (y first u v : ℕ) → (f u v ≡ true → first ≤ u) → row_part f y first u v ≡ false
-row_none f y first u v h = here (f u v) h
-  where
-    here : (b : Bool) → (b ≡ true → first ≤ u) → (nat_eq v y && (nat_lt u first && b)) ≡ false
-    here b h = grind (arith, nat_tests)
-
-pub row_all : (f : ℕ → ℕ → Bool) (y past u v : ℕ) → (f u v ≡ true → u < past) → row_part f y past u v ≡ (nat_eq v y && f u v)
-row_all f y past u v h = here (f u v) h
-  where
-    here : (b : Bool) → (b ≡ true → u < past) → (nat_eq v y && (nat_lt u past && b)) ≡ (nat_eq v y && b)
-    here b h = grind (arith, nat_tests)
-
-pub row_past : (f : ℕ → ℕ → Bool) (y x u v : ℕ) → f x y ≡ false → row_part f y x u v ≡ row_part f y (x + 1) u v
-row_past f y x u v fails = here (f u v) (λ p q. ap (λ n. f n v) p ∙ ap (λ n. f x n) q ∙ fails)
-  where
-    here : (b : Bool) → (u ≡ x → v ≡ y → b ≡ false) → (nat_eq v y && (nat_lt u x && b)) ≡ (nat_eq v y && (nat_lt u (x + 1) && b))
-    here b h = grind (arith, nat_tests)
-
-pub row_more : (f : ℕ → ℕ → Bool) (y x u v : ℕ) → f x y ≡ true → (row_part f y x u v || (nat_eq x u && nat_eq y v)) ≡ row_part f y (x + 1) u v
-row_more f y x u v holds = here (f u v) (λ p q. ap (λ n. f n v) p ∙ ap (λ n. f x n) q ∙ holds)
-  where
-    here : (b : Bool) → (u ≡ x → v ≡ y → b ≡ true) → ((nat_eq v y && (nat_lt u x && b)) || (nat_eq x u && nat_eq y v)) ≡ (nat_eq v y && (nat_lt u (x + 1) && b))
-    here b h = grind (arith, nat_tests)
-
 -- ---- row by row
 
 -- the cells of the rows before y at which f holds
@@ -107,12 +77,7 @@ within m n e = grind (arith, nat_tests)
 near_by : (m n halves : ℕ) → difference m n ≤ halves → (m ≤ n + halves) × (n ≤ m + halves)
 near_by m n halves h = (omega arith, omega arith)
 
--- the cells of a disc are near its middle in both directions
-pub near_across : (middle : Coordinates) (x y halves : ℕ) → within_test middle (centre_of x y) halves ≡ true
-    → (middle.x ≤ 2 * x + 1 + halves) × (2 * x + 1 ≤ middle.x + halves)
-near_across middle x y halves h =
-    near_by _ _ halves (at_most_root (difference middle.x (2 * x + 1)) (difference middle.y (2 * y + 1)) halves (within _ _ h))
-
+-- the cells of a disc are near its middle
 pub near_down : (middle : Coordinates) (x y halves : ℕ) → within_test middle (centre_of x y) halves ≡ true
     → (middle.y ≤ 2 * y + 1 + halves) × (2 * y + 1 ≤ middle.y + halves)
 near_down middle x y halves h =

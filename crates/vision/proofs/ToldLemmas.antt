@@ -20,7 +20,7 @@ use Rattle.vision.specs.declared.lamp.Lamp.{Lamp}
 use Rattle.vision.specs.Common.{common_test, common_by, lit_common, disc_of, told_test}
 use Rattle.vision.specs.Fields.{field_at}
 use Rattle.vision.specs.Seen.{lit_test, sees_test, with_cells}
-use Rattle.vision.proofs.AddingLemmas.{near_across, near_down}
+use Rattle.vision.proofs.AddingLemmas.{near_down}
 
 -- ---- the loops
 
@@ -31,10 +31,6 @@ third true false c d h = cc
 third false b c d h = cc
 
 -- a cell of both fields in both discs is near the middle of the second disc
-pub common_across : (own field : Cells) (range light : Disc) (x y : ℕ) → common_test own range field light x y ≡ true
-    → (light.middle.x ≤ 2 * x + 1 + light.halves) × (2 * x + 1 ≤ light.middle.x + light.halves)
-common_across own field range light x y h = near_across light.middle x y light.halves (third (has own x y) (has field x y) _ _ h)
-
 pub common_down : (own field : Cells) (range light : Disc) (x y : ℕ) → common_test own range field light x y ≡ true
     → (light.middle.y ≤ 2 * y + 1 + light.halves) × (2 * y + 1 ≤ light.middle.y + light.halves)
 common_down own field range light x y h = near_down light.middle x y light.halves (third (has own x y) (has field x y) _ _ h)

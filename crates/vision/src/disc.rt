@@ -1,4 +1,4 @@
-ghost use Rattle.std.specs.Prelude.{◌≡◌, ℕ, ◌+◌, ◌*◌, ◌<◌, ◌≤◌};
+ghost use Rattle.std.specs.Prelude.{◌≡◌, ℕ, ◌+◌, ◌*◌, ◌<◌, ◌≤◌, ◌&&◌, nat_le, nat_lt};
 ghost use Rattle.vision.specs.Common.{is_in_disc};
 
 use lattice::Point;
@@ -13,42 +13,40 @@ pub(crate) struct Disc {
 }
 
 impl Disc {
-    /// Whether the centre of the cell in column `x` and row `y` is in the disc.
-    pub(crate) fn has(&self, x: u8, y: u8) -> bool
-        requires column { x < 96 }
-        requires row { y < 96 }
-        ensures { result ≡ is_in_disc self.now x y }
-    {
-        self.middle
-            .is_within(Point::centre(x, y), self.halves as u16)
-    }
-
-    /// The columns, of so many, outside of which no cell of the disc stands: from the first number to the second,
-    /// which is left out.
-    pub(crate) fn columns(&self, count: u8) -> (u8, u8)
-        ensures first { (x : ℕ) → self.now.middle.x ≤ 2 * x + 1 + self.now.halves → result.0 ≤ x }
-        ensures past { (x : ℕ) → x < count → 2 * x + 1 ≤ self.now.middle.x + self.now.halves → x < result.1 }
-        ensures bound { result.1 ≤ count }
-    {
-        let middle = across(&self.middle);
-        (
-            first_near(middle, self.halves),
-            past_near(middle, self.halves, count),
-        )
-    }
-
-    /// The rows, of so many, in the same way.
+    /// The rows, of so many, outside of which no cell of the disc stands: from the first number to the second, which is
+    /// left out.
     pub(crate) fn rows(&self, count: u8) -> (u8, u8)
         ensures first { (y : ℕ) → self.now.middle.y ≤ 2 * y + 1 + self.now.halves → result.0 ≤ y }
         ensures past { (y : ℕ) → y < count → 2 * y + 1 ≤ self.now.middle.y + self.now.halves → y < result.1 }
         ensures bound { result.1 ≤ count }
     {
         let middle = down(&self.middle);
-        (
-            first_near(middle, self.halves),
-            past_near(middle, self.halves, count),
-        )
+        let halves = self.halves as u16;
+        (first_near(middle, halves), past_near(middle, halves, count))
     }
+
+    /// The columns, of so many, of the disc's cells in row `y`: from the first number to the second, which is left out.
+    pub(crate) fn span(&self, y: u8, count: u8) -> (u8, u8)
+        requires row { y < 96 }
+        ensures cells { (x : ℕ) → x < count → (nat_le result.0 x && nat_lt x result.1) ≡ is_in_disc self.now x y }
+        ensures bound { result.1 ≤ count }
+    {
+        let halves = self.halves as u16;
+        let away = down(&self.middle).abs_diff(2 * y as u16 + 1);
+        if away > halves {
+            return (0, 0);
+        }
+        let reach = (square(halves) - square(away)).isqrt();
+        let middle = across(&self.middle);
+        (first_near(middle, reach), past_near(middle, reach, count))
+    }
+}
+
+fn square(number: u16) -> u16
+    requires { number ≤ 255 }
+    ensures { result ≡ number * number }
+{
+    number * number
 }
 
 fn across(point: &Point) -> u16
@@ -65,18 +63,22 @@ fn down(point: &Point) -> u16
     point.y() as u16
 }
 
-fn first_near(middle: u16, halves: u8) -> u8
-    requires { middle ≤ 192 }
-    ensures { (n : ℕ) → middle ≤ 2 * n + 1 + halves → result ≤ n }
+fn first_near(middle: u16, halves: u16) -> u8
+    requires middle { middle ≤ 192 }
+    requires halves { halves ≤ 255 }
+    ensures first { (n : ℕ) → middle ≤ 2 * n + 1 + halves → result ≤ n }
+    ensures near { (n : ℕ) → result ≤ n → middle ≤ 2 * n + 1 + halves }
 {
-    (middle.saturating_sub(halves as u16) / 2) as u8
+    (middle.saturating_sub(halves) / 2) as u8
 }
 
-fn past_near(middle: u16, halves: u8, count: u8) -> u8
-    requires { middle ≤ 192 }
+fn past_near(middle: u16, halves: u16, count: u8) -> u8
+    requires middle { middle ≤ 192 }
+    requires halves { halves ≤ 255 }
     ensures past { (n : ℕ) → n < count → 2 * n + 1 ≤ middle + halves → n < result }
+    ensures near { (n : ℕ) → n < result → 2 * n + 1 ≤ middle + halves }
     ensures bound { result ≤ count }
 {
-    let past = (middle + halves as u16 + 1) / 2;
+    let past = (middle + halves + 1) / 2;
     past.min(count as u16) as u8
 }

@@ -8,7 +8,7 @@ ghost use Rattle.vision.specs.Seen.{AddsSeen, AreTold, sees_test, with_cells};
 use crate::disc::Disc;
 use crate::fields::{Fields, kept_field};
 use crate::lamp::Lamp;
-use cells::{Cell, CellSet};
+use cells::CellSet;
 use lattice::Point;
 use names::{Mode, TokenId};
 use sight_types::Sight;
@@ -125,22 +125,10 @@ fn add_row(own: &CellSet, range: &Disc, field: &CellSet, light: &Disc, y: u8, ou
     requires row { y < out.old.extent.h }
     ensures { out.new ≡ with_cells out.old (λ u v. nat_eq v y && common_test own.now range.now field.now light.now u v) }
 {
-    let (first, past) = light.columns(out.size().w());
-    for x in first..past {
-        let cell = Cell { x, y };
-        if is_common(own, range, field, light, cell) {
-            out.add(cell);
-        }
-    }
-}
-
-// The bits of the sets come first, since they tell most cells without a product.
-fn is_common(own: &CellSet, range: &Disc, field: &CellSet, light: &Disc, cell: Cell) -> bool
-    requires on_map { (cell.x < own.now.extent.w) × (cell.y < own.now.extent.h) }
-    requires size { field.now.extent ≡ own.now.extent }
-    requires column { cell.x < 96 }
-    requires row { cell.y < 96 }
-    ensures { result ≡ common_test own.now range.now field.now light.now cell.x cell.y }
-{
-    own.has(cell) && field.has(cell) && light.has(cell.x, cell.y) && range.has(cell.x, cell.y)
+    let width = out.size().w();
+    let (range_first, range_past) = range.span(y, width);
+    let (light_first, light_past) = light.span(y, width);
+    let first = range_first.max(light_first);
+    let past = range_past.min(light_past);
+    out.join_common(y, first, past, own, field);
 }

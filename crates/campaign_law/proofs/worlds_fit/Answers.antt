@@ -4,7 +4,7 @@ use Rattle.campaign_law.proofs.Worlds.{fits_opened, fits_always}
 use Rattle.campaign_law.proofs.NewTokens.{makes_new}
 use Rattle.campaign_law.proofs.WrittenWorlds.{written_opened, written_always}
 use Rattle.command_effects.proofs.KeptScenes.{settled_kept}
-use Rattle.campaign_law.proofs.OrderlyWorlds.{orderly_always}
+use Rattle.campaign_law.proofs.ScenesOfWorlds.{tables_always}
 use Rattle.campaign_law.proofs.worlds_fit.Goals as goal
 
 pub returns-clause-opens : goal.returns-clause-opens
@@ -22,8 +22,8 @@ returns-clause-opens_written c = written_opened
 pub returns-clause-written : goal.returns-clause-written
 returns-clause-written c = written_always
 
-pub returns-clause-opens_orderly : goal.returns-clause-opens_orderly
-returns-clause-opens_orderly c = λ opened is. settled_kept opened.scene is
+pub returns-clause-opens_tables : goal.returns-clause-opens_tables
+returns-clause-opens_tables c = λ opened is. settled_kept opened.scene is
 
-pub returns-clause-orderly : goal.returns-clause-orderly
-returns-clause-orderly c = orderly_always
+pub returns-clause-tables : goal.returns-clause-tables
+returns-clause-tables c = tables_always

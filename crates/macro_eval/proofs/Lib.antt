@@ -1,0 +1,11 @@
+pub mod Ended
+pub mod Reached
+pub mod Joined
+pub mod Rounds
+pub mod Digits
+pub mod Rolled
+pub mod Standing
+pub mod Operating
+pub mod Numbers
+pub mod Answering
+pub mod Examples

@@ -1,0 +1,12 @@
+pub mod Steps
+pub mod Operators
+pub mod Functions
+pub mod Nodes
+pub mod Pieces
+pub mod Runs
+pub mod Rounds
+pub mod Held
+pub mod Flat
+pub mod Answers
+pub mod Settings
+pub mod Examples

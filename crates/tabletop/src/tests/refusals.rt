@@ -1,0 +1,338 @@
+//! Each refusal, in a campaign that is full: 8 maps, 32 types of lights and of sights, 2,048 walls on one map, 64
+//! properties of each class at one token, and as many used tags as the game master and a player may use.
+
+use super::campaigns::THREE_SEATS;
+use super::{WORDS, plain_run, played, with_tabs};
+use std::alloc::Global;
+use std::test::Fail;
+
+// The script's line, and the one line that it sends.
+const REFUSED: [(&str, &str); 40] = [
+    (r#"1 {"#, r#"1 {"n":2,"no":1,"refused":"BadJson"}"#),
+    (
+        r#"1 {"do":"jump"}"#,
+        r#"1 {"n":3,"no":2,"refused":"BadCommand"}"#,
+    ),
+    (
+        r#"1 {"do":"map"}"#,
+        r#"1 {"n":4,"no":3,"refused":"GmOnly"}"#,
+    ),
+    (
+        r#"1 {"do":"say"}"#,
+        r#"1 {"field":"text","n":5,"no":4,"refused":"BadField"}"#,
+    ),
+    (
+        r#"1 {"do":"move","token":"1:t","path":[[0,0]]}"#,
+        r#"1 {"n":6,"no":5,"refused":"NotYours"}"#,
+    ),
+    (
+        r#"1 {"do":"remove","token":"0:g0"}"#,
+        r#"1 {"n":7,"no":6,"refused":"NotMaker"}"#,
+    ),
+    (
+        r#"1 {"do":"make","tag":"new","map":"m7","cell":[0,0],"name":"New"}"#,
+        r#"1 {"n":8,"no":7,"refused":"MapNotShown"}"#,
+    ),
+    (
+        r#"1 {"do":"make","tag":"new","map":"m0","cell":[1,0],"name":"New"}"#,
+        r#"1 {"n":9,"no":8,"refused":"OffMap"}"#,
+    ),
+    (
+        r#"1 {"do":"move","token":"1:t0","path":[[2,0]]}"#,
+        r#"1 {"n":10,"no":9,"refused":"BadPath"}"#,
+    ),
+    (
+        r#"1 {"do":"make","tag":"t0","map":"m0","cell":[0,0],"name":"New"}"#,
+        r#"1 {"n":11,"no":10,"refused":"TagUsed"}"#,
+    ),
+    (
+        r#"1 {"do":"make","tag":"new","map":"m0","cell":[0,0],"name":"New"}"#,
+        r#"1 {"n":12,"no":11,"refused":"TagsSpent"}"#,
+    ),
+    (
+        r#"2 {"do":"make","tag":"new","map":"m0","cell":[0,0],"name":"New"}"#,
+        r#"2 {"n":2,"no":12,"refused":"NotExposed"}"#,
+    ),
+    (
+        r#"1 {"do":"light","token":"1:t0","light":"none"}"#,
+        r#"1 {"n":13,"no":13,"refused":"UnknownLight"}"#,
+    ),
+    (
+        r#"1 {"do":"say","text":"hi","to":9}"#,
+        r#"1 {"n":14,"no":14,"refused":"NoSuchSeat"}"#,
+    ),
+    (
+        r#"1 {"do":"setprop","token":"1:t0","class":"public","name":"new","value":""}"#,
+        r#"1 {"n":15,"no":17,"refused":"PropertyLimit"}"#,
+    ),
+    (
+        r#"1 {"do":"setprop","token":"1:t0","class":"own","name":"new","value":""}"#,
+        r#"1 {"n":16,"no":17,"refused":"PropertyLimit"}"#,
+    ),
+    (
+        r#"1 {"do":"roll","dice":"4d6k"}"#,
+        r#"1 {"at":4,"n":17,"no":18,"refused":"BadDice"}"#,
+    ),
+    (
+        r#"1 {"do":"roll","dice":"101d6"}"#,
+        r#"1 {"n":18,"no":19,"refused":"DiceLimit"}"#,
+    ),
+    (
+        r#"3 {"do":"hello","seat":3,"key":"x"}"#,
+        r#"3 {"n":0,"no":24,"refused":"BadKey"}"#,
+    ),
+    (
+        r#"1 {"do":"hello","seat":1,"key":"a"}"#,
+        r#"1 {"n":19,"no":25,"refused":"SeatTaken"}"#,
+    ),
+    (
+        r#"3 {"do":"look"}"#,
+        r#"3 {"n":0,"no":27,"refused":"NoHello"}"#,
+    ),
+    (
+        r#"0 {"do":"map","name":"m0","w":1,"h":1}"#,
+        r#"0 {"n":2,"no":30,"refused":"MapExists"}"#,
+    ),
+    (
+        r#"0 {"do":"map","name":"new","w":1,"h":1}"#,
+        r#"0 {"n":3,"no":31,"refused":"MapLimit"}"#,
+    ),
+    (
+        r#"0 {"do":"mode","map":"none","mode":"off"}"#,
+        r#"0 {"n":4,"no":32,"refused":"NoSuchMap"}"#,
+    ),
+    (
+        r#"0 {"do":"wall","map":"maze","kind":"mbl","a":[0,0],"b":[10,10]}"#,
+        r#"0 {"n":5,"no":33,"refused":"WallLimit"}"#,
+    ),
+    (
+        r#"0 {"do":"wall","map":"maze","kind":"mbl","a":[1,1],"b":[1,1]}"#,
+        r#"0 {"n":6,"no":34,"refused":"DegenerateWall"}"#,
+    ),
+    (
+        r#"0 {"do":"wall","map":"maze","kind":"mbl","a":[0,5],"b":[0,0]}"#,
+        r#"0 {"n":7,"no":35,"refused":"WallThere"}"#,
+    ),
+    (
+        r#"0 {"do":"unwall","map":"maze","kind":"vbl","a":[0,0],"b":[0,5]}"#,
+        r#"0 {"n":8,"no":36,"refused":"NoSuchWall"}"#,
+    ),
+    (
+        r#"0 {"do":"lighttype","name":"new","radius":1}"#,
+        r#"0 {"n":9,"no":37,"refused":"TypeLimit"}"#,
+    ),
+    (
+        r#"0 {"do":"sighttype","name":"new","range":1,"night":0,"mult":1}"#,
+        r#"0 {"n":10,"no":37,"refused":"TypeLimit"}"#,
+    ),
+    (
+        r#"0 {"do":"lighttype","name":"l0","radius":21}"#,
+        r#"0 {"n":11,"no":38,"refused":"BadRadius"}"#,
+    ),
+    (
+        r#"0 {"do":"sighttype","name":"s0","range":1,"night":0,"mult":5}"#,
+        r#"0 {"n":12,"no":39,"refused":"BadRange"}"#,
+    ),
+    (
+        r#"0 {"do":"token","tag":"g1","map":"m0","cell":[0,0],"name":"New"}"#,
+        r#"0 {"n":13,"no":40,"refused":"IdUsed"}"#,
+    ),
+    (
+        r#"0 {"do":"token","tag":"new","map":"m0","cell":[0,0],"name":"New"}"#,
+        r#"0 {"n":14,"no":41,"refused":"TokenLimit"}"#,
+    ),
+    (
+        r#"0 {"do":"place","token":"0:none","map":"m0","cell":[0,0]}"#,
+        r#"0 {"n":15,"no":42,"refused":"NoSuchToken"}"#,
+    ),
+    (
+        r#"0 {"do":"sight","token":"0:g0","sight":"none"}"#,
+        r#"0 {"n":16,"no":43,"refused":"UnknownSight"}"#,
+    ),
+    (
+        r#"0 {"do":"make","tag":"new","map":"m0","cell":[0,0],"name":"New"}"#,
+        r#"0 {"n":17,"no":44,"refused":"PlayersOnly"}"#,
+    ),
+    (
+        r#"0 {"do":"own","token":"0:g0","seat":0,"on":true}"#,
+        r#"0 {"n":18,"no":45,"refused":"NotAPlayer"}"#,
+    ),
+    (
+        r#"0 {"do":"secret","token":"1:t0","name":"new","value":""}"#,
+        r#"0 {"n":19,"no":17,"refused":"PropertyLimit"}"#,
+    ),
+    (
+        r#"0 {"do":"expose","seat":9,"map":"m0","rect":[0,0,1,1]}"#,
+        r#"0 {"n":20,"no":14,"refused":"NoSuchSeat"}"#,
+    ),
+];
+
+const HELLOS: &str = r#"0 {"do":"hello","seat":0,"key":"g"}
+1 {"do":"hello","seat":1,"key":"a"}
+2 {"do":"hello","seat":2,"key":"b"}
+"#;
+
+// So many pieces, numbered from 0 on, with commas between them.
+fn add_numbered(
+    alloc: Global,
+    text: &mut String,
+    count: u32,
+    front: &str,
+    back: &str,
+) -> Result<(), Fail> {
+    for number in 0..count {
+        let comma = if number == 0 { "" } else { "," };
+        text.push_str(&format!(in alloc; "{comma}{front}{number}{back}")?)?;
+    }
+    Ok(())
+}
+
+// 2,048 different walls on a map of 5 by 5 cells: from the points of its upper half to those of its lower half.
+fn add_walls(alloc: Global, text: &mut String) -> Result<(), Fail> {
+    for number in 0..2048_u32 {
+        let comma = if number == 0 { "" } else { "," };
+        let (ax, ay) = (number % 11, number / 11 % 5);
+        let (bx, by) = (number / 55 % 11, 5 + number / 605);
+        text.push_str(&format!(in alloc; "{comma}[{ax},{ay},{bx},{by}]")?)?;
+    }
+    Ok(())
+}
+
+fn add_maps(alloc: Global, text: &mut String) -> Result<(), Fail> {
+    add_numbered(
+        alloc,
+        text,
+        7,
+        r#"{"h":1,"mbl":[],"mode":"day","name":"m"#,
+        r#"","rows":["."],"shown":true,"vbl":[],"w":1}"#,
+    )?;
+    text.push_str(r#",{"h":5,"mbl":["#)?;
+    add_walls(alloc, text)?;
+    text.push_str(
+        r#"],"mode":"day","name":"maze","rows":[".....",".....",".....",".....","....."],"shown":true,"vbl":[],"w":5}"#,
+    )?;
+    Ok(())
+}
+
+// A seat whose tags are so many numbers behind the letter.
+fn add_seat(
+    alloc: Global,
+    text: &mut String,
+    key: &str,
+    count: u32,
+    letter: &str,
+) -> Result<(), Fail> {
+    text.push_str(r#"{"drawn":0,"fog":{},"key":""#)?;
+    text.push_str(key)?;
+    text.push_str(
+        r#"","macros":{},"seed":"0000000000000000000000000000000000000000000000000000000000000000","tags":["#,
+    )?;
+    add_numbered(alloc, text, count, &format!(in alloc; "\"{letter}")?, "\"")?;
+    text.push_str("]}")?;
+    Ok(())
+}
+
+fn add_seats(alloc: Global, text: &mut String) -> Result<(), Fail> {
+    add_seat(alloc, text, "g", 2048, "g")?;
+    text.push_str(",")?;
+    add_seat(alloc, text, "a", 16, "t")?;
+    text.push_str(",")?;
+    add_seat(alloc, text, "b", 0, "t")?;
+    text.push_str(",")?;
+    add_seat(alloc, text, "c", 0, "t")
+}
+
+fn add_props(alloc: Global, text: &mut String, class: &str) -> Result<(), Fail> {
+    text.push_str(class)?;
+    add_numbered(alloc, text, 64, r#"["p"#, r#"",""]"#)?;
+    text.push_str("]")?;
+    Ok(())
+}
+
+// Two tokens of the first player's, one made by the game master and one by the player.
+fn add_tokens(alloc: Global, text: &mut String) -> Result<(), Fail> {
+    text.push_str(
+        r#"{"cell":[0,0],"id":"0:g0","layer":"token","light":null,"map":"maze","name":"Ox","own":[],"owners":[1],"props":[],"secret":[],"sight":null,"size":1,"visible":true},"#,
+    )?;
+    text.push_str(
+        r#"{"cell":[0,0],"id":"1:t0","layer":"token","light":null,"map":"maze","name":"Ann","owners":[1],"sight":null,"size":1,"visible":true"#,
+    )?;
+    add_props(alloc, text, r#","own":["#)?;
+    add_props(alloc, text, r#","props":["#)?;
+    add_props(alloc, text, r#","secret":["#)?;
+    text.push_str("}")?;
+    Ok(())
+}
+
+fn full_campaign(alloc: Global) -> Result<String, Fail> {
+    let mut text = String::new(alloc);
+    text.push_str(r#"{"format":1,"lights":{"#)?;
+    add_numbered(alloc, &mut text, 32, r#""l"#, r#"":1"#)?;
+    text.push_str(r#"},"maps":["#)?;
+    add_maps(alloc, &mut text)?;
+    text.push_str(r#"],"seats":["#)?;
+    add_seats(alloc, &mut text)?;
+    text.push_str(r#"],"sights":{"#)?;
+    add_numbered(alloc, &mut text, 32, r#""s"#, r#"":[1,0,1]"#)?;
+    text.push_str(r#"},"tokens":["#)?;
+    add_tokens(alloc, &mut text)?;
+    text.push_str("]}")?;
+    Ok(text)
+}
+
+// The status of the script in the full campaign, and what was printed.
+fn played_in_full(alloc: Global, script: &str) -> Result<(u8, String), Fail> {
+    let campaign = full_campaign(alloc)?;
+    played(alloc, &WORDS, &plain_run(&campaign, script))
+}
+
+#[test]
+fn each_refusal_is_given(rt: HostRuntime) -> Result<(), Fail> {
+    let alloc = rt.alloc();
+    let mut script = String::from_str(alloc, HELLOS)?;
+    let (status, mut wanted) = played_in_full(alloc, HELLOS)?;
+    assert_eq!(rt; status, 0);
+    for (line, refusal) in &REFUSED {
+        script.push_str(line)?;
+        script.push_str(
+            "
+",
+        )?;
+        wanted.push_str(&with_tabs(alloc, refusal)?)?;
+        wanted.push_str(
+            "
+",
+        )?;
+    }
+    let (status, output) = played_in_full(alloc, &script)?;
+    assert_eq!(rt; status, 0);
+    assert_eq!(rt; output.as_str(), wanted.as_str());
+    Ok(())
+}
+
+// A hello, as many lines as the seat then has left in the run, and one more hello.
+fn spending(alloc: Global) -> Result<String, Fail> {
+    let mut script = String::from_str(alloc, HELLOS)?;
+    for _ in 0..16_383 {
+        script.push_str("2 \n")?;
+    }
+    script.push_str(
+        r#"2 {"do":"hello","seat":2,"key":"b"}
+"#,
+    )?;
+    Ok(script)
+}
+
+#[test]
+fn a_seat_has_so_many_lines_in_a_run(rt: HostRuntime) -> Result<(), Fail> {
+    let alloc = rt.alloc();
+    let script = spending(alloc)?;
+    let (status, output) = played(alloc, &WORDS, &plain_run(THREE_SEATS, &script))?;
+    assert_eq!(rt; status, 0);
+    let end = r#"2 {"n":16383,"no":1,"refused":"BadJson"}
+2 {"n":16384,"no":1,"refused":"BadJson"}
+2 {"n":0,"no":26,"refused":"Spent"}
+"#;
+    assert!(rt; output.ends_with(with_tabs(alloc, end)?.as_str()));
+    Ok(())
+}
