@@ -15,7 +15,9 @@ use Rattle.campaign_law.specs.State.{Post, State, post_after, world_in, state_af
 use Rattle.campaign_law.specs.Law.{IsOpening}
 use Rattle.campaign_law.proofs.Lists.{map-mapped_from, mapped_from-map}
 use Rattle.campaign_law.specs.Worlds.{FitsTogether}
+use Rattle.player_view.specs.Tables.{HasTables}
 use Rattle.campaign_law.proofs.Worlds.{fits_always}
+use Rattle.campaign_law.proofs.ScenesOfWorlds.{tables_always}
 use Rattle.campaign_law.proofs.Settled.{replay_settled}
 use Rattle.campaign_law.proofs.Sessions.{state_of-more, world_in-state_of}
 use Rattle.campaign_core.specs.declared.next.Prepared.{Prepared}
@@ -54,6 +56,9 @@ running_sound origin h room before kept stage r = replayed_sound origin h (law b
 pub running_fits : (origin : World) (h : List Entry) (room : ℕ) (before : Standing) (kept : Kept) (stage : Option Staged) → IsRunning origin h room before kept stage → FitsTogether (world_in (law before))
 running_fits origin h room before kept stage r = subst FitsTogether (sym (world_now origin h room before kept stage r)) (fits_always origin h r.fits)
 
+pub running_tables : (origin : World) (h : List Entry) (room : ℕ) (before : Standing) (kept : Kept) (stage : Option Staged) → IsRunning origin h room before kept stage → HasTables before.scene
+running_tables origin h room before kept stage r = subst (λ (w : World). HasTables w.scene) (sym (world_now origin h room before kept stage r)) (tables_always origin h r.fits r.tables)
+
 -- ---- staging
 
 -- what leaves the state as it is and takes no place leaves it running
@@ -66,6 +71,7 @@ restaged origin h room room' before after kept stage stage' r same count more st
       now = same ∙ r.now;
       opening = r.opening;
       fits = r.fits;
+      tables = r.tables;
       fields = subst (λ (s : State). AreKept s.scene kept.fields) (sym same) r.fields;
       views = subst (λ (s : State). AreShown (world_in s) kept.views) (sym same) r.views;
       count = r.count ∙ sym count;
@@ -90,6 +96,7 @@ advances origin h h' room room' before after kept kept' stage e r next seats fie
   now = next ∙ ap (λ s. state_after s e) r.now ∙ state_of-more origin h e r.opening ∙ ap (state_of origin) (sym more);
   opening = r.opening;
   fits = r.fits;
+  tables = r.tables;
   fields = fields;
   views = subst (λ w. AreShown w kept'.views) (sym (ap world_in next ∙ world_after (law before) e)) shown;
   count = same ∙ r.count ∙ sym seats;

@@ -14,6 +14,7 @@ ghost use Rattle.campaign_law.specs.Law.{IsOpening, IsSentAsMachine, ChangesLitt
 
 use crate::next::{Prepared, act, leave, made_by};
 use crate::state::{Post, State};
+use crate::tables::open_tables;
 use campaign_file::{BadCampaign, FileFault, Rule, read_campaign};
 use campaign_law::{Answer, Entry};
 use cells::CellSet;
@@ -160,6 +161,7 @@ impl<E: Eye + Drop> Campaign<E> {
         ensures looks { IfOk result (λ c. c.looks ≤ E.looks_made eye + looks_of_opening c.origin.scene) }
     {
         let (mut scene, books) = world.into_parts();
+        open_tables(&scene);
         let fields = fields_after(
             alloc,
             &scene,

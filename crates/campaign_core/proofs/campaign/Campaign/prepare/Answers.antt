@@ -12,11 +12,14 @@ use Rattle.campaign_core.specs.Places.{law, posted, world_at}
 use Rattle.campaign_core.specs.Prepared.{IsPrepared}
 use Rattle.campaign_core.specs.Shown.{AreShown}
 use Rattle.campaign_core.proofs.Laws.{world_law}
-use Rattle.campaign_core.proofs.Running.{running_fits, running_settled, running_sound, world_now, restaged}
+use Rattle.campaign_core.proofs.Running.{running_fits, running_tables, running_settled, running_sound, world_now, restaged}
 use Rattle.campaign_core.proofs.campaign.Campaign.prepare.Goals as goal
 
 pub made_by-requires-clause-fits : goal.made_by-requires-clause-fits
 made_by-requires-clause-fits g c = subst FitsTogether (sym (world_law c.self.inside.state)) (running_fits _ _ _ _ _ _ c.self.invariant)
+
+pub made_by-requires-clause-tables : goal.made_by-requires-clause-tables
+made_by-requires-clause-tables g c = running_tables _ _ _ _ _ _ c.self.invariant
 
 pub made_by-requires-clause-settled : goal.made_by-requires-clause-settled
 made_by-requires-clause-settled g c = running_settled _ _ _ _ _ _ c.self.invariant
