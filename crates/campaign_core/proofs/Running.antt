@@ -5,12 +5,13 @@ use Rattle.std.specs.List.{AllByRecursion}
 use Rattle.std.proofs.lemmas.List.{length-map}
 use Rattle.seats.specs.SeatState.{is_joined}
 use Rattle.view_keep.specs.declared.keep.KeptView.{KeptView}
-use Rattle.view_keep.specs.Kept.{Kept}
+use Rattle.view_keep.specs.Kept.{Kept, view_at}
+use Rattle.player_view.specs.View.{view_of}
 use Rattle.command_looks.specs.Fields.{AreKept}
 use Rattle.command_effects.specs.Settle.{IsSettled}
 use Rattle.campaign_law.specs.declared.entry.Entry.{Entry}
 use Rattle.campaign_law.specs.Seat.{Seat, IsFreshSeat, was_joined}
-use Rattle.campaign_law.specs.World.{World, replay, step, scene_after, seat_after, mapped_from}
+use Rattle.campaign_law.specs.World.{World, replay, step, scene_after, seat_after, seat_at, mapped_from}
 use Rattle.campaign_law.specs.State.{Post, State, post_after, world_in, state_after, state_of}
 use Rattle.campaign_law.specs.Law.{IsOpening}
 use Rattle.campaign_law.proofs.Lists.{map-mapped_from, mapped_from-map}
@@ -58,6 +59,13 @@ running_fits origin h room before kept stage r = subst FitsTogether (sym (world_
 
 pub running_tables : (origin : World) (h : List Entry) (room : ℕ) (before : Standing) (kept : Kept) (stage : Option Staged) → IsRunning origin h room before kept stage → HasTables before.scene
 running_tables origin h room before kept stage r = subst (λ (w : World). HasTables w.scene) (sym (world_now origin h room before kept stage r)) (tables_always origin h r.fits r.tables)
+
+-- the kept view of a seat that is Joined is what it is shown
+pub shown_now : (origin : World) (h : List Entry) (room : ℕ) (before : Standing) (kept : Kept) (stage : Option Staged) → IsRunning origin h room before kept stage → (seat : ℕ)
+    → was_joined (seat_at (replay origin h) seat) ≡ true → view_at seat kept.views ≡ Some (view_of (replay origin h).scene seat)
+shown_now origin h room before kept stage r seat joined =
+    let shown : AreShown (replay origin h) kept.views = subst (λ (w : World). AreShown w kept.views) (world_now origin h room before kept stage r) r.views in
+    shown.each seat joined
 
 -- ---- staging
 

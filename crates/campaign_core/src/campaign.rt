@@ -284,11 +284,10 @@ impl<E: Eye + Drop> Campaign<E> {
         requires { seat < length self.now.origin.seats }
         ensures { option_copied result ≡ kept_view (world_of self.now) seat }
     {
-        if self.post(seat).book.state().is_joined() {
-            Some(self.keep.view(seat))
-        } else {
-            None
+        if !self.post(seat).book.state().is_joined() {
+            return None;
         }
+        Some(self.keep.view(seat))
     }
 
     /// The field of the token's eye by the walls of its map, as it is kept; `None` exactly where there is no such token or

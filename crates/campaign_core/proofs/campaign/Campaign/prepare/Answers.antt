@@ -1,4 +1,4 @@
-use Rattle.std.proofs.Common.{◌≡◌, ◌≤◌, ◌+◌, ◌∙◌, ap, sym, subst, true, false, arith, ℕ, length}
+use Rattle.std.proofs.Common.{rules, ◌≡◌, ◌≤◌, ◌+◌, ◌∙◌, ap, sym, subst, true, false, arith, ℕ, length}
 use Rattle.std.proofs.lemmas.List.{length-map}
 use Rattle.std.specs.Prelude.{IsOk}
 use Rattle.command_looks.specs.Touched.{looks_of}
@@ -108,3 +108,13 @@ returns-clause-looks g c =
 
 pub returns-clause-sent : goal.returns-clause-sent
 returns-clause-sent g c = λ p. sent_is_machine _ _ p c.self.invariant.opening
+
+pub invariant_of-self-5 : goal.invariant_of-self-5
+invariant_of-self-5 g c =
+    restaged (world_in (law c.self.inside.origin)) c.self.inside.history.items _ _ c.self.inside.state c.make_room.new.self c.self.inside.keep c.self.inside.staged _ c.self.invariant
+    c.make_room.ensures.state c.make_room.ensures.count (search rules)
+    (record {
+      enough = search rules;
+      room = search rules;
+      prepared = subst (λ (s : State). IsPrepared s c.self.inside.keep c.args.entry c.in-Ok.prepared) (sym c.make_room.ensures.state) c.in-Ok.ensures.prepared;
+    })
