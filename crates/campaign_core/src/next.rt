@@ -75,8 +75,9 @@ pub(crate) fn made_by<E: Eye>(
     let (steps, mut outcome) = decide(alloc, state, entry)?;
     let changed = changed_scene(alloc, state, keep, eye, entry, &outcome, steps)?;
     let book = take_book(&mut outcome);
-    let NextSeats { nexts, views } =
-        seats_after(alloc, state, keep, entry, &outcome, book, &changed)?;
+    let NextSeats { nexts, views } = seats_after(
+        alloc, state, keep, entry, &outcome, book, &changed,
+    )?;
     let answer = told(steps, outcome);
     Ok(Prepared {
         nexts,
@@ -351,12 +352,7 @@ fn put_fields(keep: &mut Keep, fields: Option<Fields>)
 }
 
 /// The entry acts: all that it makes is put in its place. It takes no memory.
-pub(crate) fn act(
-    state: &mut State,
-    keep: &mut Keep,
-    entry: &Entry,
-    prepared: Prepared,
-) -> Answer
+pub(crate) fn act(state: &mut State, keep: &mut Keep, entry: &Entry, prepared: Prepared) -> Answer
     requires fields { AreKept state.old.scene keep.old.fields }
     requires count { length keep.old.views ≡ length state.old.posts }
     requires most { length keep.old.views ≤ 33 }

@@ -55,9 +55,9 @@ next_seats-requires-clause-still c =
     let w = world_at c.args.state.now in
     let after = c.glances-glances.ensures.after ∙ stands w c.args.entry.now c.args.keep.now.fields c.args.changed.now c.requires.changed in
     let still : AreStill c.glances-glances.result.same (with_book c.args.outcome.now c.args.book) c.glances-glances.result.before.now c.glances-glances.result.after.now =
-      subst (λ (b : Bool). AreStill b (with_book c.args.outcome.now c.args.book) c.glances-glances.result.before.now c.glances-glances.result.after.now) (sym c.glances-glances.ensures.same)
-      (subst (λ (o : Outcome). AreStill (is_none c.args.changed.now) o c.glances-glances.result.before.now c.glances-glances.result.after.now) (sym c.requires.outcome)
-      (subst (λ (s : Scene). AreStill (is_none c.args.changed.now) (outcome_of w c.args.entry.now) s c.glances-glances.result.after.now) (sym c.glances-glances.ensures.before)
-      (subst (AreStill (is_none c.args.changed.now) (outcome_of w c.args.entry.now) c.args.state.now.scene) (sym after)
-      (stays_in_view w c.args.entry.now c.args.keep.now.fields c.args.changed.now c.requires.settled c.requires.changed)))) in
+    subst (λ (b : Bool). AreStill b (with_book c.args.outcome.now c.args.book) c.glances-glances.result.before.now c.glances-glances.result.after.now) (sym c.glances-glances.ensures.same)
+    (subst (λ (o : Outcome). AreStill (is_none c.args.changed.now) o c.glances-glances.result.before.now c.glances-glances.result.after.now) (sym c.requires.outcome)
+    (subst (λ (s : Scene). AreStill (is_none c.args.changed.now) (outcome_of w c.args.entry.now) s c.glances-glances.result.after.now) (sym c.glances-glances.ensures.before)
+    (subst (AreStill (is_none c.args.changed.now) (outcome_of w c.args.entry.now) c.args.state.now.scene) (sym after)
+    (stays_in_view w c.args.entry.now c.args.keep.now.fields c.args.changed.now c.requires.settled c.requires.changed)))) in
     record { each = still.each }

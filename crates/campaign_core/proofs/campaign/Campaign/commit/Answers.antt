@@ -80,26 +80,26 @@ act-requires-clause-most g c = c.self.invariant.most
 pub act-requires-clause-room : goal.act-requires-clause-room
 act-requires-clause-room g c =
     let whole : IsWhole _ c.self.inside.state c.self.inside.keep c.in-Some.staged.entry c.in-Whole.prepared =
-      made_is _ c.self.inside.state c.self.inside.keep c.self.inside.staged c.in-Some.staged (Whole c.in-Whole.prepared) c.in-Some.ensures.value c.in-Whole.is c.self.invariant.staged in
+    made_is _ c.self.inside.state c.self.inside.keep c.self.inside.staged c.in-Some.staged (Whole c.in-Whole.prepared) c.in-Some.ensures.value c.in-Whole.is c.self.invariant.staged in
     whole.room
 
 pub act-requires-clause-prepared : goal.act-requires-clause-prepared
 act-requires-clause-prepared g c =
     let whole : IsWhole _ c.self.inside.state c.self.inside.keep c.in-Some.staged.entry c.in-Whole.prepared =
-      made_is _ c.self.inside.state c.self.inside.keep c.self.inside.staged c.in-Some.staged (Whole c.in-Whole.prepared) c.in-Some.ensures.value c.in-Whole.is c.self.invariant.staged in
+    made_is _ c.self.inside.state c.self.inside.keep c.self.inside.staged c.in-Some.staged (Whole c.in-Whole.prepared) c.in-Some.ensures.value c.in-Whole.is c.self.invariant.staged in
     whole.prepared
 
 pub push_reserved-requires-2 : goal.push_reserved-requires-2
 push_reserved-requires-2 g c =
     let whole : IsWhole _ c.self.inside.state c.self.inside.keep c.in-Some.staged.entry c.in-Whole.prepared =
-      made_is _ c.self.inside.state c.self.inside.keep c.self.inside.staged c.in-Some.staged (Whole c.in-Whole.prepared) c.in-Some.ensures.value c.in-Whole.is c.self.invariant.staged in
+    made_is _ c.self.inside.state c.self.inside.keep c.self.inside.staged c.in-Some.staged (Whole c.in-Whole.prepared) c.in-Some.ensures.value c.in-Whole.is c.self.invariant.staged in
     let enough = whole.enough in
     omega (arith, enough)
 
 pub invariant_of-self-2 : goal.invariant_of-self-2
 invariant_of-self-2 g c =
     let whole : IsWhole _ c.self.inside.state c.self.inside.keep c.in-Some.staged.entry c.in-Whole.prepared =
-      made_is _ c.self.inside.state c.self.inside.keep c.self.inside.staged c.in-Some.staged (Whole c.in-Whole.prepared) c.in-Some.ensures.value c.in-Whole.is c.self.invariant.staged in
+    made_is _ c.self.inside.state c.self.inside.keep c.self.inside.staged c.in-Some.staged (Whole c.in-Whole.prepared) c.in-Some.ensures.value c.in-Whole.is c.self.invariant.staged in
     let enough = whole.enough in
     let few = owed_most _ _ _ c.self.inside.state c.act-answer.new.state _ _ c.self.invariant c.act-answer.ensures.seats in
     let len = c.push_reserved-2.ensures.len in

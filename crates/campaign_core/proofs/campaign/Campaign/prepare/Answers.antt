@@ -57,7 +57,7 @@ pub returns-in_default-clause-looks : goal.returns-in_default-clause-looks
 returns-in_default-clause-looks g c =
     let same = world_law c.self.inside.state ∙ world_now (world_in (law c.self.inside.origin)) c.self.inside.history.items _ c.self.inside.state c.self.inside.keep c.self.inside.staged c.self.invariant in
     let most = ap (λ (w : World). looks_of w.scene (outcome_of w c.args.entry).done) same
-      ∙ ap (λ (x : Course). looks_of (replay x.origin x.history).scene (outcome_of (replay x.origin x.history) c.args.entry).done) c.self.view_is in
+    ∙ ap (λ (x : Course). looks_of (replay x.origin x.history).scene (outcome_of (replay x.origin x.history) c.args.entry).done) c.self.view_is in
     let before = ap (λ (x : Course). x.looks) c.self.view_is in
     omega (arith, c.made_by.ensures.looks, most, before)
 
@@ -74,7 +74,7 @@ pub returns-then-is_err-clause-looks : goal.returns-then-is_err-clause-looks
 returns-then-is_err-clause-looks g c =
     let same = world_law c.self.inside.state ∙ world_now (world_in (law c.self.inside.origin)) c.self.inside.history.items _ c.self.inside.state c.self.inside.keep c.self.inside.staged c.self.invariant in
     let most = ap (λ (w : World). looks_of w.scene (outcome_of w c.args.entry).done) same
-      ∙ ap (λ (x : Course). looks_of (replay x.origin x.history).scene (outcome_of (replay x.origin x.history) c.args.entry).done) c.self.view_is in
+    ∙ ap (λ (x : Course). looks_of (replay x.origin x.history).scene (outcome_of (replay x.origin x.history) c.args.entry).done) c.self.view_is in
     let before = ap (λ (x : Course). x.looks) c.self.view_is in
     omega (arith, c.made_by.ensures.looks, most, before)
 
@@ -91,7 +91,7 @@ pub returns-then-is_err-2-clause-looks : goal.returns-then-is_err-2-clause-looks
 returns-then-is_err-2-clause-looks g c =
     let same = world_law c.self.inside.state ∙ world_now (world_in (law c.self.inside.origin)) c.self.inside.history.items _ c.self.inside.state c.self.inside.keep c.self.inside.staged c.self.invariant in
     let most = ap (λ (w : World). looks_of w.scene (outcome_of w c.args.entry).done) same
-      ∙ ap (λ (x : Course). looks_of (replay x.origin x.history).scene (outcome_of (replay x.origin x.history) c.args.entry).done) c.self.view_is in
+    ∙ ap (λ (x : Course). looks_of (replay x.origin x.history).scene (outcome_of (replay x.origin x.history) c.args.entry).done) c.self.view_is in
     let before = ap (λ (x : Course). x.looks) c.self.view_is in
     omega (arith, c.made_by.ensures.looks, most, before)
 
@@ -102,7 +102,7 @@ pub returns-clause-looks : goal.returns-clause-looks
 returns-clause-looks g c =
     let same = world_law c.self.inside.state ∙ world_now (world_in (law c.self.inside.origin)) c.self.inside.history.items _ c.self.inside.state c.self.inside.keep c.self.inside.staged c.self.invariant in
     let most = ap (λ (w : World). looks_of w.scene (outcome_of w c.args.entry).done) same
-      ∙ ap (λ (x : Course). looks_of (replay x.origin x.history).scene (outcome_of (replay x.origin x.history) c.args.entry).done) c.self.view_is in
+    ∙ ap (λ (x : Course). looks_of (replay x.origin x.history).scene (outcome_of (replay x.origin x.history) c.args.entry).done) c.self.view_is in
     let before = ap (λ (x : Course). x.looks) c.self.view_is in
     omega (arith, c.made_by.ensures.looks, most, before)
 
