@@ -7,3 +7,4 @@ pub mod Session
 pub mod State
 pub mod Player
 pub mod Law
+pub mod SessionLaws
