@@ -6,13 +6,12 @@ ghost use Rattle.campaign_json.specs.Reading.{Fails, under, each};
 ghost use Rattle.campaign_scene.specs.Kept.{kept};
 ghost use Rattle.campaign_file.specs.Campaign.{players_in};
 ghost use Rattle.campaign_file.specs.Seats.{seat as seat_lem, seated, seats as seats_lem, tags as tags_lem, used_tag, untagged, IsFreshAt, AreFreshFrom, IsOpening};
-ghost use Rattle.seats.specs.Book.{most_tags as most_tags_lem};
 
 use campaign_json::fields::{self, check_object, check_only};
 use campaign_json::{FileFault, Rule, broken, kinds};
 use campaign_scene::read_fog;
 use names::{SeatNo, Text};
-use seats::{SeatBook, TagFault};
+use seats::{SeatBook, TagFault, most_tags};
 use serde_json::Value;
 use std::alloc::Global;
 use world::Scene;
@@ -87,13 +86,6 @@ fn read_seat(
     let scene = read_fog(alloc, seat, value, scene)?;
     check_only(alloc, value, &SEAT_KEYS)?;
     Ok((book, scene))
-}
-
-/// How many tags the seat may use.
-fn most_tags(seat: SeatNo) -> usize
-    ensures { result ≡ most_tags_lem seat }
-{
-    if seat.number() == 0 { 2048 } else { 16 }
 }
 
 /// The book with the tags that its seat used.

@@ -2,7 +2,7 @@
 use Rattle.std.proofs.Common.{◌≡◌, ℕ, ◌+◌, ◌<◌, ◌≤◌, suc, zero, List, [], ◌∷◌, length, drop, get_or, Result, Ok, Err, refl, sym, ap, ◌∙◌, arith, decimal, subst}
 use Rattle.std.specs.Prelude.{String, string_bytes}
 use Rattle.std.specs.declared.alloc.Global.{Global}
-use Rattle.std.proofs.lemmas.List.{drop_more}
+use Rattle.std.proofs.lemmas.List.{drop_all, drop_more}
 use Rattle.serde_json.specs.Data.{Data}
 use Rattle.serde_json.specs.View.{view, items_view, members_view}
 use Rattle.serde_json.specs.declared.value.Value.{Value}
@@ -27,12 +27,6 @@ fails_in key token part next left total fault (Bad bad) begins so_far e lies =
 fails_in key token part next left total fault Memory begins so_far e lies = subst (λ f. Fails f (under key total)) (sym lies) tt
 
 -- ---- items
-
-drop_end : {A : Type 0} (place : ℕ) (xs : List A) → length xs ≤ place → drop place xs ≡ []
-drop_end zero [] h = refl
-drop_end (suc place) [] h = refl
-drop_end zero (x ∷ xs) h = absurd (omega arith)
-drop_end (suc place) (x ∷ xs) h = drop_end place xs (omega arith)
 
 -- what a loop over the items of a list keeps at a place: f of what is read stays
 pub record IsReadTo {S K : Type 0} (read : ℕ → S → Data → Result S BadCampaign) (f : S → K) (values : List Value) (start : S) (place : ℕ) (now : S) : Type 0 where
@@ -60,7 +54,7 @@ read_stops key read f values start place now value found fault before lt is e li
 pub read_ends : {S K : Type 0} (key : List ℕ) (read : ℕ → S → Data → Result S BadCampaign) (f : S → K) (values : List Value) (start : S) (place : ℕ) (now : S) → IsReadTo read f values start place now
     → length values ≤ place → under key (each read 0 start (items_view values)) ≡ Ok now
 read_ends key read f values start place now before end =
-    ap (under key) (sym before.so_far) ∙ ap (λ (l : List Value). under key (each read place now (items_view l))) (drop_end place values end)
+    ap (under key) (sym before.so_far) ∙ ap (λ (l : List Value). under key (each read place now (items_view l))) (drop_all place values end)
 
 -- ---- members
 

@@ -2,7 +2,7 @@
 use Rattle.std.proofs.Common.{◌≡◌, ℕ, ◌+◌, ◌<◌, ◌≤◌, suc, zero, Bool, true, false, cond, nat_le, if◌then◌else◌, List, [], ◌∷◌, length, drop, get_or, ℤ, Option, Some, None, Result, Ok, is_some, option_map, refl, sym, ap, ◌∙◌, arith, subst}
 use Rattle.std.specs.Prelude.{IfSome}
 use Rattle.std.specs.List.{list_all}
-use Rattle.std.proofs.lemmas.List.{drop_more}
+use Rattle.std.proofs.lemmas.List.{drop_all, drop_more}
 use Rattle.names.specs.declared.kinds.Mode.{Mode}
 use Rattle.names.specs.declared.kinds.WallKind.{WallKind}
 use Rattle.lattice.specs.Coordinates.{Coordinates}
@@ -112,14 +112,8 @@ laid_more name y letters start x now next letter before lt is made = record {
       ∙ before.kept;
 }
 
-drop_end : (place : ℕ) (xs : List ℕ) → length xs ≤ place → drop place xs ≡ []
-drop_end zero [] h = refl
-drop_end (suc place) [] h = refl
-drop_end zero (x ∷ xs) h = absurd (omega arith)
-drop_end (suc place) (x ∷ xs) h = drop_end place xs (omega arith)
-
 pub laid_all : (name : List ℕ) (y : ℕ) (letters : List ℕ) (start : Scene) (x : ℕ) (now : Scene) → IsLaidTo name y letters start x now → length letters ≤ x → now ≡ lettered name y 0 start letters
-laid_all name y letters start x now before end = sym (ap (lettered name y x now) (drop_end x letters end)) ∙ before.so_far
+laid_all name y letters start x now before end = sym (ap (lettered name y x now) (drop_all x letters end)) ∙ before.so_far
 
 pub good_at : (p : ℕ → Bool) (xs : List ℕ) (i d : ℕ) → list_all p xs ≡ true → i < length xs → p (get_or xs i d) ≡ true
 good_at p [] i d h lt = absurd (omega arith)

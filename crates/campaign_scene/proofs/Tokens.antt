@@ -10,13 +10,8 @@ use Rattle.tokens.specs.declared.token.Token.{Token}
 use Rattle.world.specs.Rules.{are_players, belongs, fits, fits_on, is_known, is_player, size_of}
 use Rattle.world.specs.Scene.{Scene}
 use Rattle.world.specs.World.{are_used, is_used}
-use Rattle.world.proofs.TokenRules.{list_all-put, players_with}
+use Rattle.world.proofs.TokenRules.{list_all-put, no_players, players_with}
 use Rattle.campaign_scene.specs.Kept.{kept_by}
-
--- none are players
-pub no_players : (players : ℕ) → are_players players 0 ≡ true
-unfolding are_players
-no_players players = refl
 
 player : (players seat : ℕ) → 1 ≤ seat → seat ≤ players → is_player players seat ≡ true
 player players seat low high = grind arith

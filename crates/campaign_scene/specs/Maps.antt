@@ -11,7 +11,7 @@ use Rattle.cells.specs.declared.cell.Rect.{Rect}
 use Rattle.topology.specs.WallFaults.{wall_fault}
 use Rattle.topology.specs.declared.walls.WallFault.{WallFault}
 use Rattle.topology.specs.declared.walls.WallFault.TheVariants.{OffMap, DegenerateWall, WallThere, WallLimit, Memory}
-use Rattle.maps.specs.Letters.{is_letter}
+use Rattle.names.specs.Letters.{is_letter}
 use Rattle.maps.specs.Maps.{has_map, map_of, shown_if, with_letters, with_mode, with_wall_of}
 use Rattle.serde_json.specs.Data.{Data}
 use Rattle.json_fields.specs.Kinds.{within}

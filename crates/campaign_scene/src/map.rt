@@ -3,7 +3,7 @@ ghost use Rattle.std.specs.Prelude.{◌≡◌, ◌<◌, ◌≤◌, true, false, 
 ghost use Rattle.std.specs.List.{list_all};
 ghost use Rattle.serde_json.specs.View.{view, items_view};
 ghost use Rattle.json_fields.specs.Objects.{Gives};
-ghost use Rattle.maps.specs.Letters.{is_letter as is_letter_lem};
+ghost use Rattle.names.specs.Letters.{is_letter as is_letter_lem};
 ghost use Rattle.maps.specs.MapFaults.{map_fault};
 ghost use Rattle.maps.specs.Maps.{has_map};
 ghost use Rattle.world.specs.Rules.{size_of};
@@ -16,7 +16,7 @@ use campaign_json::fields::{self, check_object, check_only};
 use campaign_json::{FileFault, Rule, broken, broken_at, kinds};
 use cells::{Rect, Size};
 use maps::MAP_LIMIT;
-use names::{Mode, Tag, WallKind};
+use names::{Mode, Tag, WallKind, is_letter};
 use serde_json::Value;
 use std::alloc::Global;
 use world::Scene;
@@ -215,12 +215,6 @@ fn are_letters(letters: &[u8]) -> bool
     ensures { result ≡ list_all is_letter_lem letters.now }
 {
     letters.iter().all(|letter| is_letter(*letter))
-}
-
-fn is_letter(letter: u8) -> bool
-    ensures { result ≡ is_letter_lem letter }
-{
-    matches!(letter, b'a'..=b'z' | b'.')
 }
 
 /// The scene with these letters in row `y` of the map of that name, which is of that size.

@@ -15,11 +15,10 @@ use lattice::Point;
 use names::{Tag, WallKind};
 use serde_json::Value;
 use std::alloc::Global;
-use topology::WallFault;
+use topology::{MOST_WALLS, WallFault};
 use world::Scene;
 
 /// How many walls of a kind a map has at most.
-const MOST_WALLS: usize = 2048;
 
 /// The scene with the walls of that kind of the map of that name.
 #[tactic(auto, unfolding(crate::specs::Maps::walls))]

@@ -1,6 +1,6 @@
 //! What an accepted command of the game master does to the scene.
 ghost use Rattle.std.specs.Prelude.{◌≡◌, IfOk, IfSome, None, true, false, unwrap_or};
-ghost use Rattle.maps.specs.Letters.{is_letter};
+ghost use Rattle.names.specs.Letters.{is_letter};
 ghost use Rattle.maps.specs.Maps.{has_map, map_of, shown_if as map_shown_if, with_letters as with_letters_lem, with_mode as with_mode_lem, with_wall_of, without_wall_of};
 ghost use Rattle.maps.specs.MapFaults.{map_fault};
 ghost use Rattle.lights.specs.Lights.{light_fault};

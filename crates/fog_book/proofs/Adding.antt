@@ -1,10 +1,12 @@
 -- What a map more leaves.
 use Rattle.std.proofs.Common.{◌≡◌, ◌≢◌, ℕ, zero, suc, ◌<◌, ◌≤◌, Bool, true, false, cond, List, [], ◌∷◌, ◌++◌, Some, None, refl, sym, ap, subst, inl, inr, ◌∙◌, arith}
 use Rattle.std.specs.Prelude.{Option, option_map, find}
+use Rattle.std.specs.Ordering.{is_lt}
+use Rattle.names.specs.Tag.{tag_cmp}
 use Rattle.std.proofs.lemmas.Bool.{cases_eq, false_from_ne_true}
 use Rattle.cells.specs.Cells.{Extent, Cells, cells_where}
 use Rattle.fog_book.specs.declared.exposure.Exposure.{Exposure}
-use Rattle.fog_book.specs.Exposures.{Fog, is_of, cells_at, blank_sets, with_map, AddsMap}
+use Rattle.fog_book.specs.Exposures.{Fog, is_of, cells_at, blank_sets, with_map, with_sets, AddsMap}
 use Rattle.fog_book.proofs.Changes.{is_of_tells}
 
 abbrev or_else : Option Cells → Option Cells → Option Cells
@@ -26,6 +28,35 @@ cells_at-append (x ∷ sets) more seat name = here (is_of seat name x) (cells_at
         → cells_in (cond b (Some x) (find (is_of seat name) (sets ++ more))) ≡ or_else (cells_in (cond b (Some x) (find (is_of seat name) sets))) (cells_at more seat name)
     here true i = refl
     here false i = i
+
+-- what is found among the sets with those of a new map, where the others have nothing, or the new ones
+found_fresh : (name : List ℕ) (fresh sets : List Exposure) (seat : ℕ) (place : List ℕ) → cells_at sets seat place ≡ None → cells_at (with_sets name fresh sets) seat place ≡ cells_at fresh seat place
+found_fresh name fresh [] seat place none = refl
+found_fresh name fresh (set ∷ sets) seat place none = here (is_lt (tag_cmp set.map name)) (is_of seat place set) refl none (found_fresh name fresh sets seat place)
+  where
+    here : (less b : Bool) → is_of seat place set ≡ b → cells_in (cond b (Some set) (find (is_of seat place) sets)) ≡ None
+        → (cells_at sets seat place ≡ None → cells_at (with_sets name fresh sets) seat place ≡ cells_at fresh seat place)
+        → cells_at (cond less (set ∷ with_sets name fresh sets) (fresh ++ set ∷ sets)) seat place ≡ cells_at fresh seat place
+    here less true is some i = cc
+    here true false is none i = ap (λ b. cells_in (cond b (Some set) (find (is_of seat place) (with_sets name fresh sets)))) is ∙ i none
+    here false false is none i =
+        cells_at-append fresh (set ∷ sets) seat place
+        ∙ ap (λ b. or_else (cells_at fresh seat place) (cells_in (cond b (Some set) (find (is_of seat place) sets)))) is
+        ∙ ap (or_else (cells_at fresh seat place)) none ∙ or_else-None (cells_at fresh seat place)
+
+found_still : (name : List ℕ) (fresh sets : List Exposure) (seat : ℕ) (place : List ℕ) → cells_at fresh seat place ≡ None → cells_at (with_sets name fresh sets) seat place ≡ cells_at sets seat place
+found_still name fresh [] seat place none = none
+found_still name fresh (set ∷ sets) seat place none = here (is_lt (tag_cmp set.map name)) (found_still name fresh sets seat place none)
+  where
+    first : (b : Bool) → cells_at (with_sets name fresh sets) seat place ≡ cells_at sets seat place
+        → cells_in (cond b (Some set) (find (is_of seat place) (with_sets name fresh sets))) ≡ cells_in (cond b (Some set) (find (is_of seat place) sets))
+    first true i = refl
+    first false i = i
+
+    here : (less : Bool) → cells_at (with_sets name fresh sets) seat place ≡ cells_at sets seat place
+        → cells_at (cond less (set ∷ with_sets name fresh sets) (fresh ++ set ∷ sets)) seat place ≡ cells_at (set ∷ sets) seat place
+    here true i = first (is_of seat place set) i
+    here false i = cells_at-append fresh (set ∷ sets) seat place ∙ ap (λ o. or_else o (cells_at (set ∷ sets) seat place)) none
 
 module _ (name : List ℕ) (size : Extent) where
   abbrev blank : ℕ → Exposure
@@ -61,19 +92,13 @@ module _ (name : List ℕ) (size : Extent) where
 
   adds_map : (fog : Fog) → AddsMap fog (with_map fog name size) name size
   adds_map fog = record {
-    blank = λ seat low high none.
-        cells_at-append fog.sets (blank_sets fog.players name size) seat name
-        ∙ ap (λ o. or_else o (cells_at (blank_sets fog.players name size) seat name)) none
-        ∙ of_players seat fog.players low high;
-    others = λ seat place differ.
-        cells_at-append fog.sets (blank_sets fog.players name size) seat place
-        ∙ ap (λ o. or_else (cells_at fog.sets seat place) o) (on_others seat place differ fog.players)
-        ∙ or_else-None (cells_at fog.sets seat place);
+    blank = λ seat low high none. found_fresh name (blank_sets fog.players name size) fog.sets seat name none ∙ of_players seat fog.players low high;
+    others = λ seat place differ. found_still name (blank_sets fog.players name size) fog.sets seat place (on_others seat place differ fog.players);
   }
 
-  pub adds_after : (fog : Fog) (players : ℕ) (before after fresh : List Exposure) → record { players = players; sets = before } ≡ fog → after ≡ before ++ fresh → fresh ≡ blank_sets players name size
+  pub adds_after : (fog : Fog) (players : ℕ) (before after : List Exposure) → record { players = players; sets = before } ≡ fog → after ≡ with_sets name (blank_sets players name size) before
       → AddsMap fog (record { players = players; sets = after }) name size
-  adds_after fog players before after fresh is to new =
+  adds_after fog players before after is to =
       subst (λ (f : Fog). AddsMap f (record { players = players; sets = after }) name size) is
-      (subst (λ (sets : List Exposure). AddsMap (record { players = players; sets = before }) (record { players = players; sets = sets }) name size) (sym (to ∙ ap (λ (sets : List Exposure). before ++ sets) new))
+      (subst (λ (sets : List Exposure). AddsMap (record { players = players; sets = before }) (record { players = players; sets = sets }) name size) (sym to)
       (adds_map (record { players = players; sets = before })))

@@ -1,6 +1,9 @@
 -- What is exposed to the players of a campaign.
-use Rattle.std.specs.Prelude.{◌≡◌, ◌≢◌, ◌≤◌, ◌⊎◌, ℕ, zero, suc, Bool, false, nat_eq, ◌&&◌, ◌||◌, cond, List, [], ◌∷◌, ◌++◌, Option, Some, None, option_map, find}
+use Rattle.std.specs.Prelude.{◌≡◌, ◌≢◌, ◌≤◌, ◌⊎◌, ℕ, zero, suc, Bool, false, not, nat_eq, ◌&&◌, ◌||◌, cond, if◌then◌else◌, List, [], ◌∷◌, ◌++◌, map, Option, Some, None, option_map, find}
+use Rattle.std.specs.List.{range_with_len}
+use Rattle.std.specs.Ordering.{is_lt}
 use Rattle.std.specs.Str.{bytes_eq}
+use Rattle.names.specs.Tag.{tag_cmp}
 use Rattle.cells.specs.Cells.{Extent, Cells, has, cells_where}
 use Rattle.fog_book.specs.declared.exposure.Exposure.{Exposure}
 
@@ -44,9 +47,29 @@ abbrev pub blank_sets : ℕ → List ℕ → Extent → List Exposure
 blank_sets zero name size = []
 blank_sets (suc n) name size = blank_sets n name size ++ record { seat = suc n; map = name; cells = cells_where size (λ x y. false) } ∷ []
 
+-- the set is of a map of that name or a greater one
+abbrev pub is_behind : List ℕ → Exposure → Bool
+is_behind name set = not (is_lt (tag_cmp set.map name))
+
+-- with the sets of a new map, before those of the first map of a greater name
+abbrev pub with_sets : List ℕ → List Exposure → List Exposure → List Exposure
+with_sets name fresh [] = fresh
+with_sets name fresh (set ∷ sets) = if is_lt (tag_cmp set.map name) then set ∷ with_sets name fresh sets else fresh ++ set ∷ sets
+
 -- the fog with one map more, of which nothing is exposed
 abbrev pub with_map : Fog → List ℕ → Extent → Fog
-with_map fog name size = record { players = fog.players; sets = fog.sets ++ blank_sets fog.players name size }
+with_map fog name size = record { players = fog.players; sets = with_sets name (blank_sets fog.players name size) fog.sets }
+
+-- whose set it is, and of which map
+abbrev pub key_of : Exposure → ℕ × List ℕ
+key_of set = (set.seat, set.map)
+
+abbrev pub key : List ℕ → ℕ → ℕ × List ℕ
+key name seat = (seat, name)
+
+-- the keys of the sets of one map, seat by seat: players have the seats from 1 on
+abbrev pub keys_on : ℕ → List ℕ → List (ℕ × List ℕ)
+keys_on players name = map (key name) (range_with_len 1 players)
 
 -- nothing of the new map is exposed to any player, and the sets on all other maps stay
 pub record AddsMap (old new : Fog) (name : List ℕ) (size : Extent) : Type 0 where

@@ -1,11 +1,8 @@
 -- Rectangles of cells.
-use Rattle.std.specs.Prelude.{ℕ, ◌+◌, Bool, nat_le, nat_lt, nat_eq, ◌&&◌, ◌||◌, cond}
+use Rattle.std.specs.Prelude.{ℕ, Bool, nat_lt, nat_eq, ◌&&◌, ◌||◌, cond}
 use Rattle.cells.specs.declared.cell.Rect.{Rect}
 use Rattle.cells.specs.Cells.{Extent, Cells, has, cells_where}
-
--- the cell (x, y) is in the rectangle
-abbrev pub is_in : Rect → ℕ → ℕ → Bool
-is_in rect x y = nat_le rect.x x && nat_lt x (rect.x + rect.w) && nat_le rect.y y && nat_lt y (rect.y + rect.h)
+use Rattle.cells.specs.Rects.{is_in}
 
 -- the set with the rectangle's cells, or without them
 abbrev pub with_rect : Cells → Rect → Bool → Cells

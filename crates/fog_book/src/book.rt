@@ -1,11 +1,11 @@
 //! The fog of war of a campaign.
-ghost use Rattle.std.specs.Prelude.{◌≡◌, ◌≤◌, [], ◌∷◌, ◌++◌, Some, true, false, IsSome, IfOk, OnOk, OnErr};
+ghost use Rattle.std.specs.Prelude.{◌≡◌, ◌≤◌, [], ◌∷◌, ◌++◌, Some, true, false, length, take, drop, IsSome, IfOk, OnOk, OnErr};
 ghost use Rattle.std.specs.Option.{ForSome};
 ghost use Rattle.std.specs.List.{AllZip};
-ghost use Rattle.fog_book.specs.Exposures.{joined, blank_sets, with_each_seen, HaveOneSize};
+ghost use Rattle.fog_book.specs.Exposures.{joined, blank_sets, with_each_seen, with_seen, HaveOneSize};
 ghost use Rattle.fog_book.specs.Rects.{with_rect};
 
-use crate::exposure::{Exposure, join_with, place_of, set_rect_of};
+use crate::exposure::{Exposure, join_with, place_for, place_of, set_rect_of};
 use cells::{CellSet, Rect, Size};
 use names::{Memory, SeatNo, Tag};
 use std::alloc::Global;
@@ -56,7 +56,8 @@ impl FogBook {
         })
     }
 
-    /// Adds a map of that size, which isn't there. Nothing of it is exposed, and all sets of other maps stay.
+    /// Adds a map of that size, which isn't there. Nothing of it is exposed, and all sets of other maps stay. Its sets
+    /// stand seat by seat before those of the first map of a greater name.
     ///
     /// After `Memory` the book is as before.
     pub fn add_map(&mut self, map: Tag, size: Size) -> Result<(), Memory>
@@ -64,11 +65,9 @@ impl FogBook {
         ensures sets { OnOk result (AddsMap self.old self.new map size) }
         ensures unchanged { OnErr result (self.new ≡ self.old) }
     {
-        let mut fresh = blank_sets(*self.sets.allocator(), self.players, map, size)?;
-        match self.sets.append(&mut fresh) {
-            Ok(()) => Ok(()),
-            Err(_) => Err(Memory),
-        }
+        let fresh = blank_sets(*self.sets.allocator(), self.players, map, size)?;
+        let place = place_for(&self.sets, map);
+        insert_all(&mut self.sets, place, fresh)
     }
 
     /// Exposes the map's cells in the rectangle to the player. All other sets stay.
@@ -107,7 +106,7 @@ impl FogBook {
         self.players
     }
 
-    /// The sets, one for each player and map.
+    /// The sets, one for each player and map: map by map in byte order of the names, and of each map seat by seat.
     pub fn sets(&self) -> &[Exposure]
         ensures { result.now ≡ self.now.sets }
     {
@@ -138,8 +137,16 @@ fn join_all(sets: &mut Vec<Exposure>, seen: &[CellSet])
     ensures { sets.new.items ≡ with_each_seen sets.old.items seen.now }
 {
     for (place, cells) in seen.iter().enumerate() {
-        sets[place].cells.join_with(cells);
+        join_seen(&mut sets[place], cells);
     }
+}
+
+/// Adds to a set what is seen of its map by its player.
+fn join_seen(set: &mut Exposure, seen: &CellSet)
+    requires { HaveOneSize set.old seen.now }
+    ensures { set.new ≡ with_seen set.old seen.now }
+{
+    set.cells.join_with(seen);
 }
 
 fn copied(sets: &Vec<Exposure>) -> Result<Vec<Exposure>, Memory>
@@ -168,6 +175,26 @@ fn blank_sets(alloc: Global, players: u8, map: Tag, size: Size) -> Result<Vec<Ex
         push(&mut sets, Exposure { seat, map, cells })?;
     }
     Ok(sets)
+}
+
+/// Puts the fresh sets before the one at the place. After `Memory` the sets are as before.
+fn insert_all(
+    sets: &mut Vec<Exposure>,
+    place: usize,
+    mut fresh: Vec<Exposure>,
+) -> Result<(), Memory>
+    requires { place ≤ length sets.old.items }
+    ensures ok { OnOk result (sets.new.items ≡ take place sets.old.items ++ (fresh.items ++ drop place sets.old.items)) }
+    ensures unchanged { OnErr result (sets.new.items ≡ sets.old.items) }
+{
+    let behind = sets.len() - place;
+    match sets.append(&mut fresh) {
+        Ok(()) => {
+            sets[place..].rotate_left(behind);
+            Ok(())
+        }
+        Err(_) => Err(Memory),
+    }
 }
 
 fn push(sets: &mut Vec<Exposure>, set: Exposure) -> Result<(), Memory>

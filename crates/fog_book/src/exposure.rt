@@ -1,8 +1,8 @@
 //! The cells of one map that are exposed to one player, and where they stand among others.
-ghost use Rattle.std.specs.Prelude.{◌≡◌, ◌<◌, IsSome, length};
+ghost use Rattle.std.specs.Prelude.{◌≡◌, ◌<◌, ◌≤◌, IsSome, length};
 ghost use Rattle.std.specs.List.{position, position_or_len};
 ghost use Rattle.std.specs.Option.{ForSome};
-ghost use Rattle.fog_book.specs.Exposures.{cells_at, changed_at, is_of, joined};
+ghost use Rattle.fog_book.specs.Exposures.{cells_at, changed_at, is_behind, is_of, joined};
 ghost use Rattle.fog_book.specs.Rects.{with_rect};
 
 use crate::paint::set_rect;
@@ -40,6 +40,30 @@ fn found_place(sets: &[Exposure], seat: SeatNo, map: Tag) -> Option<usize>
     ensures { result ≡ position (is_of seat map) sets.now }
 {
     sets.iter().position(|set| is_of(set, seat, map))
+}
+
+/// Where the sets of a new map of that name stand: before those of the first map of a greater name.
+pub(crate) fn place_for(sets: &[Exposure], map: Tag) -> usize
+    ensures place { result ≡ position_or_len (is_behind map) sets.now }
+    ensures bound { result ≤ length sets.now }
+{
+    match first_behind(sets, map) {
+        Some(place) => place,
+        None => sets.len(),
+    }
+}
+
+fn first_behind(sets: &[Exposure], map: Tag) -> Option<usize>
+    ensures { result ≡ position (is_behind map) sets.now }
+{
+    sets.iter().position(|set| is_behind(set, map))
+}
+
+/// Whether the set is of a map of that name or a greater one.
+fn is_behind(set: &Exposure, map: Tag) -> bool
+    ensures { result ≡ is_behind map set.now }
+{
+    set.map >= map
 }
 
 /// Adds the rectangle to the player's set on the map, or takes it out.

@@ -2,7 +2,8 @@
 ghost use Rattle.std.specs.Prelude.{◌≡◌, ◌<◌, cond};
 ghost use Rattle.cells.specs.Cells.{cells_where, has};
 ghost use Rattle.cells.specs.Cell.{is_at};
-ghost use Rattle.fog_book.specs.Rects.{is_in, with_rect};
+ghost use Rattle.cells.specs.Rects.{is_in};
+ghost use Rattle.fog_book.specs.Rects.{with_rect};
 
 use cells::{Cell, CellSet, Rect};
 

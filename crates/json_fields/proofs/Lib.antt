@@ -2,3 +2,4 @@ pub mod Keys
 pub mod OneLine
 pub mod Printed
 pub mod Reading
+pub mod Rising

@@ -11,7 +11,7 @@ use Rattle.names.specs.declared.kinds.PropClass.{PropClass}
 use Rattle.names.specs.declared.kinds.WallKind.{WallKind}
 use Rattle.names.specs.declared.token_id.TokenId.{TokenId}
 use Rattle.serde_json.specs.Data.{Data, Items, Members, no_members, member}
-use Rattle.serde_json.specs.Find.{get, get_member, as_bool, as_str, as_object}
+use Rattle.serde_json.specs.Find.{get, get_member, as_bool, as_object}
 use Rattle.json_fields.specs.Kinds.{integer_from, whole_from, text_from, word_from, pair_from, rectangle_from, list_from, tag_from, id_from, mode_from, layer_from, wall_kind_from, class_from, or_null}
 
 -- the value at the key, of a kind; none where the key is missing, or its value is of another kind
@@ -26,10 +26,6 @@ whole_in key least most d = field_in (whole_from least most) key d
 
 abbrev pub text_in : List ℕ → ℕ → ℕ → Data → Option (List ℕ)
 text_in key least most d = field_in (text_from least most) key d
-
--- a text of any length
-abbrev pub string_in : List ℕ → Data → Option (List ℕ)
-string_in key d = field_in as_str key d
 
 abbrev pub boolean_in : List ℕ → Data → Option Bool
 boolean_in key d = field_in as_bool key d
@@ -82,14 +78,8 @@ kind_or default kind (Some value) = kind value
 abbrev pub field_or : {A : Type 0} → A → (Data → Option A) → List ℕ → Data → Option A
 field_or default kind key d = kind_or default kind (get key d)
 
-abbrev pub whole_or : List ℕ → ℕ → ℕ → ℕ → Data → Option ℕ
-whole_or key default least most d = field_or default (whole_from least most) key d
-
 abbrev pub layer_or : List ℕ → Layer → Data → Option Layer
 layer_or key default d = field_or default layer_from key d
-
-abbrev pub word_or : {A : Type 0} → List ℕ → A → List (List ℕ × A) → Data → Option A
-word_or key default rows d = field_or default (word_from rows) key d
 
 -- the first key that isn't known
 abbrev pub unknown_member : List (List ℕ) → Members → Option (List ℕ)
@@ -99,8 +89,10 @@ unknown_member known (member key value rest) = if list_any (λ name. bytes_eq na
 abbrev pub unknown_in : List (List ℕ) → Data → Option (List ℕ)
 unknown_in known d = option_and_then (unknown_member known) (as_object d)
 
--- no unknown key of the members comes before the key in the order of bytes
+-- the key is the least in the order of bytes of those that the members have and that aren't known
 pub record IsLeastUnknown (known : List (List ℕ)) (members : Members) (key : List ℕ) : Type 0 where
+  pub there : IsSome (get_member key members)
+  pub unknown : list_any (λ name. bytes_eq name key) known ≡ false
   pub least : (other : List ℕ) → IsSome (get_member other members) → list_any (λ name. bytes_eq name other) known ≡ false → slice_cmp nat_cmp other key ≢ Less
 
 -- the same of an object

@@ -3,3 +3,4 @@ pub mod Kinds
 pub mod Lines
 pub mod Objects
 pub mod Values
+pub mod Order

@@ -5,7 +5,7 @@ ghost use Rattle.std.specs.Prelude.{◌≡◌, ◌≤◌, ◌≤ℤ◌, map, opt
 ghost use Rattle.std.specs.List.{list_any};
 ghost use Rattle.std.specs.Str.{bytes_eq};
 ghost use Rattle.serde_json.specs.View.{view, items_view, members_view};
-ghost use Rattle.json_fields.specs.Fields.{integer_in, whole_in, text_in, string_in, boolean_in, word_in, pair_in, rectangle_in, list_in, text_or_null_in, tag_in, tag_or_null_in, id_in, mode_in, layer_in, wall_kind_in, class_in, layer_or as layer_or_default, whole_or, word_or as word_or_default, unknown_member, unknown_in, IsLeastUnknown, IsLeastUnknownIn};
+ghost use Rattle.json_fields.specs.Fields.{integer_in, whole_in, text_in, boolean_in, word_in, pair_in, rectangle_in, list_in, text_or_null_in, tag_in, tag_or_null_in, id_in, mode_in, layer_in, wall_kind_in, class_in, layer_or as layer_or_default, unknown_member, unknown_in, IsLeastUnknown, IsLeastUnknownIn};
 
 use crate::kinds;
 use names::{Layer, Mode, PropClass, Tag, TokenId, WallKind};
@@ -38,27 +38,11 @@ pub fn whole_u8(value: &Value, key: &str, least: u8, most: u8) -> Option<u8>
     kinds::whole_u8(value.get(key)?, least, most)
 }
 
-/// A whole number from `least` to `most`.
-pub fn whole_u16(value: &Value, key: &str, least: u16, most: u16) -> Option<u16>
-    ensures value { result ≡ whole_in key.now least most (view value.now) }
-    ensures least { IfSome result (λ n. least ≤ n) }
-    ensures most { IfSome result (λ n. n ≤ most) }
-{
-    kinds::whole_u16(value.get(key)?, least, most)
-}
-
 /// A text of `least` to `most` bytes of UTF-8.
 pub fn text<'v>(value: &'v Value, key: &str, least: usize, most: usize) -> Option<&'v str>
     ensures { option_map (λ s. s.now) result ≡ text_in key.now least most (view value.now) }
 {
     kinds::text(value.get(key)?, least, most)
-}
-
-/// A text of any length.
-pub fn string<'v>(value: &'v Value, key: &str) -> Option<&'v str>
-    ensures { option_map (λ s. s.now) result ≡ string_in key.now (view value.now) }
-{
-    value.get(key)?.as_str()
 }
 
 /// A tag.
@@ -166,33 +150,12 @@ pub fn text_or_null<'v>(
     kinds::text_or_null(value.get(key)?, least, most)
 }
 
-/// A whole number from `least` to `most`, or `default` where the key is missing.
-pub fn whole_u8_or(value: &Value, key: &str, default: u8, least: u8, most: u8) -> Option<u8>
-    ensures { result ≡ whole_or key.now default least most (view value.now) }
-{
-    match value.get(key) {
-        Some(field) => kinds::whole_u8(field, least, most),
-        None => Some(default),
-    }
-}
-
 /// The word of a layer, or `default` where the key is missing.
 pub fn layer_or(value: &Value, key: &str, default: Layer) -> Option<Layer>
     ensures { result ≡ layer_or_default key.now default (view value.now) }
 {
     match value.get(key) {
         Some(field) => kinds::layer(field),
-        None => Some(default),
-    }
-}
-
-/// A word of the table, or `default` where the key is missing.
-pub fn word_or<T: Copy>(value: &Value, key: &str, default: T, table: &[(&str, T)]) -> Option<T>
-    ensures { result ≡ word_or_default key.now default (map (λ row. (row.0.now, row.1)) table.now)
-        (view value.now) }
-{
-    match value.get(key) {
-        Some(field) => kinds::word(field, table),
         None => Some(default),
     }
 }

@@ -44,7 +44,7 @@ pub fn whole_u8(value: &Value, least: u8, most: u8) -> Option<u8>
 }
 
 /// A whole number from `least` to `most`.
-pub fn whole_u16(value: &Value, least: u16, most: u16) -> Option<u16>
+fn whole_u16(value: &Value, least: u16, most: u16) -> Option<u16>
     ensures value { result ≡ whole_from least most (view value.now) }
     ensures least { IfSome result (λ n. least ≤ n) }
     ensures most { IfSome result (λ n. n ≤ most) }
@@ -154,14 +154,14 @@ fn is_counted(items: &[Value], least: usize, most: usize) -> bool
 }
 
 /// Whether the value is a list of `count` items.
-pub fn has_items(value: &Value, count: usize) -> bool
+fn has_items(value: &Value, count: usize) -> bool
     ensures { result ≡ items_test count (view value.now) }
 {
     list(value, count, count).is_some()
 }
 
 /// The item of a list at `index`: an integer from `least` to `most`.
-pub fn integer_item(value: &Value, index: usize, least: i32, most: i32) -> Option<i32>
+fn integer_item(value: &Value, index: usize, least: i32, most: i32) -> Option<i32>
     ensures { result ≡ item_in (integer_from least most) index (view value.now) }
 {
     let number = integer(value.get(index)?, i64::from(least), i64::from(most))?;
@@ -169,7 +169,7 @@ pub fn integer_item(value: &Value, index: usize, least: i32, most: i32) -> Optio
 }
 
 /// The item of a list at `index`: a whole number from `least` to `most`.
-pub fn whole_item(value: &Value, index: usize, least: u16, most: u16) -> Option<u16>
+fn whole_item(value: &Value, index: usize, least: u16, most: u16) -> Option<u16>
     ensures { result ≡ item_in (whole_from least most) index (view value.now) }
 {
     whole_u16(value.get(index)?, least, most)

@@ -1,4 +1,5 @@
 use crate::{compact_line, fields, kinds, read_value};
+use names::Layer;
 use std::test::Fail;
 
 #[test]
@@ -43,8 +44,8 @@ fn takes_values_of_their_kind_alone(rt: HostRuntime) -> Result<(), Fail> {
 #[test]
 fn tells_a_missing_key_from_null(rt: HostRuntime) -> Result<(), Fail> {
     let value = read_value(rt.alloc(), b"{\"do\":1,\"size\":null,\"b\":2,\"a\":[3,-4]}")?;
-    assert_eq!(rt; fields::whole_u8_or(&value, "size", 1, 1, 4), None);
-    assert_eq!(rt; fields::whole_u8_or(&value, "layer", 1, 1, 4), Some(1));
+    assert_eq!(rt; fields::layer_or(&value, "size", Layer::Object), None);
+    assert_eq!(rt; fields::layer_or(&value, "layer", Layer::Object), Some(Layer::Object));
     assert_eq!(rt; fields::text_or_null(&value, "size", 0, 9), Some(None));
     assert_eq!(rt; fields::text_or_null(&value, "name", 0, 9), None);
     assert_eq!(rt; fields::pair(&value, "a", -4, 3), Some((3, -4)));

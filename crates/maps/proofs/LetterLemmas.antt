@@ -8,7 +8,9 @@ use Rattle.std.proofs.lemmas.List.FromFn.{get_or-map-range_with_len, length-map-
 use Rattle.std.proofs.lemmas.Nat.{div-add-mod', div-mul-add, mod-mul-add, mul-add-lt}
 use Rattle.cells.specs.Cells.{Extent}
 use Rattle.cells.specs.declared.cell.Rect.{Rect}
-use Rattle.maps.specs.Letters.{is_in, is_letter, letter_of, letters_where, with_rect}
+use Rattle.names.specs.Letters.{is_letter}
+use Rattle.cells.specs.Rects.{is_in}
+use Rattle.maps.specs.Letters.{letter_of, letters_where, with_rect}
 use Rattle.maps.specs.Maps.{Grid, IsMap, SetsLetters, with_letters}
 
 -- the letter of the cell (x, y), of letters that are told cell by cell

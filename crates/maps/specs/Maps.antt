@@ -14,7 +14,9 @@ use Rattle.cells.specs.declared.cell.Rect.{Rect}
 use Rattle.topology.specs.declared.wall.Wall.{Wall}
 use Rattle.topology.specs.Order.{wall_between}
 use Rattle.topology.specs.WallLists.{WallLists, walls_of, with_walls, with_wall, without_wall}
-use Rattle.maps.specs.Letters.{blank, is_in, is_letter, letter_of, with_rect}
+use Rattle.names.specs.Letters.{blank, is_letter}
+use Rattle.cells.specs.Rects.{is_in}
+use Rattle.maps.specs.Letters.{letter_of, with_rect}
 
 -- ---- one map
 

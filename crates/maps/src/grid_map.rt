@@ -4,7 +4,8 @@ ghost use Rattle.cells.specs.Cells.{IsSize};
 ghost use Rattle.topology.specs.Order.{wall_between};
 ghost use Rattle.topology.specs.WallFaults.{IsFaultOf, wall_fault};
 ghost use Rattle.topology.specs.WallLists.{has_wall, walls_of};
-ghost use Rattle.maps.specs.Letters.{IsOn, is_letter};
+ghost use Rattle.names.specs.Letters.{is_letter};
+ghost use Rattle.maps.specs.Letters.{IsOn};
 ghost use Rattle.maps.specs.Maps.{IsMap, letter_at, new_map, shown_if, with_letters, with_mode, with_wall_of, without_wall_of};
 
 use crate::letters::{blank_letters, set_letters};

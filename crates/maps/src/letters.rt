@@ -1,6 +1,8 @@
 //! The letters of the cells of a map.
 ghost use Rattle.std.specs.Prelude.{◌≡◌, ◌*◌, length, IfOk, replicate};
-ghost use Rattle.maps.specs.Letters.{blank, is_in, with_rect};
+ghost use Rattle.names.specs.Letters.{blank};
+ghost use Rattle.cells.specs.Rects.{is_in};
+ghost use Rattle.maps.specs.Letters.{with_rect};
 
 use cells::{Rect, Size};
 use names::Memory;

@@ -7,7 +7,8 @@ ghost use Rattle.names.specs.Tag.{tag_cmp};
 ghost use Rattle.topology.specs.Order.{wall_between};
 ghost use Rattle.topology.specs.WallFaults.{IsFaultOf, wall_fault};
 ghost use Rattle.topology.specs.WallLists.{has_wall, walls_of};
-ghost use Rattle.maps.specs.Letters.{IsOn, is_letter};
+ghost use Rattle.names.specs.Letters.{is_letter};
+ghost use Rattle.maps.specs.Letters.{IsOn};
 ghost use Rattle.maps.specs.Maps.{AddsMap, AreMaps, ChangesOnly, IsMap, SetsLetters, changed, has_map, has_name, is_behind, map_of, new_map, shown_if, with_letters, with_map, with_mode, with_wall_of, without_wall_of};
 ghost use Rattle.maps.specs.MapFaults.{IsMapFaultOf, map_fault};
 

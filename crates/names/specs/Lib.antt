@@ -1,3 +1,4 @@
 pub mod Tag
 pub mod TokenId
 pub mod Words
+pub mod Letters

@@ -6,6 +6,7 @@
 #![tactic(auto)]
 
 mod kinds;
+mod letters;
 mod memory;
 mod seat_no;
 mod tags;
@@ -13,6 +14,7 @@ mod texts;
 mod token_id;
 
 pub use kinds::{Layer, Mode, PropClass, WallKind};
+pub use letters::is_letter;
 pub use memory::Memory;
 pub use seat_no::SeatNo;
 pub use tags::{BadTag, Tag};

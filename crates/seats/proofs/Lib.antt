@@ -1,2 +1,3 @@
+pub mod Copies
 pub mod Books
 pub mod Tags

@@ -2,7 +2,13 @@
 use Rattle.std.specs.Prelude.{◌≡◌, ◌<◌, ◌≤◌, ◌^◌, ℕ, ◌+◌, ◌==◌, nat_le, Bool, true, not, List, [], ◌∷◌, ◌++◌, length, if◌then◌else◌, Option, Some, None}
 use Rattle.std.specs.List.{list_any, IsDistinct}
 use Rattle.std.specs.Str.{bytes_eq}
+use Rattle.std.specs.Map.{remove_entry}
+use Rattle.std.specs.BTreeMap.{is_at}
+use Rattle.names.specs.Tag.{tag_cmp}
+use Rattle.type_table.specs.Types.{type_of, with_type, lacks_room}
 use Rattle.seat_random.specs.Stream.{Stream}
+use Rattle.seats.specs.declared.book_fault.BookFault.{BookFault}
+use Rattle.seats.specs.declared.book_fault.BookFault.TheVariants.{MacroLimit, Memory}
 use Rattle.seats.specs.declared.seat_state.SeatState.{SeatState}
 use Rattle.seats.specs.declared.seat_state.SeatState.TheVariants.{Free, Joined}
 use Rattle.seats.specs.declared.seat_state.JoinRefusal.{JoinRefusal}
@@ -21,6 +27,8 @@ pub record Book : Type 0 where
   -- how many lines were counted
   pub lines : ℕ
   pub state : SeatState
+  -- the seat's macros: their names with their texts, in byte order of the names
+  pub macros : List (List ℕ × List ℕ)
 
 -- how many lines a seat has in one run
 abbrev pub line_limit : ℕ
@@ -43,7 +51,7 @@ pub record IsKept (seat : ℕ) (tags : List (List ℕ)) (lines : ℕ) (state : S
   pub in_tag_limit : length tags ≤ most_tags seat
 
 abbrev pub fresh_book : ℕ → List ℕ → List ℕ → ℕ → Book
-fresh_book seat key seed drawn = record { seat = seat; key = key; seed = seed; drawn = drawn; tags = []; lines = 0; state = Free }
+fresh_book seat key seed drawn = record { seat = seat; key = key; seed = seed; drawn = drawn; tags = []; lines = 0; state = Free; macros = [] }
 
 -- a book as it is when a campaign opens
 pub record IsFresh (b : Book) : Type 0 where
@@ -89,6 +97,29 @@ tags_spent seat tags = nat_le (most_tags seat) (length tags)
 -- the tag is the last that was used
 abbrev pub with_tag : Book → List ℕ → Book
 with_tag b tag = record b { tags = b.tags ++ tag ∷ [] }
+
+-- ---- macros
+
+-- the text of the macro with this name
+abbrev pub macro_of : List ℕ → List (List ℕ × List ℕ) → Option (List ℕ)
+macro_of name macros = type_of name macros
+
+-- the book with this text as the macro of that name: a name that is there takes it, and a new one goes to its place
+abbrev pub with_macro : List ℕ → List ℕ → Book → Book
+with_macro name text b = record b { macros = with_type name text b.macros }
+
+-- the book without the macro of that name
+abbrev pub without_macro : List ℕ → Book → Book
+without_macro name b = record b { macros = remove_entry (is_at (tag_cmp name)) b.macros }
+
+-- why a macro of that name can't be set: the name is new, and there are 32
+abbrev pub macro_fault : List (List ℕ × List ℕ) → List ℕ → Option BookFault
+macro_fault macros name = if lacks_room name macros then Some MacroLimit else None
+
+-- the fault is the broken check, or want of memory where none is broken
+abbrev pub IsBookFaultOf : Option BookFault → BookFault → Type 0
+IsBookFaultOf None fault = fault ≡ Memory
+IsBookFaultOf (Some broken) fault = fault ≡ broken
 
 -- ---- dice
 

@@ -1,5 +1,5 @@
 //! One seat's book.
-ghost use Rattle.std.specs.Prelude.{◌≡◌, ◌≢◌, ◌<◌, ◌≤◌, ◌↔◌, ◌^◌, true, false, length, slice_get, Some, Err, IfOk, OnOk, OnErr};
+ghost use Rattle.std.specs.Prelude.{◌≡◌, ◌≢◌, ◌<◌, ◌≤◌, ◌↔◌, ◌^◌, true, false, length, slice_get, option_map, is_some, Some, None, Err, IfOk, IfErr, OnOk, OnErr};
 ghost use Rattle.std.specs.Borrow.{sem};
 ghost use Rattle.std.specs.List.{IsDistinct};
 ghost use Rattle.std.specs.Result.{result_err};
@@ -7,9 +7,12 @@ ghost use Rattle.std.specs.Str.{bytes_eq};
 ghost use Rattle.seats.specs.declared.seat_state.JoinRefusal.TheVariants.{BadKey, NoHello, SeatTaken, Spent};
 ghost use Rattle.seats.specs.SeatState.{is_free, is_joined};
 ghost use Rattle.seats.specs.declared.tag_fault.TagFault.TheVariants.{TagUsed, TagsSpent};
-ghost use Rattle.seats.specs.Book.{counted, freed, fresh_book, join_refusal as join_refusal_lem, joined, left, line_limit, most_tags, stream_of, tag_used, tags_spent as tags_spent_lem, with_tag, IsFresh};
+ghost use Rattle.seats.specs.Book.{counted, freed, fresh_book, join_refusal as join_refusal_lem, joined, left, line_limit, macro_fault, macro_of, most_tags, stream_of, tag_used, tags_spent as tags_spent_lem, with_macro, with_tag, without_macro, IsBookFaultOf, IsFresh};
 ghost use Rattle.seats.specs.Lending.{LendsStream};
+ghost use Rattle.type_table.specs.Types.{AreTypes};
 
+use crate::book_fault::BookFault;
+use crate::macros::Macros;
 use crate::seat_state::{JoinRefusal, SeatState};
 use crate::tag_fault::TagFault;
 use names::{Memory, SeatNo, Tag, Text};
@@ -27,7 +30,7 @@ const GM_TAG_LIMIT: usize = 2048;
 const TAG_LIMIT: usize = 16;
 
 /// One seat's book: its number, its key, the stream of its dice (a 32-byte seed and how many of its
-/// words were drawn), the tags that it used, its count of lines in this run, and its state.
+/// words were drawn), the tags that it used, its count of lines in this run, its state, and its macros.
 #[derive(Drop)]
 pub struct SeatBook {
     alloc: Global,
@@ -37,6 +40,7 @@ pub struct SeatBook {
     tags: Vec<Tag>,
     lines: u32,
     state: SeatState,
+    macros: Macros,
 }
 
 impl Model for SeatBook {
@@ -44,13 +48,13 @@ impl Model for SeatBook {
 
     ghost Value = { Book };
 
-    ghost view = { λ b. record { seat = b.seat; key = b.key; seed = b.stream.seed; drawn = b.stream.drawn; tags = b.tags.items; lines = b.lines; state = b.state } };
+    ghost view = { λ b. record { seat = b.seat; key = b.key; seed = b.stream.seed; drawn = b.stream.drawn; tags = b.tags.items; lines = b.lines; state = b.state; macros = b.macros } };
 
     ghost invariant = { λ b. IsKept b.seat b.tags.items b.lines b.state };
 }
 
 impl SeatBook {
-    /// A Free seat's book with no tags and no lines. `drawn` is below 2^62.
+    /// A Free seat's book with no tags, no macros and no lines. `drawn` is below 2^62.
     pub fn new(alloc: Global, seat: SeatNo, key: Text, seed: [u8; 32], drawn: u64) -> SeatBook
         requires { drawn < 2 ^ 62 }
         ensures value { result ≡ fresh_book seat key seed drawn }
@@ -64,6 +68,7 @@ impl SeatBook {
             tags: Vec::new(alloc),
             lines: 0,
             state: SeatState::Free,
+            macros: Macros::new(alloc),
         }
     }
 
@@ -72,6 +77,7 @@ impl SeatBook {
         ensures { IfOk result (λ b. b ≡ self.now) }
     {
         let key = Text::copy(self.alloc, self.key.text())?;
+        let macros = self.macros.copy()?;
         let Ok(tags) = Vec::from_slice(self.alloc, self.tags.as_slice()) else {
             return Err(Memory);
         };
@@ -83,6 +89,7 @@ impl SeatBook {
             tags,
             lines: self.lines,
             state: self.state,
+            macros,
         })
     }
 
@@ -215,12 +222,7 @@ impl SeatBook {
     pub fn tags_spent(&self) -> bool
         ensures { result ≡ tags_spent_lem self.now.seat self.now.tags }
     {
-        let limit = if self.seat.number() == 0 {
-            GM_TAG_LIMIT
-        } else {
-            TAG_LIMIT
-        };
-        self.tags.len() >= limit
+        self.tags.len() >= most_tags(self.seat)
     }
 
     /// How many tags the seat used: at most 2,048 for seat 0, else 16. No tag is used twice.
@@ -240,6 +242,50 @@ impl SeatBook {
         self.tags[place]
     }
 
+    /// Sets the macro with this name, which is added where it is new. All else stays.
+    ///
+    /// `MacroLimit` exactly where the name is new and the seat has 32 macros. After a fault the book is as before.
+    pub fn set_macro(&mut self, name: Tag, text: Text) -> Result<(), BookFault>
+        ensures ok { OnOk result (self.new ≡ with_macro name text self.old) }
+        ensures room { OnOk result (macro_fault self.old.macros name ≡ None) }
+        ensures fault { IfErr result (IsBookFaultOf (macro_fault self.old.macros name)) }
+        ensures refused { OnErr result (self.new ≡ self.old) }
+    {
+        self.macros.set(name, text)
+    }
+
+    /// Removes the macro with this name; false exactly where there is none, and then the book is as before. All else
+    /// stays.
+    pub fn drop_macro(&mut self, name: Tag) -> bool
+        ensures there { result ≡ is_some (macro_of name self.old.macros) }
+        ensures value { self.new ≡ without_macro name self.old }
+    {
+        self.macros.remove(name)
+    }
+
+    /// The text of the macro with this name; `None` exactly where there is none.
+    pub fn macro_text(&self, name: Tag) -> Option<&Text>
+        ensures { option_map (λ text. text.now) result ≡ macro_of name self.now.macros }
+    {
+        self.macros.text(name)
+    }
+
+    /// How many macros the seat has, at most 32. Their names rise, so no name stands there twice.
+    pub fn macro_count(&self) -> usize
+        ensures value { result ≡ length self.now.macros }
+        ensures valid { AreTypes self.now.macros }
+    {
+        self.macros.len()
+    }
+
+    /// The macro at that place, by its name and its text. Macros stand in byte order of their names.
+    pub fn macro_at(&self, place: usize) -> (Tag, &Text)
+        requires { place < length self.now.macros }
+        ensures { slice_get self.now.macros place ≡ Some (result.0, result.1.now) }
+    {
+        self.macros.at(place)
+    }
+
     /// The seat's state. A Joined seat has lines left.
     pub fn state(&self) -> SeatState
         ensures value { result ≡ self.now.state }
@@ -256,5 +302,16 @@ impl SeatBook {
         ensures joined { is_joined self.now.state ≡ true → result < line_limit }
     {
         self.lines
+    }
+}
+
+/// How many tags the seat uses at most: 2,048 for seat 0, the game master's, and 16 for another.
+pub fn most_tags(seat: SeatNo) -> usize
+    ensures { result ≡ most_tags seat }
+{
+    if seat.number() == 0 {
+        GM_TAG_LIMIT
+    } else {
+        TAG_LIMIT
     }
 }

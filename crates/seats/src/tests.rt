@@ -1,7 +1,7 @@
 //! With ample memory a book is copied and tags are used, up to a player's sixteen; dice are drawn
-//! from the book's stream.
+//! from the book's stream; macros are set and dropped.
 
-use crate::{SeatBook, TagFault};
+use crate::{BookFault, SeatBook, TagFault};
 use names::{SeatNo, Tag, Text};
 use std::alloc::Global;
 use std::test::Fail;
@@ -46,6 +46,40 @@ fn a_player_uses_sixteen_tags(rt: HostRuntime) -> Result<(), Fail> {
         assert_eq!(rt; book.use_tag(tag_of(name)?), answer, "at {name}");
     }
     assert_eq!(rt; book.tag_count(), 16);
+    Ok(())
+}
+
+#[test]
+fn macros_are_set_and_dropped_in_order_of_their_names(rt: HostRuntime) -> Result<(), Fail> {
+    let mut book = book_of(rt.alloc())?;
+    for (name, text) in [("b", "two"), ("a", "one"), ("b", "2")] {
+        let text = Text::copy(rt.alloc(), text)?;
+        assert_eq!(rt; book.set_macro(tag_of(name)?, text), Ok(()), "at {name}");
+    }
+    let copy = book.copy()?;
+    assert_eq!(rt; copy.macro_count(), 2);
+    let (name, text) = copy.macro_at(1);
+    assert_eq!(rt; name, tag_of("b")?);
+    assert_eq!(rt; text.text(), "2");
+    assert!(rt; book.drop_macro(tag_of("a")?));
+    assert!(rt; !book.drop_macro(tag_of("a")?));
+    assert!(rt; book.macro_text(tag_of("a")?).is_none());
+    assert!(rt; copy.macro_text(tag_of("a")?).is_some());
+    Ok(())
+}
+
+#[test]
+fn a_seat_has_at_most_32_macros(rt: HostRuntime) -> Result<(), Fail> {
+    let mut book = book_of(rt.alloc())?;
+    for n in 0..32u8 {
+        let name = Tag::read(&[b'a' + n % 16, b'0' + n / 16])?;
+        let text = Text::copy(rt.alloc(), "")?;
+        assert_eq!(rt; book.set_macro(name, text), Ok(()), "at {n}");
+    }
+    for (name, answer) in [("fresh", Err(BookFault::MacroLimit)), ("a0", Ok(()))] {
+        let text = Text::copy(rt.alloc(), "")?;
+        assert_eq!(rt; book.set_macro(tag_of(name)?, text), answer, "at {name}");
+    }
     Ok(())
 }
 

@@ -1,7 +1,7 @@
 -- Sizes of maps, and what is exposed, after a map more and after a change of one set.
-use Rattle.std.proofs.Common.{◌≡◌, ◌≢◌, ℕ, zero, suc, ◌++◌, Bool, true, false, cond, List, [], ◌∷◌, Option, Some, None, refl, sym, ap, subst, inl, inr, ◌∙◌}
+use Rattle.std.proofs.Common.{◌≡◌, ◌≢◌, ℕ, zero, suc, ◌+◌, ◌++◌, Bool, true, false, cond, List, [], ◌∷◌, map, Option, Some, None, refl, sym, ap, subst, inl, inr, ◌∙◌}
 use Rattle.std.specs.Prelude.{◌⊎◌, option_map, nat_le}
-use Rattle.std.specs.List.{AllByRecursion}
+use Rattle.std.specs.List.{AllByRecursion, range_with_len}
 use Rattle.std.specs.Ordering.{is_lt}
 use Rattle.std.specs.Str.{bytes_eq}
 use Rattle.std.proofs.lemmas.Bool.{and_parts, cases_Bool, cases_eq, leb-true}
@@ -11,10 +11,11 @@ use Rattle.cells.specs.Cells.{Extent, Cells, IsToldByCells, cells_where}
 use Rattle.cells.proofs.SetLaws.{IsToldByCells-cells_where}
 use Rattle.fog_book.specs.declared.exposure.Exposure.{Exposure}
 use Rattle.fog_book.proofs.Joining.{kept_each}
-use Rattle.fog_book.specs.Exposures.{Fog, is_of, changed_at, blank_sets, with_each_seen, exposed_of, with_change, with_map as with_fog_of_map, AddsMap, ChangesOnly}
+use Rattle.fog_book.specs.Exposures.{Fog, is_of, changed_at, blank_sets, with_each_seen, exposed_of, with_change, with_map as with_fog_of_map, with_sets, key, key_of, keys_on, AddsMap, ChangesOnly}
 use Rattle.fog_book.proofs.Changes.{changes_only}
+use Rattle.fog_book.proofs.Order.{keys-blank_sets, keys-changed_at, keys-with_each_seen, keys-with_sets, with_keys}
 use Rattle.maps.specs.Maps.{Grid, changed, has_name, map_of, new_map, with_map}
-use Rattle.world.specs.Rules.{size_of, IsSetOf, IsSized, IsFogOf}
+use Rattle.world.specs.Rules.{size_of, keys_of, IsSetOf, IsSized, IsFogOf}
 
 -- ---- names
 
@@ -89,6 +90,48 @@ size_of-with_map m name (other ∷ maps) absent =
     by true next = behind (bytes_eq other.name name) (bytes_eq m.name name) refl refl next
     by false next = before (bytes_eq m.name name) (map_of name (other ∷ maps))
 
+-- ---- the order of sets
+
+-- a change of a map that keeps its name
+pub keys_of-changed : (f : Grid → Grid) → ((m : Grid) → (f m).name ≡ m.name) → (other : List ℕ) (players : ℕ) (maps : List Grid) → keys_of players (changed other f maps) ≡ keys_of players maps
+keys_of-changed f names other players [] = refl
+keys_of-changed f names other players (m ∷ maps) = by (has_name other m) (keys_of-changed f names other players maps)
+  where
+    by : (b : Bool) → keys_of players (changed other f maps) ≡ keys_of players maps → keys_of players (cond b (f m) m ∷ changed other f maps) ≡ keys_of players (m ∷ maps)
+    by true next = λ i. keys_on players (names m i) ++ next i
+    by false next = ap (λ l. keys_on players m.name ++ l) next
+
+-- keys of a map of a lesser name come first
+past_lesser : (name lesser : List ℕ) (fresh rest : List (ℕ × List ℕ)) (k n : ℕ) → is_lt (tag_cmp lesser name) ≡ true
+    → with_keys name fresh (map (key lesser) (range_with_len k n) ++ rest) ≡ map (key lesser) (range_with_len k n) ++ with_keys name fresh rest
+past_lesser name lesser fresh rest k zero less = refl
+past_lesser name lesser fresh rest k (suc n) less = rw less (ap (λ l. key lesser k ∷ l) (past_lesser name lesser fresh rest (k + 1) n less))
+
+no_players : (maps : List Grid) → keys_of 0 maps ≡ []
+no_players [] = refl
+no_players (m ∷ maps) = no_players maps
+
+append_nil : {A : Type 0} (xs : List A) → xs ++ [] ≡ xs
+append_nil [] = refl
+append_nil (x ∷ xs) = ap (λ l. x ∷ l) (append_nil xs)
+
+-- the sets of a new map stand among the others as the map among the maps
+keys_of-with_map : (players : ℕ) (m : Grid) (maps : List Grid) → keys_of players (with_map m maps) ≡ with_keys m.name (keys_on players m.name) (keys_of players maps)
+keys_of-with_map zero m maps = no_players (with_map m maps) ∙ sym (ap (with_keys m.name []) (no_players maps))
+keys_of-with_map (suc players) m [] = append_nil (keys_on (suc players) m.name)
+keys_of-with_map (suc players) m (other ∷ maps) = by (is_lt (tag_cmp other.name m.name)) refl (keys_of-with_map (suc players) m maps)
+  where
+    fresh : List (ℕ × List ℕ)
+    fresh = keys_on (suc players) m.name
+
+    by : (less : Bool) → is_lt (tag_cmp other.name m.name) ≡ less → keys_of (suc players) (with_map m maps) ≡ with_keys m.name fresh (keys_of (suc players) maps)
+        → keys_of (suc players) (cond less (other ∷ with_map m maps) (m ∷ other ∷ maps)) ≡ with_keys m.name fresh (keys_of (suc players) (other ∷ maps))
+    by true less rest =
+        ap (λ l. keys_on (suc players) other.name ++ l) rest
+        ∙ sym (past_lesser m.name other.name fresh (keys_of (suc players) maps) 1 (suc players) less)
+    by false more rest =
+        sym (ap (λ b. cond b (key other.name 1 ∷ with_keys m.name fresh (map (key other.name) (range_with_len (1 + 1) players) ++ keys_of (suc players) maps)) (fresh ++ keys_of (suc players) (other ∷ maps))) more)
+
 -- ---- one set changed
 
 -- a change of sets that keeps their sizes
@@ -134,6 +177,14 @@ sized_blank : (maps : List Grid) (players : ℕ) (name : List ℕ) (size : Exten
 sized_blank maps zero name size is = tt
 sized_blank maps (suc n) name size is = sized_append maps (blank_sets n name size) _ (sized_blank maps n name size is) (is, tt)
 
+sized_with : (maps : List Grid) (name : List ℕ) (fresh sets : List Exposure) → AllByRecursion (IsSized maps) fresh → AllByRecursion (IsSized maps) sets → AllByRecursion (IsSized maps) (with_sets name fresh sets)
+sized_with maps name fresh [] new h = new
+sized_with maps name fresh (set ∷ sets) new h = by (is_lt (tag_cmp set.map name)) (sized_with maps name fresh sets new h.1)
+  where
+    by : (less : Bool) → AllByRecursion (IsSized maps) (with_sets name fresh sets) → AllByRecursion (IsSized maps) (cond less (set ∷ with_sets name fresh sets) (fresh ++ set ∷ sets))
+    by true rest = (h.0, rest)
+    by false rest = sized_append maps fresh (set ∷ sets) new h
+
 -- by other maps that have the sizes of these
 pub sized_by : (maps others : List Grid) → ((name : List ℕ) (size : Extent) → size_of name maps ≡ Some size → size_of name others ≡ Some size) → (sets : List Exposure) → AllByRecursion (IsSized maps) sets → AllByRecursion (IsSized others) sets
 sized_by maps others same [] h = tt
@@ -145,6 +196,7 @@ IsFogOf-with_each_seen maps fog seen is = record {
   sets = λ name size seat there player. kept_each (IsSetOf size) (λ cells more h. (h.0, IsToldByCells-cells_where _ _)) fog.sets seen seat name (is.sets name size seat there player);
   no_others = λ name seat none. kept_each (λ set. set ≡ None) (λ cells more h. cc) fog.sets seen seat name (is.no_others name seat none);
   each = sized_each maps fog.sets seen is.each;
+  in_order = keys-with_each_seen fog.sets seen ∙ is.in_order;
 }
 
 pub IsFogOf-with_change : (maps : List Grid) (fog : Fog) (seat : ℕ) (name : List ℕ) (change : Cells → Cells) → KeepsSize change → IsFogOf maps fog → IsFogOf maps (with_change fog seat name change)
@@ -160,6 +212,7 @@ IsFogOf-with_change maps fog seat name change keeps is = record {
         | inr made ↦ made ∙ ap (option_map change) (is.no_others place other none)
       ];
   each = sized_changed maps (is_of seat name) change keeps fog.sets is.each;
+  in_order = keys-changed_at (is_of seat name) change fog.sets ∙ is.in_order;
 }
 
 -- ---- one map more
@@ -187,10 +240,15 @@ IsFogOf-with_map maps fog name size absent adds is = record {
     | inr differ ↦ adds.others seat place (λ e. differ (sym e)) ∙ is.no_others place seat (sym (unaffected place differ) ∙ none)
   ];
   each =
-      sized_append (with_map (new_map name size) maps) fog.sets (blank_sets fog.players name size)
-      (sized_by maps (with_map (new_map name size) maps) still fog.sets is.each)
+      sized_with (with_map (new_map name size) maps) name (blank_sets fog.players name size) fog.sets
       (sized_blank (with_map (new_map name size) maps) fog.players name size
-      (size_of-with_map (new_map name size) name maps absent ∙ ap (λ b. cond b (Some size) (size_of name maps)) ((bytes_eq-Decides name name).1 refl)));
+      (size_of-with_map (new_map name size) name maps absent ∙ ap (λ b. cond b (Some size) (size_of name maps)) ((bytes_eq-Decides name name).1 refl)))
+      (sized_by maps (with_map (new_map name size) maps) still fog.sets is.each);
+  in_order =
+      keys-with_sets name (blank_sets fog.players name size) fog.sets
+      ∙ ap (λ fresh. with_keys name fresh (map key_of fog.sets)) (keys-blank_sets fog.players name size)
+      ∙ ap (with_keys name (keys_on fog.players name)) is.in_order
+      ∙ sym (keys_of-with_map fog.players (new_map name size) maps);
 }
   where
     unaffected : (place : List ℕ) → name ≢ place → size_of place (with_map (new_map name size) maps) ≡ size_of place maps

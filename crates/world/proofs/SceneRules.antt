@@ -22,7 +22,8 @@ use Rattle.cells.specs.declared.cell.Rect.{Rect}
 use Rattle.cells.proofs.SetLaws.{IsToldByCells-cells_where}
 use Rattle.cells.specs.declared.cell.Cell.{Cell}
 use Rattle.fog_book.specs.Exposures.{Fog, exposed_of, joined, with_change, with_each_seen, with_map as with_fog_of_map, AddsMap}
-use Rattle.fog_book.specs.Rects.{is_in, with_rect}
+use Rattle.cells.specs.Rects.{is_in}
+use Rattle.fog_book.specs.Rects.{with_rect}
 use Rattle.maps.specs.Maps.{Grid, changed as changed_map, has_map, map_of, new_map, walled, with_map}
 use Rattle.sight_types.specs.declared.Sight.{Sight}
 use Rattle.tokens.specs.declared.token.Token.{Token}
@@ -30,9 +31,9 @@ use Rattle.tokens.specs.Tokens.{changed, in_order, on_layer, owned_by, placed, p
 use Rattle.topology.specs.declared.wall.Wall.{Wall}
 use Rattle.type_table.specs.Types.{type_of, with_type}
 use Rattle.world.specs.Scene.{Scene, bare}
-use Rattle.world.specs.Rules.{size_of, fits_on, is_known, is_player, are_players, belongs, IsSetOf, IsScene}
+use Rattle.world.specs.Rules.{size_of, keys_of, fits_on, is_known, is_player, are_players, belongs, IsSetOf, IsScene}
 use Rattle.world.proofs.TokenRules.{all_pass, all_put, all_without, all_changed, all_changed_at, players_with}
-use Rattle.world.proofs.FogRules.{KeepsSize, size_of-changed, size_of-with_map, sized_by, IsFogOf-with_change, IsFogOf-with_each_seen, IsFogOf-with_map}
+use Rattle.world.proofs.FogRules.{KeepsSize, keys_of-changed, size_of-changed, size_of-with_map, sized_by, IsFogOf-with_change, IsFogOf-with_each_seen, IsFogOf-with_map}
 
 -- ---- what a scene tells
 
@@ -53,7 +54,7 @@ exposed_there s name seat is there player = by (map_of name s.maps) refl there
 pub IsScene-bare : (players : ℕ) → IsScene (bare players)
 IsScene-bare players = record {
   tokens = refl;
-  fog = record { sets = λ name size seat there player. cc; no_others = λ name seat none. refl; each = tt };
+  fog = record { sets = λ name size seat there player. cc; no_others = λ name seat none. refl; each = tt; in_order = refl };
 }
 
 -- ---- tokens
@@ -129,21 +130,22 @@ IsScene-placed s id map cell ordered square is = record {
 
 -- ---- maps
 
--- where each map keeps its size
-pub IsScene-maps : (s : Scene) (maps : List Grid) → ((name : List ℕ) → size_of name maps ≡ size_of name s.maps) → IsScene s → IsScene (record s { maps = maps })
-IsScene-maps s maps same is = record {
+-- where each map keeps its name and its size
+pub IsScene-maps : (s : Scene) (maps : List Grid) → ((name : List ℕ) → size_of name maps ≡ size_of name s.maps) → keys_of s.fog.players maps ≡ keys_of s.fog.players s.maps → IsScene s → IsScene (record s { maps = maps })
+IsScene-maps s maps same keys is = record {
   tokens = all_pass (belongs s) (belongs (record s { maps = maps }))
       (λ t h. let ps = parts s t h in whole (record s { maps = maps }) t (ap (λ size. fits_on size t.cell t.size) (same t.map) ∙ ps.0) ps.1 ps.2 ps.3) s.tokens is.tokens;
   fog = record {
     sets = λ name size seat there player. is.fog.sets name size seat (sym (same name) ∙ there) player;
     no_others = λ name seat none. is.fog.no_others name seat (sym (same name) ∙ none);
     each = sized_by s.maps maps (λ name size there. same name ∙ there) s.fog.sets is.fog.each;
+    in_order = is.fog.in_order ∙ sym keys;
   };
 }
 
 -- one map changed
 pub IsScene-grid : (s : Scene) (f : Grid → Grid) → ((m : Grid) → (f m).name ≡ m.name) → ((m : Grid) → (f m).walls.extent ≡ m.walls.extent) → (name : List ℕ) → IsScene s → IsScene (record s { maps = changed_map name f s.maps })
-IsScene-grid s f names sizes name is = IsScene-maps s (changed_map name f s.maps) (λ other. size_of-changed f names sizes name other s.maps) is
+IsScene-grid s f names sizes name is = IsScene-maps s (changed_map name f s.maps) (λ other. size_of-changed f names sizes name other s.maps) (keys_of-changed f names name s.fog.players s.maps) is
 
 -- other walls are on a map of the same size
 pub walls_keep_size : (kind : WallKind) (f : List Wall → List Wall) (m : Grid) → (walled kind f m).walls.extent ≡ m.walls.extent

@@ -118,3 +118,10 @@ players_with players owners seat on player h =
       | inl e ↦ subst (λ j. is_player players j ≡ true) (sym e) player
       | inr ne ↦ had (sym (has_with owners seat k on (omega arith) ∙ ap (λ b. cond b on (has_owner owners k)) (ne_eqb k seat ne)) ∙ has)
     ]
+
+-- ---- owners
+
+-- none are players
+pub no_players : (players : ℕ) → are_players players 0 ≡ true
+unfolding are_players
+no_players players = refl

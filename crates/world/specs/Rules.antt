@@ -1,10 +1,10 @@
 -- What fits together in a scene.
-use Rattle.std.specs.Prelude.{◌≡◌, ℕ, ◌+◌, ◌&&◌, Bool, IsTrue, true, false, nat_le, List, Option, Some, None, option_map, is_some}
-use Rattle.std.specs.List.{list_all, AllByRecursion}
+use Rattle.std.specs.Prelude.{◌≡◌, ℕ, ◌+◌, ◌&&◌, Bool, IsTrue, true, false, nat_le, List, map, Option, Some, None, option_map, is_some}
+use Rattle.std.specs.List.{list_all, flat_map, AllByRecursion}
 use Rattle.cells.specs.Cells.{Extent, Cells, IsToldByCells}
 use Rattle.cells.specs.declared.cell.Cell.{Cell}
 use Rattle.fog_book.specs.declared.exposure.Exposure.{Exposure}
-use Rattle.fog_book.specs.Exposures.{Fog, exposed_of}
+use Rattle.fog_book.specs.Exposures.{Fog, exposed_of, key_of, keys_on}
 use Rattle.maps.specs.Maps.{Grid, map_of}
 use Rattle.tokens.specs.declared.token.Token.{Token}
 use Rattle.tokens.specs.Owners.{seats_of}
@@ -52,11 +52,17 @@ IsSetOf size (Some cells) = (cells.extent ≡ size) × IsToldByCells cells
 abbrev pub IsSized : List Grid → Exposure → Type 0
 IsSized maps set = size_of set.map maps ≡ Some set.cells.extent
 
+-- the keys of the players' sets on the maps
+abbrev pub keys_of : ℕ → List Grid → List (ℕ × List ℕ)
+keys_of players maps = flat_map (λ m. keys_on players m.name) maps
+
 -- each player has a set of each map's size, no seat a set of another map, and no set another size
 pub record IsFogOf (maps : List Grid) (fog : Fog) : Type 0 where
   pub sets : (name : List ℕ) (size : Extent) (seat : ℕ) → size_of name maps ≡ Some size → IsTrue (is_player fog.players seat) → IsSetOf size (exposed_of fog seat name)
   pub no_others : (name : List ℕ) (seat : ℕ) → size_of name maps ≡ None → exposed_of fog seat name ≡ None
   pub each : AllByRecursion (IsSized maps) fog.sets
+  -- the sets lie map by map, and on each map seat by seat
+  pub in_order : map key_of fog.sets ≡ keys_of fog.players maps
 
 -- what holds of every scene between two calls
 pub record IsScene (s : Scene) : Type 0 where

@@ -10,4 +10,6 @@ pub use scene::Scene;
 pub use world::World;
 
 #[cfg(test)]
+mod scene_tests;
+#[cfg(test)]
 mod tests;

@@ -1,14 +1,15 @@
 //! All of a campaign.
-ghost use Rattle.std.specs.Prelude.{◌≡◌, ◌<◌, ◌≤◌, ◌+◌, ◌↔◌, ◌++◌, ◌∷◌, [], IsTrue, true, false, length, slice_get, Err, None, Some, IfOk, IfErr, IfSome, OnOk, OnErr, IsErr};
+ghost use Rattle.std.specs.Prelude.{◌≡◌, ◌<◌, ◌≤◌, ◌+◌, ◌↔◌, ◌++◌, ◌∷◌, [], IsTrue, true, false, length, slice_get, is_some, Err, None, Some, IfOk, IfErr, IfSome, OnOk, OnErr, IsErr};
 ghost use Rattle.std.specs.Borrow.{sem};
 ghost use Rattle.std.specs.Result.{result_err};
 ghost use Rattle.fog_book.specs.Exposures.{AddsMap, ChangesOnly, joined as cells_joined, with_change};
 ghost use Rattle.fog_book.specs.Rects.{with_rect};
 ghost use Rattle.lights.specs.Lights.{IsFaultOf as IsLightFaultOf, light_fault};
-ghost use Rattle.maps.specs.Letters.{IsOn, is_letter};
+ghost use Rattle.names.specs.Letters.{is_letter};
+ghost use Rattle.maps.specs.Letters.{IsOn};
 ghost use Rattle.maps.specs.Maps.{has_map, map_of, shown_if as map_shown_if, with_letters, with_mode, with_wall_of, without_wall_of};
 ghost use Rattle.maps.specs.MapFaults.{IsMapFaultOf, map_fault};
-ghost use Rattle.seats.specs.Book.{counted, freed, join_refusal, joined, left, stream_of, tag_used, tags_spent, with_tag};
+ghost use Rattle.seats.specs.Book.{counted, freed, join_refusal, joined, left, macro_fault, macro_of, stream_of, tag_used, tags_spent, with_macro, with_tag, without_macro, IsBookFaultOf};
 ghost use Rattle.seats.specs.declared.tag_fault.TagFault.TheVariants.{TagUsed, TagsSpent};
 ghost use Rattle.sight_types.specs.Sights.{IsFaultOf as IsSightFaultOf, sight_fault};
 ghost use Rattle.tokens.specs.Properties.{is_full_for, value_limit};
@@ -31,7 +32,7 @@ use lights::{LightFault, LightTable};
 use maps::{MapFault, MapTable};
 use names::{Layer, Memory, Mode, PropClass, SeatNo, Tag, Text, TokenId, WallKind};
 use seat_random::SeatStream;
-use seats::{JoinRefusal, SeatBook, TagFault};
+use seats::{BookFault, JoinRefusal, SeatBook, TagFault};
 use sight_types::{SightFault, SightTable};
 use std::alloc::Global;
 use std::marker::Model;
@@ -468,6 +469,29 @@ impl World {
         ensures refused { OnErr result (self.new ≡ self.old) }
     {
         self.seats[seat.number() as usize].use_tag(tag)
+    }
+
+    /// Sets the macro of that name of a seat, which is in the world. All else stays.
+    ///
+    /// `MacroLimit` exactly where the name is new and the seat has 32 macros. After a fault the world is as before.
+    pub fn set_macro(&mut self, seat: SeatNo, name: Tag, text: Text) -> Result<(), BookFault>
+        requires { seat < length self.old.books }
+        ensures ok { OnOk result (self.new ≡ with_book seat (with_macro name text) self.old) }
+        ensures room { IfSome (slice_get self.old.books seat) (λ book. OnOk result (macro_fault book.macros name ≡ None)) }
+        ensures fault { IfSome (slice_get self.old.books seat) (λ book. IfErr result (IsBookFaultOf (macro_fault book.macros name))) }
+        ensures refused { OnErr result (self.new ≡ self.old) }
+    {
+        self.seats[seat.number() as usize].set_macro(name, text)
+    }
+
+    /// Removes the macro of that name of a seat, which is in the world; false exactly where there is none, and then the
+    /// world is as before. All else stays.
+    pub fn drop_macro(&mut self, seat: SeatNo, name: Tag) -> bool
+        requires { seat < length self.old.books }
+        ensures there { IfSome (slice_get self.old.books seat) (λ book. result ≡ is_some (macro_of name book.macros)) }
+        ensures value { self.new ≡ with_book seat (without_macro name) self.old }
+    {
+        self.seats[seat.number() as usize].drop_macro(name)
     }
 }
 

@@ -1,5 +1,5 @@
 use Rattle.std.proofs.Common.{get_or, refl, ap, ◌∙◌, arith}
-use Rattle.maps.specs.Letters.{is_letter}
+use Rattle.names.specs.Letters.{is_letter}
 use Rattle.campaign_scene.proofs.Maps.{there, on_map, good_at, laid_more, laid_all}
 use Rattle.campaign_scene.proofs.map.with_letters.Goals as goal
 

@@ -1,5 +1,5 @@
 use Rattle.std.proofs.Common.{◌≡◌, ℕ, true, sym, ◌∙◌}
-use Rattle.campaign_scene.proofs.Tokens.{no_players}
+use Rattle.world.proofs.TokenRules.{no_players}
 use Rattle.world.specs.Rules.{are_players}
 use Rattle.campaign_scene.specs.Tokens.{owner}
 use Rattle.campaign_json.proofs.Each.{read_more}

@@ -1,6 +1,7 @@
 use Rattle.std.proofs.Common.{◌≡◌, ap, arith, sym, cond, ◌∙◌}
 use Rattle.cells.specs.Cells.{Extent, cells_where, has}
-use Rattle.fog_book.specs.Rects.{is_in, told_before}
+use Rattle.cells.specs.Rects.{is_in}
+use Rattle.fog_book.specs.Rects.{told_before}
 use Rattle.fog_book.proofs.Painting.{told_before_row, told_before_all, told_before_past, told_before_more}
 use Rattle.fog_book.proofs.paint.set_rect.Goals as goal
 use Rattle.fog_book.proofs.paint.set_rect.Goals.{then-is_in, else-is_in}

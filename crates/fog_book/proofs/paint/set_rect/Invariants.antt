@@ -1,6 +1,7 @@
 use Rattle.std.proofs.Common.{◌≡◌}
 use Rattle.cells.specs.Cells.{has}
-use Rattle.fog_book.specs.Rects.{is_in, told_before}
+use Rattle.cells.specs.Rects.{is_in}
+use Rattle.fog_book.specs.Rects.{told_before}
 use Rattle.fog_book.proofs.paint.set_rect.Given as goal
 
 abbrev pub invariant-loop-y : goal.invariant-loop-y
