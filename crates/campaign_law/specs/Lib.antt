@@ -1,6 +1,7 @@
 pub mod Texts
 pub mod Views
 pub mod Seat
+pub mod Macros
 pub mod Outcome
 pub mod World
 pub mod Session

@@ -7,3 +7,4 @@ pub mod Fields
 pub mod Walk
 pub mod Told
 pub mod Laws
+pub mod Readables
