@@ -4,16 +4,13 @@ use Rattle.names.specs.declared.token_id.TokenId.{TokenId}
 use Rattle.names.specs.TokenId.{id_eq}
 use Rattle.names.specs.declared.kinds.PropClass.{PropClass}
 use Rattle.seat_random.specs.Stream.{Stream, after}
-use Rattle.seats.specs.declared.book_fault.BookFault.{BookFault}
-use Rattle.seats.specs.declared.book_fault.BookFault.TheVariants as book_faults
-use Rattle.seats.specs.Book.{Book, stream_of, with_stream, macro_of, with_macro, without_macro, macro_fault}
+use Rattle.seats.specs.Book.{Book, stream_of, with_stream, macro_of, with_macro, without_macro}
 use Rattle.tokens.specs.Properties.{Property, with_value}
 use Rattle.chat.specs.declared.to.To.{To}
 use Rattle.chat.specs.declared.to.To.TheVariants.{Seat}
 use Rattle.chat.specs.Messages.{message_line}
 use Rattle.macro_grammar.specs.Tree.{Piece}
 use Rattle.macro_parse.specs.declared.texts.MacroParseFault.{MacroParseFault}
-use Rattle.macro_parse.specs.declared.texts.MacroParseFault.TheVariants as parse_faults
 use Rattle.macro_parse.specs.Answers.{macro_of as pieces_of_text}
 use Rattle.readable.specs.Table.{class_eq}
 use Rattle.macro_eval.specs.declared.intent.Intent.{Intent}
@@ -24,8 +21,9 @@ use Rattle.player_view.specs.Asked.{Asked, Mine}
 use Rattle.command_json.specs.declared.command.Command.{Command}
 use Rattle.command_json.specs.declared.command.Command.TheVariants.{Macro, Setmacro}
 use Rattle.command_rules.specs.declared.refusal.Refusal.{Refusal}
-use Rattle.command_rules.specs.declared.refusal.Refusal.TheVariants.{NoSuchMacro, MacroLimit, DiceLimit, MacroSyntax, MacroBudget, MacroFault, Overflow}
-use Rattle.command_rules.specs.GmRules.{then_rule, unless, room_rule}
+use Rattle.command_rules.specs.declared.refusal.Refusal.TheVariants.{NoSuchMacro, MacroBudget, MacroFault, Overflow}
+use Rattle.command_rules.specs.GmRules.{then_rule, room_rule}
+use Rattle.command_rules.specs.MacroRules.{Macros, new_text_rule}
 use Rattle.command_rules.specs.Rules.{props_by}
 
 -- a line to the seats that an address reaches
@@ -46,10 +44,6 @@ call_in c = None
 
 -- ---- a seat's macros
 
--- their names with their texts
-abbrev pub Macros : Type 0
-Macros = List (List ℕ × List ℕ)
-
 -- a text that a seat's macro is to have; none, where the macro is to go
 pub record NewText : Type 0 where
   pub name : List ℕ
@@ -59,29 +53,10 @@ abbrev pub new_text_in : Command → Option NewText
 new_text_in (Setmacro name text) = Some (record { name = name; text = text })
 new_text_in c = None
 
--- want of memory is no answer of reading
-abbrev pub spelling_refusal : MacroParseFault → Refusal
-spelling_refusal (parse_faults.MacroSyntax at) = MacroSyntax at
-spelling_refusal parse_faults.DiceLimit = DiceLimit
-spelling_refusal parse_faults.Memory = DiceLimit
-
-abbrev pub spelling_rule : Result (List Piece) MacroParseFault → Option Refusal
-spelling_rule (Ok pieces) = None
-spelling_rule (Err fault) = Some (spelling_refusal fault)
-
--- want of memory is no answer of the rule
-abbrev pub of_book_fault : BookFault → Refusal
-of_book_fault book_faults.MacroLimit = MacroLimit
-of_book_fault book_faults.Memory = MacroLimit
-
--- a macro that is to go has to be there; a text needs room for its name, and has to spell pieces with dice within their limits
-abbrev pub text_set_rule : Macros → List ℕ → Option (List ℕ) → Option Refusal
-text_set_rule macros name None = unless (is_some (macro_of name macros)) NoSuchMacro
-text_set_rule macros name (Some text) = then_rule (option_map of_book_fault (macro_fault macros name)) (spelling_rule (pieces_of_text text))
-
-abbrev pub new_text_rule : Macros → Option NewText → Option Refusal
-new_text_rule macros None = None
-new_text_rule macros (Some new) = text_set_rule macros new.name new.text
+-- the rule of the text that a command sets
+abbrev pub setting_rule : Macros → Option NewText → Option Refusal
+setting_rule macros None = None
+setting_rule macros (Some new) = new_text_rule macros new.name new.text
 
 abbrev pub with_text : List ℕ → Option (List ℕ) → Book → Book
 with_text name None b = without_macro name b

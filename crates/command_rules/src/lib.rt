@@ -2,10 +2,12 @@
 #![tactic(auto)]
 
 mod gm_rules;
+mod macro_rules;
 mod places;
 mod refusal;
 mod rules;
 
+pub use macro_rules::new_text_rule;
 pub use places::{cell_at, coordinate, point_at, rect_at};
 pub use refusal::Refusal;
 pub use rules::rule_of;

@@ -6,5 +6,5 @@ pub mod SightLemmas
 pub mod ViewLemmas
 pub mod KeepLemmas
 pub mod ToldLemmas
-pub mod Readables
+pub mod ReadTables
 pub mod ReadAlike

@@ -22,7 +22,7 @@ fn put_prop(
 }
 
 /// Puts the properties of a class of a token.
-#[tactic(auto, using(crate::proofs::Readables::props_next))]
+#[tactic(auto, using(crate::proofs::ReadTables::props_next))]
 fn put_props(
     table: &mut Readable,
     id: &TokenId,
@@ -65,7 +65,7 @@ fn put_mine(table: &mut Readable, token: &TokenView) -> Result<(), Memory>
 }
 
 /// Puts what can be read of a token.
-#[tactic(auto, using(crate::proofs::Readables::token_put))]
+#[tactic(auto, using(crate::proofs::ReadTables::token_put))]
 fn put_token(table: &mut Readable, token: &TokenView) -> Result<(), Memory>
     ensures { OnOk result (table.new ≡ with_token token.now table.old) }
 {
@@ -76,7 +76,7 @@ fn put_token(table: &mut Readable, token: &TokenView) -> Result<(), Memory>
 }
 
 /// What the macros of a seat that is shown this view can read, and the tokens that they may change.
-#[tactic(auto, using(crate::proofs::Readables::token_next))]
+#[tactic(auto, using(crate::proofs::ReadTables::token_next))]
 pub fn readable_in(alloc: Global, view: &View, seats: u8) -> Result<Readable, Memory>
     ensures value { IfOk result (λ table. table ≡ readable_by_view seats view.now) }
 {
