@@ -1,5 +1,5 @@
 -- The commands that every seat may give: for each its fields, in their order.
-use Rattle.std.specs.Prelude.{[], ◌∷◌, Result, codes}
+use Rattle.std.specs.Prelude.{Result, codes}
 use Rattle.serde_json.specs.Data.{Data}
 use Rattle.json_fields.specs.Kinds.{whole_from, text_from, tag_from, id_from, class_from, or_null}
 use Rattle.json_fields.specs.Objects.{◌>>=◌}
@@ -9,37 +9,38 @@ use Rattle.command_json.specs.declared.command.Command.TheVariants as C
 use Rattle.command_json.specs.declared.command.LineFault.{LineFault}
 use Rattle.command_json.specs.declared.verbs.Verb.{Verb}
 use Rattle.command_json.specs.declared.verbs.Verb.TheVariants as V
+use Rattle.command_json.specs.Verbs.{keys_of}
 use Rattle.command_json.specs.Fields.{field, field_else, place_from, path_from, to_from, only}
 
 unfoldable pub hello_in : Data → Result Command LineFault
 hello_in d = do
   seat ← field (codes "seat") (whole_from 0 32) d
   key ← field (codes "key") (text_from 1 64) d
-  only (codes "seat" ∷ codes "key" ∷ []) d (C.Hello seat key)
+  only (keys_of V.Hello) d (C.Hello seat key)
 
 unfoldable pub bye_in : Data → Result Command LineFault
-bye_in d = only [] d C.Bye
+bye_in d = only (keys_of V.Bye) d C.Bye
 
 unfoldable pub look_in : Data → Result Command LineFault
-look_in d = only [] d C.Look
+look_in d = only (keys_of V.Look) d C.Look
 
 unfoldable pub say_in : Data → Result Command LineFault
 say_in d = do
   text ← field (codes "text") (text_from 1 1000) d
   to ← field_else All (codes "to") to_from d
-  only (codes "text" ∷ codes "to" ∷ []) d (C.Say text to)
+  only (keys_of V.Say) d (C.Say text to)
 
 unfoldable pub roll_in : Data → Result Command LineFault
 roll_in d = do
   dice ← field (codes "dice") (text_from 1 200) d
   to ← field_else All (codes "to") to_from d
-  only (codes "dice" ∷ codes "to" ∷ []) d (C.Roll dice to)
+  only (keys_of V.Roll) d (C.Roll dice to)
 
 unfoldable pub move_in : Data → Result Command LineFault
 move_in d = do
   token ← field (codes "token") id_from d
   path ← field (codes "path") path_from d
-  only (codes "token" ∷ codes "path" ∷ []) d (C.Move token path)
+  only (keys_of V.Move) d (C.Move token path)
 
 unfoldable pub setprop_in : Data → Result Command LineFault
 setprop_in d = do
@@ -47,13 +48,13 @@ setprop_in d = do
   class ← field (codes "class") class_from d
   name ← field (codes "name") tag_from d
   value ← field (codes "value") (text_from 0 200) d
-  only (codes "token" ∷ codes "class" ∷ codes "name" ∷ codes "value" ∷ []) d (C.Setprop token class name value)
+  only (keys_of V.Setprop) d (C.Setprop token class name value)
 
 unfoldable pub light_in : Data → Result Command LineFault
 light_in d = do
   token ← field (codes "token") id_from d
   light ← field (codes "light") (or_null tag_from) d
-  only (codes "token" ∷ codes "light" ∷ []) d (C.Light token light)
+  only (keys_of V.Light) d (C.Light token light)
 
 unfoldable pub make_in : Data → Result Command LineFault
 make_in d = do
@@ -61,12 +62,12 @@ make_in d = do
   map ← field (codes "map") tag_from d
   cell ← field (codes "cell") place_from d
   name ← field (codes "name") (text_from 1 40) d
-  only (codes "tag" ∷ codes "map" ∷ codes "cell" ∷ codes "name" ∷ []) d (C.Make tag map cell name)
+  only (keys_of V.Make) d (C.Make tag map cell name)
 
 unfoldable pub remove_in : Data → Result Command LineFault
 remove_in d = do
   token ← field (codes "token") id_from d
-  only (codes "token" ∷ []) d (C.Remove token)
+  only (keys_of V.Remove) d (C.Remove token)
 
 -- the fields of the command that the word names
 unfoldable pub fields_in : Data → Verb → Result Command LineFault

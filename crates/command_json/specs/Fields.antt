@@ -1,7 +1,7 @@
 -- The fields of a command, and the kinds of value that only commands have.
-use Rattle.std.specs.Prelude.{ℕ, ◌||◌, ◌==◌, ℤ, pos, negsuc, List, [], ◌∷◌, Option, Some, None, option_and_then, option_map, Result, if◌then◌else◌, codes}
-use Rattle.std.specs.Char.{is_ascii_lowercase}
+use Rattle.std.specs.Prelude.{ℕ, ℤ, pos, negsuc, List, [], ◌∷◌, Option, Some, None, option_and_then, option_map, Result, if◌then◌else◌, codes}
 use Rattle.std.specs.Option.{option_or, option_zip}
+use Rattle.names.specs.Letters.{is_letter}
 use Rattle.serde_json.specs.Data.{Data, Items, no_items, item}
 use Rattle.serde_json.specs.Find.{as_str}
 use Rattle.json_fields.specs.Fields.{field_in, field_or, unknown_in}
@@ -62,10 +62,10 @@ path_from d = option_and_then places_from (list_from 1 64 d)
 abbrev pub rect_from : Data → Option (ℤ × ℤ × ℤ × ℤ)
 rect_from d = option_map (λ r. (r.0.0, r.0.1, pos r.1.0, pos r.1.1)) (rectangle_from least_place most_place 1 96 d)
 
--- one letter a to z, or a dot (46)
+-- one letter of terrain
 abbrev pub letter_of : List ℕ → Option ℕ
 letter_of [] = None
-letter_of (letter ∷ []) = if is_ascii_lowercase letter || letter == 46 then Some letter else None
+letter_of (letter ∷ []) = if is_letter letter then Some letter else None
 letter_of (letter ∷ more ∷ rest) = None
 
 abbrev pub letter_from : Data → Option ℕ

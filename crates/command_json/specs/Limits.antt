@@ -1,7 +1,9 @@
 -- What the numbers and texts of a command keep to, by the table of commands.
-use Rattle.std.specs.Prelude.{◌≡◌, ◌≢◌, ◌≤◌, ℕ, ◌||◌, ◌==◌, true, length, ℤ, pos, negsuc, List}
-use Rattle.std.specs.Char.{is_ascii_lowercase}
+use Rattle.std.specs.Prelude.{◌≡◌, ◌≢◌, ◌≤◌, ◌≤ℤ◌, ℕ, true, length, ℤ, pos, negsuc, List}
+use Rattle.std.specs.List.{AllByRecursion}
+use Rattle.names.specs.Letters.{is_letter}
 use Rattle.names.specs.declared.kinds.PropClass.TheVariants.{Secret as SecretClass}
+use Rattle.command_json.specs.Fields.{least_place, most_place}
 use Rattle.command_json.specs.declared.command.Command.{Command}
 use Rattle.command_json.specs.declared.command.Command.TheVariants as C
 
@@ -19,27 +21,48 @@ IsNumber least most (negsuc n) = ⊥
 abbrev pub IsText : ℕ → ℕ → List ℕ → Type 0
 IsText least most text = IsWithin least most (length text)
 
--- width and height of a rectangle are 1 to 96
+-- x or y of a cell or a point
+pub record IsCoordinate (z : ℤ) : Type 0 where
+  pub at_least : least_place ≤ℤ z
+  pub at_most : z ≤ℤ most_place
+
+-- x and y of a cell or a point
+pub record IsPlace (place : ℤ × ℤ) : Type 0 where
+  pub x : IsCoordinate place.0
+  pub y : IsCoordinate place.1
+
+-- 1 to 64 cells
+pub record IsPath (path : List (ℤ × ℤ)) : Type 0 where
+  pub count : IsWithin 1 64 (length path)
+  pub cells : AllByRecursion IsPlace path
+
+-- x and y of a rectangle are those of a cell, and its width and height are 1 to 96
 pub record IsRect (rect : ℤ × ℤ × ℤ × ℤ) : Type 0 where
+  pub x : IsCoordinate rect.0
+  pub y : IsCoordinate rect.1
   pub w : IsNumber 1 96 rect.2
   pub h : IsNumber 1 96 rect.3
 
--- a letter a to z, or a dot (46)
+-- a letter of terrain
 abbrev pub IsLetter : ℕ → Type 0
-IsLetter letter = (is_ascii_lowercase letter || letter == 46) ≡ true
+IsLetter letter = is_letter letter ≡ true
 
 -- the command's numbers and texts are as the table of commands has them
 abbrev pub IsCommand : Command → Type 0
 IsCommand (C.Hello seat key) = IsText 1 64 key
 IsCommand (C.Say text to) = IsText 1 1000 text
 IsCommand (C.Roll dice to) = IsText 1 200 dice
+IsCommand (C.Move token path) = IsPath path
 IsCommand (C.Setprop token class name value) = (class ≢ SecretClass) × IsText 0 200 value
-IsCommand (C.Make tag map cell name) = IsText 1 40 name
+IsCommand (C.Make tag map cell name) = IsText 1 40 name × IsPlace cell
 IsCommand (C.Map name w h) = IsNumber 1 96 w × IsNumber 1 96 h
 IsCommand (C.Terrain map rect kind) = IsRect rect × IsLetter kind
+IsCommand (C.Wall map kind a b) = IsPlace a × IsPlace b
+IsCommand (C.Unwall map kind a b) = IsPlace a × IsPlace b
 IsCommand (C.Lighttype name radius) = IsNumber 0 1000 radius
 IsCommand (C.Sighttype name range night mult) = IsNumber 0 1000 range × IsNumber 0 1000 night × IsNumber 0 1000 mult
-IsCommand (C.Token tag map cell name size layer) = IsText 1 40 name × IsNumber 1 4 size
+IsCommand (C.Token tag map cell name size layer) = IsText 1 40 name × IsNumber 1 4 size × IsPlace cell
+IsCommand (C.Place token map cell) = IsPlace cell
 IsCommand (C.Secret token name value) = IsText 0 200 value
 IsCommand (C.Expose seat map rect) = IsRect rect
 IsCommand (C.Hide seat map rect) = IsRect rect

@@ -39,3 +39,36 @@ gm_verbs =
     (codes "secret", G.Secret) ∷
     (codes "expose", G.Expose) ∷
     (codes "hide", G.Hide) ∷ []
+
+-- ---- the keys of the fields that each command has, in their order
+
+abbrev pub keys_of : Verb → List (List ℕ)
+keys_of V.Hello = codes "seat" ∷ codes "key" ∷ []
+keys_of V.Bye = []
+keys_of V.Look = []
+keys_of V.Say = codes "text" ∷ codes "to" ∷ []
+keys_of V.Roll = codes "dice" ∷ codes "to" ∷ []
+keys_of V.Move = codes "token" ∷ codes "path" ∷ []
+keys_of V.Setprop = codes "token" ∷ codes "class" ∷ codes "name" ∷ codes "value" ∷ []
+keys_of V.Light = codes "token" ∷ codes "light" ∷ []
+keys_of V.Make = codes "tag" ∷ codes "map" ∷ codes "cell" ∷ codes "name" ∷ []
+keys_of V.Remove = codes "token" ∷ []
+
+abbrev pub gm_keys_of : GmVerb → List (List ℕ)
+gm_keys_of G.Map = codes "name" ∷ codes "w" ∷ codes "h" ∷ []
+gm_keys_of G.Mode = codes "map" ∷ codes "mode" ∷ []
+gm_keys_of G.Show = codes "map" ∷ codes "on" ∷ []
+gm_keys_of G.Terrain = codes "map" ∷ codes "rect" ∷ codes "kind" ∷ []
+gm_keys_of G.Wall = codes "map" ∷ codes "kind" ∷ codes "a" ∷ codes "b" ∷ []
+gm_keys_of G.Unwall = codes "map" ∷ codes "kind" ∷ codes "a" ∷ codes "b" ∷ []
+gm_keys_of G.Lighttype = codes "name" ∷ codes "radius" ∷ []
+gm_keys_of G.Sighttype = codes "name" ∷ codes "range" ∷ codes "night" ∷ codes "mult" ∷ []
+gm_keys_of G.Token = codes "tag" ∷ codes "map" ∷ codes "cell" ∷ codes "name" ∷ codes "size" ∷ codes "layer" ∷ []
+gm_keys_of G.Own = codes "token" ∷ codes "seat" ∷ codes "on" ∷ []
+gm_keys_of G.Layer = codes "token" ∷ codes "layer" ∷ []
+gm_keys_of G.Visible = codes "token" ∷ codes "on" ∷ []
+gm_keys_of G.Sight = codes "token" ∷ codes "sight" ∷ []
+gm_keys_of G.Place = codes "token" ∷ codes "map" ∷ codes "cell" ∷ []
+gm_keys_of G.Secret = codes "token" ∷ codes "name" ∷ codes "value" ∷ []
+gm_keys_of G.Expose = codes "seat" ∷ codes "map" ∷ codes "rect" ∷ []
+gm_keys_of G.Hide = codes "seat" ∷ codes "map" ∷ codes "rect" ∷ []

@@ -14,7 +14,7 @@ ghost use Rattle.command_json.specs.Fields.{field as field_lem, field_else, plac
 use crate::command::{CellPath, Command, LineFault};
 use chat::To;
 use json_fields::{fields, kinds};
-use names::{Layer, Memory, Mode, PropClass, SeatNo, Tag, Text, TokenId, WallKind};
+use names::{Layer, Memory, Mode, PropClass, SeatNo, Tag, Text, TokenId, WallKind, is_letter};
 use serde_json::Value;
 use std::alloc::Global;
 
@@ -224,7 +224,7 @@ fn letter_of(text: &[u8]) -> Option<u8>
     ensures { result ≡ letter_of_lem text.now }
 {
     match text {
-        [letter] if letter.is_ascii_lowercase() || *letter == b'.' => Some(*letter),
+        [letter] if is_letter(*letter) => Some(*letter),
         _ => None,
     }
 }

@@ -1,8 +1,8 @@
 //! From a line to its command.
-ghost use Rattle.std.specs.Prelude.{IfOk};
+ghost use Rattle.std.specs.Prelude.{IfErr, IfOk};
 ghost use Rattle.serde_json.specs.View.{view};
 ghost use Rattle.json_fields.specs.Objects.{Gives};
-ghost use Rattle.command_json.specs.Commands.{command_in, command_of};
+ghost use Rattle.command_json.specs.Commands.{command_in, command_of, NamesBadKey};
 ghost use Rattle.command_json.specs.Faults.{Fails};
 ghost use Rattle.command_json.specs.Limits.{IsCommand};
 
@@ -41,6 +41,7 @@ fn read_command(alloc: Global, value: &Value, gm: bool) -> Result<Command, LineF
 pub fn read_line(alloc: Global, line: &[u8], gm: bool) -> Result<Command, LineFault>
     ensures value { Gives Fails (λ c. c) result (command_of line.now gm) }
     ensures limits { IfOk result IsCommand }
+    ensures key { IfErr result (NamesBadKey line.now) }
 {
     read_known(alloc, line, gm)
 }
