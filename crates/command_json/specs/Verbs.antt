@@ -13,6 +13,8 @@ verbs =
     (codes "look", V.Look) ∷
     (codes "say", V.Say) ∷
     (codes "roll", V.Roll) ∷
+    (codes "macro", V.Macro) ∷
+    (codes "setmacro", V.Setmacro) ∷
     (codes "move", V.Move) ∷
     (codes "setprop", V.Setprop) ∷
     (codes "light", V.Light) ∷
@@ -38,7 +40,8 @@ gm_verbs =
     (codes "place", G.Place) ∷
     (codes "secret", G.Secret) ∷
     (codes "expose", G.Expose) ∷
-    (codes "hide", G.Hide) ∷ []
+    (codes "hide", G.Hide) ∷
+    (codes "dump", G.Dump) ∷ []
 
 -- ---- the keys of the fields that each command has, in their order
 
@@ -48,6 +51,8 @@ keys_of V.Bye = []
 keys_of V.Look = []
 keys_of V.Say = codes "text" ∷ codes "to" ∷ []
 keys_of V.Roll = codes "dice" ∷ codes "to" ∷ []
+keys_of V.Macro = codes "name" ∷ codes "args" ∷ codes "to" ∷ []
+keys_of V.Setmacro = codes "name" ∷ codes "text" ∷ []
 keys_of V.Move = codes "token" ∷ codes "path" ∷ []
 keys_of V.Setprop = codes "token" ∷ codes "class" ∷ codes "name" ∷ codes "value" ∷ []
 keys_of V.Light = codes "token" ∷ codes "light" ∷ []
@@ -72,3 +77,4 @@ gm_keys_of G.Place = codes "token" ∷ codes "map" ∷ codes "cell" ∷ []
 gm_keys_of G.Secret = codes "token" ∷ codes "name" ∷ codes "value" ∷ []
 gm_keys_of G.Expose = codes "seat" ∷ codes "map" ∷ codes "rect" ∷ []
 gm_keys_of G.Hide = codes "seat" ∷ codes "map" ∷ codes "rect" ∷ []
+gm_keys_of G.Dump = []

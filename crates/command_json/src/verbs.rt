@@ -15,6 +15,8 @@ pub(crate) enum Verb {
     Look,
     Say,
     Roll,
+    Macro,
+    Setmacro,
     Move,
     Setprop,
     Light,
@@ -42,6 +44,7 @@ pub(crate) enum GmVerb {
     Secret,
     Expose,
     Hide,
+    Dump,
 }
 
 pub(crate) fn read_verb(value: &Value) -> Option<Verb>
@@ -53,6 +56,8 @@ pub(crate) fn read_verb(value: &Value) -> Option<Verb>
         ("look", Verb::Look),
         ("say", Verb::Say),
         ("roll", Verb::Roll),
+        ("macro", Verb::Macro),
+        ("setmacro", Verb::Setmacro),
         ("move", Verb::Move),
         ("setprop", Verb::Setprop),
         ("light", Verb::Light),
@@ -83,6 +88,7 @@ pub(crate) fn read_gm_verb(value: &Value) -> Option<GmVerb>
         ("secret", GmVerb::Secret),
         ("expose", GmVerb::Expose),
         ("hide", GmVerb::Hide),
+        ("dump", GmVerb::Dump),
     ];
     word(value, "do", &table)
 }
