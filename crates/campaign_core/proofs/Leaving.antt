@@ -235,7 +235,7 @@ due_put f place k zero (y ∷ ys) post is at less =
     let here : k ≡ place = omega (arith, is) in
     let rest = due_same f place (suc k) ys (omega (arith, here)) in
     let head : due_of (at_place f place k y).seat.book.state ≡ due_of (f post).seat.book.state =
-      (λ j. due_of (cond ((ap (λ n. eqb n k) (sym here) ∙ eqb_same k) j) (f (same j)) (same j)).seat.book.state) in
+    (λ j. due_of (cond ((ap (λ n. eqb n k) (sym here) ∙ eqb_same k) j) (f (same j)) (same j)).seat.book.state) in
     let old : due_of y.seat.book.state ≡ due_of post.seat.book.state = ap (λ (x : Post). due_of x.seat.book.state) same in
     omega (arith, rest, head, old, less)
 due_put f place k (suc i) (y ∷ ys) post is at less =

@@ -3,6 +3,7 @@ pub mod Steps
 pub mod Allowing
 pub mod Nexts
 pub mod Bounds
+pub mod Following
 pub mod Leaving
 pub mod Laws
 pub mod Posts

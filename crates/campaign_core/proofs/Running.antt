@@ -5,17 +5,20 @@ use Rattle.std.specs.List.{AllByRecursion}
 use Rattle.std.proofs.lemmas.List.{length-map}
 use Rattle.seats.specs.SeatState.{is_joined}
 use Rattle.view_keep.specs.declared.keep.KeptView.{KeptView}
-use Rattle.view_keep.specs.Kept.{Kept}
+use Rattle.view_keep.specs.Kept.{Kept, view_at}
+use Rattle.player_view.specs.View.{view_of}
 use Rattle.command_looks.specs.Fields.{AreKept}
 use Rattle.command_effects.specs.Settle.{IsSettled}
 use Rattle.campaign_law.specs.declared.entry.Entry.{Entry}
 use Rattle.campaign_law.specs.Seat.{Seat, IsFreshSeat, was_joined}
-use Rattle.campaign_law.specs.World.{World, replay, step, scene_after, seat_after, mapped_from}
+use Rattle.campaign_law.specs.World.{World, replay, step, scene_after, seat_after, seat_at, mapped_from}
 use Rattle.campaign_law.specs.State.{Post, State, post_after, world_in, state_after, state_of}
 use Rattle.campaign_law.specs.Law.{IsOpening}
 use Rattle.campaign_law.proofs.Lists.{map-mapped_from, mapped_from-map}
 use Rattle.campaign_law.specs.Worlds.{FitsTogether}
+use Rattle.player_view.specs.Tables.{HasTables}
 use Rattle.campaign_law.proofs.Worlds.{fits_always}
+use Rattle.campaign_law.proofs.ScenesOfWorlds.{tables_always}
 use Rattle.campaign_law.proofs.Settled.{replay_settled}
 use Rattle.campaign_law.proofs.Sessions.{state_of-more, world_in-state_of}
 use Rattle.campaign_core.specs.declared.next.Prepared.{Prepared}
@@ -54,6 +57,16 @@ running_sound origin h room before kept stage r = replayed_sound origin h (law b
 pub running_fits : (origin : World) (h : List Entry) (room : ℕ) (before : Standing) (kept : Kept) (stage : Option Staged) → IsRunning origin h room before kept stage → FitsTogether (world_in (law before))
 running_fits origin h room before kept stage r = subst FitsTogether (sym (world_now origin h room before kept stage r)) (fits_always origin h r.fits)
 
+pub running_tables : (origin : World) (h : List Entry) (room : ℕ) (before : Standing) (kept : Kept) (stage : Option Staged) → IsRunning origin h room before kept stage → HasTables before.scene
+running_tables origin h room before kept stage r = subst (λ (w : World). HasTables w.scene) (sym (world_now origin h room before kept stage r)) (tables_always origin h r.fits r.tables)
+
+-- the kept view of a seat that is Joined is what it is shown
+pub shown_now : (origin : World) (h : List Entry) (room : ℕ) (before : Standing) (kept : Kept) (stage : Option Staged) → IsRunning origin h room before kept stage → (seat : ℕ)
+    → was_joined (seat_at (replay origin h) seat) ≡ true → view_at seat kept.views ≡ Some (view_of (replay origin h).scene seat)
+shown_now origin h room before kept stage r seat joined =
+    let shown : AreShown (replay origin h) kept.views = subst (λ (w : World). AreShown w kept.views) (world_now origin h room before kept stage r) r.views in
+    shown.each seat joined
+
 -- ---- staging
 
 -- what leaves the state as it is and takes no place leaves it running
@@ -66,6 +79,7 @@ restaged origin h room room' before after kept stage stage' r same count more st
       now = same ∙ r.now;
       opening = r.opening;
       fits = r.fits;
+      tables = r.tables;
       fields = subst (λ (s : State). AreKept s.scene kept.fields) (sym same) r.fields;
       views = subst (λ (s : State). AreShown (world_in s) kept.views) (sym same) r.views;
       count = r.count ∙ sym count;
@@ -90,6 +104,7 @@ advances origin h h' room room' before after kept kept' stage e r next seats fie
   now = next ∙ ap (λ s. state_after s e) r.now ∙ state_of-more origin h e r.opening ∙ ap (state_of origin) (sym more);
   opening = r.opening;
   fits = r.fits;
+  tables = r.tables;
   fields = fields;
   views = subst (λ w. AreShown w kept'.views) (sym (ap world_in next ∙ world_after (law before) e)) shown;
   count = same ∙ r.count ∙ sym seats;

@@ -1,6 +1,7 @@
 -- What holds of a running campaign.
 use Rattle.std.specs.Prelude.{◌≡◌, ◌≤◌, ℕ, true, List, length, Option, IfSome}
 use Rattle.view_keep.specs.Kept.{Kept}
+use Rattle.player_view.specs.Tables.{HasTables}
 use Rattle.command_looks.specs.Fields.{AreKept}
 use Rattle.campaign_law.specs.declared.entry.Entry.{Entry}
 use Rattle.campaign_law.specs.World.{World}
@@ -41,6 +42,7 @@ pub record IsRunning (origin : World) (history : List Entry) (places : ℕ) (bef
   pub now : law before ≡ state_of origin history
   pub opening : IsOpening origin
   pub fits : FitsTogether origin
+  pub tables : HasTables origin.scene
   pub fields : AreKept before.scene kept.fields
   pub views : AreShown (world_in (law before)) kept.views
   pub count : length kept.views ≡ length before.posts

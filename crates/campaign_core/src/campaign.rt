@@ -14,6 +14,7 @@ ghost use Rattle.campaign_law.specs.Law.{IsOpening, IsSentAsMachine, ChangesLitt
 
 use crate::next::{Prepared, act, leave, made_by};
 use crate::state::{Post, State};
+use crate::tables::open_tables;
 use campaign_file::{BadCampaign, FileFault, Rule, read_campaign};
 use campaign_law::{Answer, Entry};
 use cells::CellSet;
@@ -160,6 +161,7 @@ impl<E: Eye + Drop> Campaign<E> {
         ensures looks { IfOk result (λ c. c.looks ≤ E.looks_made eye + looks_of_opening c.origin.scene) }
     {
         let (mut scene, books) = world.into_parts();
+        open_tables(&scene);
         let fields = fields_after(
             alloc,
             &scene,
@@ -282,11 +284,10 @@ impl<E: Eye + Drop> Campaign<E> {
         requires { seat < length self.now.origin.seats }
         ensures { option_copied result ≡ kept_view (world_of self.now) seat }
     {
-        if self.post(seat).book.state().is_joined() {
-            Some(self.keep.view(seat))
-        } else {
-            None
+        if !self.post(seat).book.state().is_joined() {
+            return None;
         }
+        Some(self.keep.view(seat))
     }
 
     /// The field of the token's eye by the walls of its map, as it is kept; `None` exactly where there is no such token or

@@ -2,6 +2,7 @@
 ghost use Rattle.std.specs.Prelude.{◌≡◌, ◌==◌, ◌≤◌, ◌+◌, ℕ, ◌<◌, if◌then◌else◌, length, true, false, None, Some, IfOk, unwrap_or, option_map, slice_get};
 ghost use Rattle.names.specs.declared.token_id.TokenId.{TokenId};
 ghost use Rattle.player_view.specs.Fields.{HasFields};
+ghost use Rattle.player_view.specs.Tables.{HasTables};
 ghost use Rattle.command_effects.specs.Settle.{IsSettled, settled as settled_lem};
 ghost use Rattle.command_looks.specs.Fields.{AreKept, field_for};
 ghost use Rattle.command_looks.specs.Touched.{is_touched, looks_for, looks_of, touched};
@@ -17,7 +18,7 @@ ghost use Rattle.campaign_core.specs.Leaving.{due};
 ghost use Rattle.campaign_core.specs.Sound.{AreSound};
 ghost use Rattle.campaign_law.specs.Law.{answer_of};
 ghost use Rattle.campaign_core.specs.Changed.{IsChanged, scene_in, fields_in};
-ghost use Rattle.campaign_core.specs.Glances.{AreGlances};
+ghost use Rattle.campaign_core.specs.Glances.{AreGlances, ViewsFit};
 ghost use Rattle.campaign_core.specs.Steps.{with_book};
 ghost use Rattle.campaign_core.specs.Prepared.{IsPrepared};
 ghost use Rattle.campaign_core.specs.Shown.{AreShown, is_none, made_or, made_view, view_then};
@@ -63,6 +64,7 @@ pub(crate) fn made_by<E: Eye>(
     entry: &Entry,
 ) -> Result<Prepared, Memory>
     requires fits { FitsTogether (world_at state.now) }
+    requires tables { HasTables state.now.scene }
     requires settled { IsSettled state.now.scene }
     requires sound { AreSound (law state.now).posts }
     requires fields { AreKept state.now.scene keep.now.fields }
@@ -73,8 +75,9 @@ pub(crate) fn made_by<E: Eye>(
     let (steps, mut outcome) = decide(alloc, state, entry)?;
     let changed = changed_scene(alloc, state, keep, eye, entry, &outcome, steps)?;
     let book = take_book(&mut outcome);
-    let NextSeats { nexts, views } =
-        seats_after(alloc, state, keep, entry, &outcome, book, &changed)?;
+    let NextSeats { nexts, views } = seats_after(
+        alloc, state, keep, entry, &outcome, book, &changed,
+    )?;
     let answer = told(steps, outcome);
     Ok(Prepared {
         nexts,
@@ -195,6 +198,8 @@ pub(crate) fn seats_after(
     book: Option<SeatBook>,
     changed: &Option<Changed>,
 ) -> Result<NextSeats, Memory>
+    requires fits { FitsTogether (world_at state.now) }
+    requires tables { HasTables state.now.scene }
     requires settled { IsSettled state.now.scene }
     requires sound { AreSound (law state.now).posts }
     requires fields { AreKept state.now.scene keep.now.fields }
@@ -218,6 +223,7 @@ fn glances<'s>(
 ) -> Glances<'s>
     requires fields { AreKept state.now.scene keep.now.fields }
     requires changed { IsChanged (world_at state.now) entry.now keep.now.fields changed.now }
+    requires fit { ViewsFit state.now.scene (scene_in state.now.scene changed.now) }
     ensures glances { AreGlances result }
     ensures before { result.before.now ≡ state.now.scene }
     ensures keep { result.keep.now ≡ keep.now }
@@ -227,21 +233,34 @@ fn glances<'s>(
     let _entry = entry;
     match changed {
         Some(changed) => glances_at(state, keep, changed),
-        None => {
-            serve(state.scene(), keep.fields());
-            Glances {
-                before: state.scene(),
-                keep,
-                after: state.scene(),
-                fields: keep.fields(),
-                same: true,
-            }
-        }
+        None => glances_still(state, keep),
+    }
+}
+
+fn glances_still<'s>(state: &'s State, keep: &'s Keep) -> Glances<'s>
+    requires fields { AreKept state.now.scene keep.now.fields }
+    requires fit { ViewsFit state.now.scene state.now.scene }
+    ensures glances { AreGlances result }
+    ensures before { result.before.now ≡ state.now.scene }
+    ensures keep { result.keep.now ≡ keep.now }
+    ensures after { result.after.now ≡ state.now.scene }
+    ensures same { result.same ≡ true }
+{
+    let scene = state.scene();
+    let fields = keep.fields();
+    serve(scene, fields);
+    Glances {
+        before: scene,
+        keep,
+        after: scene,
+        fields,
+        same: true,
     }
 }
 
 fn glances_at<'s>(state: &'s State, keep: &'s Keep, changed: &'s Changed) -> Glances<'s>
     requires fields { AreKept changed.now.scene (unwrap_or changed.now.fields keep.now.fields) }
+    requires fit { ViewsFit state.now.scene changed.now.scene }
     requires players { changed.now.scene.fog.players ≡ state.now.scene.fog.players }
     ensures glances { AreGlances result }
     ensures before { result.before.now ≡ state.now.scene }
@@ -254,8 +273,9 @@ fn glances_at<'s>(state: &'s State, keep: &'s Keep, changed: &'s Changed) -> Gla
         None => keep.fields(),
     };
     serve(&changed.scene, fields);
+    let scene = state.scene();
     Glances {
-        before: state.scene(),
+        before: scene,
         keep,
         after: &changed.scene,
         fields,
@@ -332,12 +352,7 @@ fn put_fields(keep: &mut Keep, fields: Option<Fields>)
 }
 
 /// The entry acts: all that it makes is put in its place. It takes no memory.
-pub(crate) fn act(
-    state: &mut State,
-    keep: &mut Keep,
-    entry: &Entry,
-    prepared: Prepared,
-) -> Answer
+pub(crate) fn act(state: &mut State, keep: &mut Keep, entry: &Entry, prepared: Prepared) -> Answer
     requires fields { AreKept state.old.scene keep.old.fields }
     requires count { length keep.old.views ≡ length state.old.posts }
     requires most { length keep.old.views ≤ 33 }

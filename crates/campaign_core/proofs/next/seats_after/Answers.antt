@@ -13,6 +13,8 @@ use Rattle.campaign_core.specs.Changed.{scene_in}
 use Rattle.campaign_core.specs.Steps.{with_book}
 use Rattle.campaign_core.specs.Shown.{AreStill, IsShown, is_none, made_view}
 use Rattle.campaign_core.proofs.Nexts.{stands, if_ok}
+use Rattle.campaign_core.specs.Glances.{ViewsFit}
+use Rattle.campaign_core.proofs.Following.{views_fit}
 use Rattle.campaign_core.proofs.Shows.{joins_full, shown_seats, stays_in_view}
 use Rattle.campaign_core.proofs.next.seats_after.Goals as goal
 
@@ -27,6 +29,11 @@ next_seats-requires-clause-shown c = λ seat.
     (subst (λ (k : Kept). IsShown c.args.state.now.scene k.views seat (option_map (λ p. p.seat) (slice_get c.posts.result.now seat))) (sym c.glances-glances.ensures.keep)
     (subst (λ ps. IsShown c.args.state.now.scene c.args.keep.now.views seat (option_map (λ p. p.seat) (slice_get ps seat))) (sym c.posts.ensures.value)
     (shown_seats c.args.state.now c.args.keep.now.views c.requires.views seat)))
+
+pub glances-requires-clause-fit : goal.glances-requires-clause-fit
+glances-requires-clause-fit c =
+    subst (ViewsFit c.args.state.now.scene) (sym (stands (world_at c.args.state.now) c.args.entry.now c.args.keep.now.fields c.args.changed.now c.requires.changed))
+    (views_fit (world_at c.args.state.now) c.args.entry.now c.requires.fits c.requires.tables)
 
 pub next_seats-requires-clause-sound : goal.next_seats-requires-clause-sound
 next_seats-requires-clause-sound c = subst (λ ps. AreSound (map posted ps)) (sym c.posts.ensures.value) c.requires.sound
@@ -48,9 +55,9 @@ next_seats-requires-clause-still c =
     let w = world_at c.args.state.now in
     let after = c.glances-glances.ensures.after ∙ stands w c.args.entry.now c.args.keep.now.fields c.args.changed.now c.requires.changed in
     let still : AreStill c.glances-glances.result.same (with_book c.args.outcome.now c.args.book) c.glances-glances.result.before.now c.glances-glances.result.after.now =
-      subst (λ (b : Bool). AreStill b (with_book c.args.outcome.now c.args.book) c.glances-glances.result.before.now c.glances-glances.result.after.now) (sym c.glances-glances.ensures.same)
-      (subst (λ (o : Outcome). AreStill (is_none c.args.changed.now) o c.glances-glances.result.before.now c.glances-glances.result.after.now) (sym c.requires.outcome)
-      (subst (λ (s : Scene). AreStill (is_none c.args.changed.now) (outcome_of w c.args.entry.now) s c.glances-glances.result.after.now) (sym c.glances-glances.ensures.before)
-      (subst (AreStill (is_none c.args.changed.now) (outcome_of w c.args.entry.now) c.args.state.now.scene) (sym after)
-      (stays_in_view w c.args.entry.now c.args.keep.now.fields c.args.changed.now c.requires.settled c.requires.changed)))) in
+    subst (λ (b : Bool). AreStill b (with_book c.args.outcome.now c.args.book) c.glances-glances.result.before.now c.glances-glances.result.after.now) (sym c.glances-glances.ensures.same)
+    (subst (λ (o : Outcome). AreStill (is_none c.args.changed.now) o c.glances-glances.result.before.now c.glances-glances.result.after.now) (sym c.requires.outcome)
+    (subst (λ (s : Scene). AreStill (is_none c.args.changed.now) (outcome_of w c.args.entry.now) s c.glances-glances.result.after.now) (sym c.glances-glances.ensures.before)
+    (subst (AreStill (is_none c.args.changed.now) (outcome_of w c.args.entry.now) c.args.state.now.scene) (sym after)
+    (stays_in_view w c.args.entry.now c.args.keep.now.fields c.args.changed.now c.requires.settled c.requires.changed)))) in
     record { each = still.each }

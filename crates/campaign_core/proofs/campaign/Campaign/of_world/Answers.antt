@@ -7,6 +7,8 @@ use Rattle.command_looks.specs.Fields.{AreKept}
 use Rattle.command_looks.specs.Touched.{looks_of_opening}
 use Rattle.campaign_law.specs.State.{State, world_in, state_of, opening_post, opening_state}
 use Rattle.campaign_law.specs.Worlds.{FitsTogether}
+use Rattle.player_view.specs.Tables.{HasTables}
+use Rattle.command_effects.proofs.KeptScenes.{settled_kept}
 use Rattle.campaign_law.proofs.Worlds.{fits_opened}
 use Rattle.campaign_law.specs.Law.{IsOpening}
 use Rattle.campaign_law.proofs.States.{opened}
@@ -49,6 +51,7 @@ invariant_of-result g c =
     record {
       now = c.in_ok-state.ensures ∙ is_opened ∙ opened c.args.world.books c.args.world.scene ∙ (λ i. state_of (world_in (sym is_opened i)) (sym c.new-3.ensures.items i));
       opening = opening;
+      tables = subst (λ (s : State). HasTables s.scene) (sym c.in_ok-origin.ensures) (subst HasTables (sym c.in_ok-settle.ensures.settled) (settled_kept c.into_parts-scene.result.0 c.open_tables.ensures));
       fits = subst FitsTogether (sym (ap world_in is_opened ∙ (λ i. record { seats = opened_seats c.args.world.books i; scene = settled c.args.world.scene }))) (fits_opened c.args.world c.into_parts-scene.ensures.fitting);
       fields = subst (λ (s : State). AreKept s.scene c.put_fields.new.self.fields) (sym (c.in_ok-state.ensures ∙ c.in_ok-origin.ensures))
           (subst (λ (s : Scene). AreKept s c.put_fields.new.self.fields) (sym c.in_ok-settle.ensures.settled)

@@ -1,4 +1,4 @@
-use Rattle.std.proofs.Common.{◌≡◌, ◌≤◌, ◌+◌, ◌∙◌, ap, sym, subst, true, false, arith, ℕ, length}
+use Rattle.std.proofs.Common.{rules, ◌≡◌, ◌≤◌, ◌+◌, ◌∙◌, ap, sym, subst, true, false, arith, ℕ, length}
 use Rattle.std.proofs.lemmas.List.{length-map}
 use Rattle.std.specs.Prelude.{IsOk}
 use Rattle.command_looks.specs.Touched.{looks_of}
@@ -12,11 +12,14 @@ use Rattle.campaign_core.specs.Places.{law, posted, world_at}
 use Rattle.campaign_core.specs.Prepared.{IsPrepared}
 use Rattle.campaign_core.specs.Shown.{AreShown}
 use Rattle.campaign_core.proofs.Laws.{world_law}
-use Rattle.campaign_core.proofs.Running.{running_fits, running_settled, running_sound, world_now, restaged}
+use Rattle.campaign_core.proofs.Running.{running_fits, running_tables, running_settled, running_sound, world_now, restaged}
 use Rattle.campaign_core.proofs.campaign.Campaign.prepare.Goals as goal
 
 pub made_by-requires-clause-fits : goal.made_by-requires-clause-fits
 made_by-requires-clause-fits g c = subst FitsTogether (sym (world_law c.self.inside.state)) (running_fits _ _ _ _ _ _ c.self.invariant)
+
+pub made_by-requires-clause-tables : goal.made_by-requires-clause-tables
+made_by-requires-clause-tables g c = running_tables _ _ _ _ _ _ c.self.invariant
 
 pub made_by-requires-clause-settled : goal.made_by-requires-clause-settled
 made_by-requires-clause-settled g c = running_settled _ _ _ _ _ _ c.self.invariant
@@ -54,7 +57,7 @@ pub returns-in_default-clause-looks : goal.returns-in_default-clause-looks
 returns-in_default-clause-looks g c =
     let same = world_law c.self.inside.state ∙ world_now (world_in (law c.self.inside.origin)) c.self.inside.history.items _ c.self.inside.state c.self.inside.keep c.self.inside.staged c.self.invariant in
     let most = ap (λ (w : World). looks_of w.scene (outcome_of w c.args.entry).done) same
-      ∙ ap (λ (x : Course). looks_of (replay x.origin x.history).scene (outcome_of (replay x.origin x.history) c.args.entry).done) c.self.view_is in
+    ∙ ap (λ (x : Course). looks_of (replay x.origin x.history).scene (outcome_of (replay x.origin x.history) c.args.entry).done) c.self.view_is in
     let before = ap (λ (x : Course). x.looks) c.self.view_is in
     omega (arith, c.made_by.ensures.looks, most, before)
 
@@ -71,7 +74,7 @@ pub returns-then-is_err-clause-looks : goal.returns-then-is_err-clause-looks
 returns-then-is_err-clause-looks g c =
     let same = world_law c.self.inside.state ∙ world_now (world_in (law c.self.inside.origin)) c.self.inside.history.items _ c.self.inside.state c.self.inside.keep c.self.inside.staged c.self.invariant in
     let most = ap (λ (w : World). looks_of w.scene (outcome_of w c.args.entry).done) same
-      ∙ ap (λ (x : Course). looks_of (replay x.origin x.history).scene (outcome_of (replay x.origin x.history) c.args.entry).done) c.self.view_is in
+    ∙ ap (λ (x : Course). looks_of (replay x.origin x.history).scene (outcome_of (replay x.origin x.history) c.args.entry).done) c.self.view_is in
     let before = ap (λ (x : Course). x.looks) c.self.view_is in
     omega (arith, c.made_by.ensures.looks, most, before)
 
@@ -88,7 +91,7 @@ pub returns-then-is_err-2-clause-looks : goal.returns-then-is_err-2-clause-looks
 returns-then-is_err-2-clause-looks g c =
     let same = world_law c.self.inside.state ∙ world_now (world_in (law c.self.inside.origin)) c.self.inside.history.items _ c.self.inside.state c.self.inside.keep c.self.inside.staged c.self.invariant in
     let most = ap (λ (w : World). looks_of w.scene (outcome_of w c.args.entry).done) same
-      ∙ ap (λ (x : Course). looks_of (replay x.origin x.history).scene (outcome_of (replay x.origin x.history) c.args.entry).done) c.self.view_is in
+    ∙ ap (λ (x : Course). looks_of (replay x.origin x.history).scene (outcome_of (replay x.origin x.history) c.args.entry).done) c.self.view_is in
     let before = ap (λ (x : Course). x.looks) c.self.view_is in
     omega (arith, c.made_by.ensures.looks, most, before)
 
@@ -99,9 +102,19 @@ pub returns-clause-looks : goal.returns-clause-looks
 returns-clause-looks g c =
     let same = world_law c.self.inside.state ∙ world_now (world_in (law c.self.inside.origin)) c.self.inside.history.items _ c.self.inside.state c.self.inside.keep c.self.inside.staged c.self.invariant in
     let most = ap (λ (w : World). looks_of w.scene (outcome_of w c.args.entry).done) same
-      ∙ ap (λ (x : Course). looks_of (replay x.origin x.history).scene (outcome_of (replay x.origin x.history) c.args.entry).done) c.self.view_is in
+    ∙ ap (λ (x : Course). looks_of (replay x.origin x.history).scene (outcome_of (replay x.origin x.history) c.args.entry).done) c.self.view_is in
     let before = ap (λ (x : Course). x.looks) c.self.view_is in
     omega (arith, c.made_by.ensures.looks, most, before)
 
 pub returns-clause-sent : goal.returns-clause-sent
 returns-clause-sent g c = λ p. sent_is_machine _ _ p c.self.invariant.opening
+
+pub invariant_of-self-5 : goal.invariant_of-self-5
+invariant_of-self-5 g c =
+    restaged (world_in (law c.self.inside.origin)) c.self.inside.history.items _ _ c.self.inside.state c.make_room.new.self c.self.inside.keep c.self.inside.staged _ c.self.invariant
+    c.make_room.ensures.state c.make_room.ensures.count (search rules)
+    (record {
+      enough = search rules;
+      room = search rules;
+      prepared = subst (λ (s : State). IsPrepared s c.self.inside.keep c.args.entry c.in-Ok.prepared) (sym c.make_room.ensures.state) c.in-Ok.ensures.prepared;
+    })

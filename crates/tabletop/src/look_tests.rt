@@ -1,11 +1,10 @@
-//! How often the eye is asked, and a seat that leaves.
+//! How often the eye is asked at each line.
 
-use crate::{Answer, Campaign, Entry};
+use campaign_core::{Answer, Campaign, Entry};
 use names::{LineText, SeatNo};
-use seats::SeatState;
+use sight_sweep::SweepEye;
 use std::alloc::Global;
 use std::test::Fail;
-use topology::PlainEye;
 
 // The game master and one player, whose token stands in a cave that a wall cuts in two.
 const CAVE: &[u8] =
@@ -15,21 +14,21 @@ fn seat(number: u8) -> Result<SeatNo, Fail> {
     Ok(SeatNo::new(number).ok_or("a seat")?)
 }
 
-fn opened(alloc: Global) -> Result<Campaign<PlainEye>, Fail> {
-    match Campaign::open(alloc, CAVE, PlainEye::new()) {
+fn opened(alloc: Global) -> Result<Campaign<SweepEye>, Fail> {
+    match Campaign::open(alloc, CAVE, SweepEye::new(alloc)) {
         Ok(campaign) => Ok(campaign),
         Err(_) => Err(Fail::from("no campaign")),
     }
 }
 
-fn step(campaign: &mut Campaign<PlainEye>, entry: Entry) -> Result<Answer, Fail> {
+fn step(campaign: &mut Campaign<SweepEye>, entry: Entry) -> Result<Answer, Fail> {
     match campaign.step(entry) {
         Ok(answer) => Ok(answer),
         Err(_) => Err(Fail::from("want of memory")),
     }
 }
 
-fn join(alloc: Global, campaign: &mut Campaign<PlainEye>, number: u8, key: &[u8]) -> Result<(), Fail> {
+fn join(alloc: Global, campaign: &mut Campaign<SweepEye>, number: u8, key: &[u8]) -> Result<(), Fail> {
     let entry = Entry::Join {
         seat: seat(number)?,
         key: LineText::copy(alloc, key)?,
@@ -119,15 +118,5 @@ fn looks(rt: HostRuntime) -> Result<(), Fail> {
         assert_eq!(rt; answer.refusal.is_some(), asked.refused, "{line}");
         assert!(rt; campaign.looks() <= before.saturating_add(asked.looks), "{line}");
     }
-    Ok(())
-}
-
-#[test]
-fn leaves(rt: HostRuntime) -> Result<(), Fail> {
-    let alloc = rt.alloc();
-    let mut campaign = opened(alloc)?;
-    join(alloc, &mut campaign, 1, b"a")?;
-    let one = seat(1)?;
-    assert_eq!(rt; one.number() < campaign.seat_count(), true);
     Ok(())
 }
