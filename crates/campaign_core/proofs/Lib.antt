@@ -1,3 +1,13 @@
 pub mod Openings
+pub mod Steps
+pub mod Allowing
 pub mod Nexts
+pub mod Bounds
+pub mod Following
+pub mod Leaving
+pub mod Laws
+pub mod Posts
+pub mod Puts
+pub mod Shows
+pub mod Running
 pub mod Lines

@@ -1,3 +1,11 @@
 pub mod Opening
+pub mod Steps
+pub mod Allowing
+pub mod Places
+pub mod Sound
+pub mod Leaving
+pub mod Shown
 pub mod Glances
 pub mod Changed
+pub mod Prepared
+pub mod Running

@@ -1,48 +1,111 @@
 //! A campaign as its callers see it: the world that it opened with, and its history.
-ghost use Rattle.std.specs.Prelude.{◌≡◌, ◌<◌, ◌≤◌, ◌++◌, ◌∷◌, [], ℕ, length, Some, IfOk, OnOk, IfErr, OnErr, map, drop, option_map, is_some, true};
+ghost use Rattle.std.specs.Prelude.{◌+◌, None, IfSome, ◌≡◌, ◌<◌, ◌≤◌, ◌++◌, ◌∷◌, [], ℕ, length, Some, IfOk, IsOk, OnOk, IfErr, OnErr, map, flat_map, drop, option_map, is_some, true};
 ghost use Rattle.campaign_file.specs.Campaign.{IsOpening as IsOpeningList};
-ghost use Rattle.campaign_core.specs.Opening.{opening_world, world_of_text, IsOpenFault, IsBadForm};
-ghost use Rattle.campaign_law.specs.World.{seat_at};
-ghost use Rattle.campaign_law.specs.Session.{session, waiting};
+ghost use Rattle.mails.specs.Texts.{text_of};
+ghost use Rattle.campaign_law.specs.Worlds.{opening_world};
+ghost use Rattle.campaign_core.specs.Opening.{world_of_text, IsOpenFault, IsBadForm};
+ghost use Rattle.std.specs.Option.{option_copied};
+ghost use Rattle.command_looks.specs.Fields.{field_for};
+ghost use Rattle.command_looks.specs.Touched.{looks_of, looks_of_opening};
+ghost use Rattle.campaign_core.specs.Shown.{kept_view};
+ghost use Rattle.campaign_law.specs.World.{outcome_of, seat_at};
+ghost use Rattle.campaign_law.specs.Session.{session, waiting, changes_state};
 ghost use Rattle.campaign_law.specs.Law.{IsOpening, IsSentAsMachine, ChangesLittle, world_of, answer_after};
 
-use crate::next::{Prepared, go_on, prepare};
+use crate::next::{Prepared, act, leave, made_by};
 use crate::state::{Post, State};
+use crate::tables::open_tables;
 use campaign_file::{BadCampaign, FileFault, Rule, read_campaign};
 use campaign_law::{Answer, Entry};
+use cells::CellSet;
 use command_effects::settle;
-use names::{LineText, Memory, SeatNo, Text};
-use player_view::fields_of;
+use command_looks::{Touched, fields_after, serve};
+use mails::Mail;
+use names::{LineText, Memory, SeatNo, Text, TokenId};
 use seats::SeatState;
 use std::alloc::Global;
 use std::marker::Model;
 use topology::Eye;
+use turn_lock::Object;
+use view_keep::Keep;
+use views::View;
 use vision::Fields;
 use world::World;
 
-/// A campaign: the world that it opened with, and its history since. Its state is the replay of the
-/// history from that world. By its eye it finds what tokens see.
+/// A place in the history for an entry, and two for each seat: a Joined one becomes Closing, and then Free.
+const PLACES: usize = 67;
+
+/// What is made of an entry before it is committed.
 #[derive(Drop)]
-pub struct Campaign<E> {
+pub(crate) enum Made {
+    /// All that it makes.
+    Whole(Prepared),
+    /// Nothing: a Leave that changes its seat's state is done in place.
+    Alone,
+}
+
+/// An entry with what is made of it.
+#[derive(Drop)]
+pub(crate) struct Staged {
+    pub(crate) entry: Entry,
+    pub(crate) made: Made,
+}
+
+/// A campaign: the world that it opened with, and its history since. Its state is the replay of the
+/// history from that world. By its eye it finds what tokens see; the fields that it found are kept, and the
+/// view of each Joined seat. An entry may be staged.
+#[derive(Drop)]
+pub struct Campaign<E: Eye> {
     alloc: Global,
     eye: E,
     origin: State,
     state: State,
-    fields: Fields,
+    keep: Keep,
     history: Vec<Entry>,
+    staged: Option<Staged>,
 }
 
-impl<E> Model for Campaign<E> {
-    ghost use Rattle.std.specs.Prelude.{◌≡◌};
-    ghost use Rattle.player_view.specs.Fields.{HasFields};
-    ghost use Rattle.campaign_law.specs.State.{world_in, state_of};
-    ghost use Rattle.campaign_law.specs.Law.{Course, IsOpening};
+impl<E: Eye> Model for Campaign<E> {
+    ghost use Rattle.std.specs.Prelude.{◌-◌, option_map, vec_len, vec_capacity};
+    ghost use Rattle.campaign_law.specs.State.{world_in};
+    ghost use Rattle.campaign_law.specs.Law.{Course};
+    ghost use Rattle.campaign_core.specs.Places.{law};
+    ghost use Rattle.campaign_core.specs.Running.{IsRunning, entry_in};
 
     ghost Value = { Course };
 
-    ghost view = { λ c. record { origin = world_in c.origin; history = c.history.items } };
+    ghost view = { λ c. record { origin = world_in (law c.origin); history = c.history.items; staged = option_map entry_in c.staged; looks = E.looks_made c.eye } };
 
-    ghost invariant = { λ c. (c.state ≡ state_of (world_in c.origin) c.history.items) × IsOpening (world_in c.origin) × HasFields c.state.scene c.fields };
+    ghost invariant = { λ c. IsRunning (world_in (law c.origin)) c.history.items (vec_capacity c.history - vec_len c.history) c.state c.keep c.staged };
+}
+
+/// The world that a campaign opened with. No value of it is made.
+pub struct Opened {
+    state: State,
+}
+
+impl Model for Opened {
+    ghost use Rattle.campaign_law.specs.World.{World};
+    ghost use Rattle.campaign_law.specs.State.{world_in};
+    ghost use Rattle.campaign_core.specs.Places.{law};
+
+    ghost Value = { World };
+
+    ghost view = { λ opened. world_in (law opened.state) };
+}
+
+impl<E: Eye> Object for Campaign<E> {
+    type Entry = Entry;
+
+    type Origin = Opened;
+
+    ghost origin = { λ c. c.origin };
+
+    ghost history = { λ c. c.history };
+
+    fn length(&self) -> u64 {
+        self.history.len() as u64
+    }
 }
 
 /// Why no campaign opens.
@@ -73,7 +136,9 @@ impl<E: Eye + Drop> Campaign<E> {
         ensures world { IfOk result (λ c. world_of_text text.now ≡ Some c.origin) }
         ensures opening { IfOk result (λ c. IsOpening c.origin) }
         ensures history { IfOk result (λ c. c.history ≡ []) }
+        ensures staged { IfOk result (λ c. c.staged ≡ None) }
         ensures seats { IfOk result (λ c. (1 ≤ length c.origin.seats) × (length c.origin.seats ≤ 33)) }
+        ensures looks { IfOk result (λ c. c.looks ≤ E.looks_made eye + looks_of_opening c.origin.scene) }
         ensures bad { IfErr result (IsOpenFault (world_of_text text.now)) }
     {
         match read_campaign(alloc, text) {
@@ -92,49 +157,157 @@ impl<E: Eye + Drop> Campaign<E> {
         ensures world { IfOk result (λ c. c.origin ≡ opening_world world) }
         ensures opening { IfOk result (λ c. IsOpening c.origin) }
         ensures history { IfOk result (λ c. c.history ≡ []) }
+        ensures staged { IfOk result (λ c. c.staged ≡ None) }
+        ensures looks { IfOk result (λ c. c.looks ≤ E.looks_made eye + looks_of_opening c.origin.scene) }
     {
         let (mut scene, books) = world.into_parts();
-        let fields = fields_of(alloc, &scene, &mut eye)?;
+        open_tables(&scene);
+        let fields = fields_after(
+            alloc,
+            &scene,
+            &Touched::Everybody,
+            &Fields::new(alloc),
+            &mut eye,
+        )?;
+        serve(&scene, &fields);
         settle(alloc, &mut scene, &fields)?;
         let origin = State::opening(alloc, books, scene)?;
         let state = origin.copy(alloc)?;
+        let mut keep = Keep::new(alloc, state.seats())?;
+        keep.put_fields(fields);
         Ok(Campaign {
             alloc,
             eye,
             origin,
             state,
-            fields,
+            keep,
             history: Vec::new(alloc),
+            staged: None,
         })
     }
 
+    /// Takes all memory that the entry needs, and stages it. An entry that was staged before is dropped. The entry comes
+    /// back only for want of memory, and then none is staged. A Leave that changes its seat's state takes no memory.
+    pub fn prepare(&mut self, entry: Entry) -> Result<(), Entry>
+        ensures staged { OnOk result (self.new ≡ record self.old { staged = Some entry; looks = self.new.looks }) }
+        ensures back { IfErr result (λ e. e ≡ entry) }
+        ensures unchanged { OnErr result (self.new ≡ record self.old { staged = None; looks = self.new.looks }) }
+        ensures sure { changes_state (world_of self.old) entry ≡ true → IsOk result }
+        ensures looks { self.new.looks ≤ self.old.looks + looks_of (world_of self.old).scene (outcome_of (world_of self.old) entry).done }
+
+        // What each player was sent is what the machine without a world prints.
+        ensures sent { (p : ℕ) → IsSentAsMachine self.new.origin self.new.history p }
+    {
+        self.staged = None;
+        if self.state.is_changed_by(&entry) {
+            let made = Made::Alone;
+            self.staged = Some(Staged { entry, made });
+            return Ok(());
+        }
+        let Ok(prepared) = made_by(self.alloc, &self.state, &self.keep, &mut self.eye, &entry)
+        else {
+            return Err(entry);
+        };
+        if self.state.make_room(&prepared.nexts).is_err() {
+            return Err(entry);
+        }
+        if self.history.reserve(PLACES).is_err() {
+            return Err(entry);
+        }
+        let made = Made::Whole(prepared);
+        self.staged = Some(Staged { entry, made });
+        Ok(())
+    }
+
+    /// The staged entry; `None` exactly where none is staged.
+    pub fn staged(&self) -> Option<&Entry>
+        ensures { option_copied result ≡ self.now.staged }
+    {
+        match &self.staged {
+            Some(staged) => Some(&staged.entry),
+            None => None,
+        }
+    }
+
+    /// Applies the staged entry and appends it to the history; none is staged then. It takes no memory.
+    pub fn commit(&mut self) -> Answer
+        requires { is_some self.old.staged ≡ true }
+        ensures course { IfSome self.old.staged (λ e. self.new ≡ record self.old { history = self.old.history ++ e ∷ []; staged = None }) }
+        ensures answer { IfSome self.old.staged (λ e. result ≡ answer_after self.old e) }
+        ensures refused { IfSome self.old.staged (λ e. is_some result.refusal ≡ true → ChangesLittle (world_of self.old) e) }
+
+        // What each player was sent is what the machine without a world prints.
+        ensures sent { (p : ℕ) → IsSentAsMachine self.new.origin self.new.history p }
+    {
+        let Some(staged) = self.staged.take() else {
+            unreachable!();
+        };
+        let Staged { entry, made } = staged;
+        let prepared = match made {
+            Made::Whole(prepared) => prepared,
+            Made::Alone => {
+                let answer = leave(&mut self.state, &entry);
+                self.history.push_reserved(entry);
+                return answer;
+            }
+        };
+        let answer = act(&mut self.state, &mut self.keep, &entry, prepared);
+        self.history.push_reserved(entry);
+        answer
+    }
+
     /// Applies an entry and appends it to the history. The entry comes back only for want of memory, and
-    /// the campaign is then as before.
+    /// the campaign is then as before, but for its looks; none is staged then. A Leave that changes its seat's state
+    /// takes no memory.
     pub fn step(&mut self, entry: Entry) -> Result<Answer, Entry>
         ensures origin { self.new.origin ≡ self.old.origin }
         ensures history { OnOk result (self.new.history ≡ self.old.history ++ entry ∷ []) }
         ensures answer { IfOk result (λ a. a ≡ answer_after self.old entry) }
         ensures back { IfErr result (λ e. e ≡ entry) }
-        ensures unchanged { OnErr result (self.new ≡ self.old) }
+        ensures unchanged { OnErr result (self.new ≡ record self.old { staged = None; looks = self.new.looks }) }
+        ensures staged { self.new.staged ≡ None }
+        ensures looks { self.new.looks ≤ self.old.looks + looks_of (world_of self.old).scene (outcome_of (world_of self.old) entry).done }
         ensures refused { IfOk result (λ a. is_some a.refusal ≡ true → ChangesLittle (world_of self.old) entry) }
+        ensures sure { changes_state (world_of self.old) entry ≡ true → IsOk result }
 
         // What each player was sent is what the machine without a world prints.
         ensures sent { (p : ℕ) → IsSentAsMachine self.new.origin self.new.history p }
     {
-        let Ok(prepared) = prepare(self.alloc, &self.state, &self.fields, &mut self.eye, &entry)
-        else {
-            return Err(entry);
-        };
-        if let Err(failed) = self.history.push(entry) {
-            return Err(failed.value);
+        match self.prepare(entry) {
+            Ok(()) => Ok(self.commit()),
+            Err(entry) => Err(entry),
         }
-        let Prepared {
-            posts,
-            changed,
-            answer,
-        } = prepared;
-        go_on(&mut self.state, &mut self.fields, posts, changed);
-        Ok(answer)
+    }
+
+    /// What the seat is shown now, as it is kept; `None` exactly where the seat isn't Joined.
+    pub fn view(&self, seat: SeatNo) -> Option<&View>
+        requires { seat < length self.now.origin.seats }
+        ensures { option_copied result ≡ kept_view (world_of self.now) seat }
+    {
+        if !self.post(seat).book.state().is_joined() {
+            return None;
+        }
+        Some(self.keep.view(seat))
+    }
+
+    /// The field of the token's eye by the walls of its map, as it is kept; `None` exactly where there is no such token or
+    /// it has neither a sight nor a light.
+    pub fn field(&self, id: TokenId) -> Option<&CellSet>
+        ensures { option_copied result ≡ field_for (world_of self.now).scene id }
+    {
+        self.keep.fields().get(id)
+    }
+
+    /// How many looks the eye made.
+    pub fn looks(&self) -> u64
+        ensures { result ≡ self.now.looks }
+    {
+        self.eye.looks()
+    }
+
+    /// How many pairs of a wall and a cell the eye compared.
+    pub fn tested(&self) -> u64 {
+        self.eye.tested()
     }
 
     /// How many seats there are: 1 to 33.
@@ -165,6 +338,14 @@ impl<E: Eye + Drop> Campaign<E> {
         self.post(seat).book.state()
     }
 
+    /// The seat's count of lines.
+    pub fn lines(&self, seat: SeatNo) -> u32
+        requires { seat < length self.now.origin.seats }
+        ensures { Some result ≡ option_map (λ s. s.book.lines) (seat_at (world_of self.now) seat) }
+    {
+        self.post(seat).book.lines()
+    }
+
     /// How many lines were queued for the seat since its Join; 0 where it is Free.
     pub fn queued(&self, seat: SeatNo) -> u64
         requires { seat < length self.now.origin.seats }
@@ -180,40 +361,40 @@ impl<E: Eye + Drop> Campaign<E> {
         ensures { IfOk result (λ v. Some v.items ≡ option_map (λ s. waiting first s.taken (session self.now.origin self.now.history seat)) (seat_at (world_of self.now) seat)) }
     {
         let post = self.post(seat);
-        lines_from(self.alloc, &post.mail, first.saturating_sub(post.taken))
+        lines_past(self.alloc, &post.mail, first.saturating_sub(post.taken))
+    }
+
+    /// The text of the lines of the seat's session that weren't taken, from the number `first` on, counted from 0
+    /// at its Join, and how many they are. Each ends with LF. It is one piece of memory.
+    pub fn text_for(&self, seat: SeatNo, first: u64) -> Result<(LineText, u64), Memory>
+        requires { seat < length self.now.origin.seats }
+        ensures text { IfOk result (λ r. Some r.0 ≡ option_map (λ s. flat_map (λ line. line) (waiting first s.taken (session self.now.origin self.now.history seat))) (seat_at (world_of self.now) seat)) }
+        ensures count { IfOk result (λ r. Some r.1 ≡ option_map (λ s. length (waiting first s.taken (session self.now.origin self.now.history seat))) (seat_at (world_of self.now) seat)) }
+    {
+        let post = self.post(seat);
+        text_past(self.alloc, &post.mail, first.saturating_sub(post.taken))
     }
 }
 
 /// The lines but for the first `gone`, each with its LF.
-fn lines_from(alloc: Global, lines: &[LineText], gone: u64) -> Result<Vec<LineText>, Memory>
-    ensures { IfOk result (λ v. v.items ≡ map (λ line. line ++ 10 ∷ []) (drop gone lines.now)) }
+fn lines_past(alloc: Global, mail: &Mail, gone: u64) -> Result<Vec<LineText>, Memory>
+    ensures { IfOk result (λ v. v.items ≡ map (λ line. line ++ 10 ∷ []) (drop gone mail.now.lines)) }
 {
-    if gone >= lines.len() as u64 {
+    if gone >= mail.len() as u64 {
         return Ok(Vec::new(alloc));
     }
-    with_ends(alloc, &lines[gone as usize..])
+    mail.lines_from(alloc, gone as usize)
 }
 
-fn with_ends(alloc: Global, lines: &[LineText]) -> Result<Vec<LineText>, Memory>
-    ensures { IfOk result (λ v. v.items ≡ map (λ line. line ++ 10 ∷ []) lines.now) }
+/// The text of the lines but for the first `gone`, and how many they are.
+fn text_past(alloc: Global, mail: &Mail, gone: u64) -> Result<(LineText, u64), Memory>
+    ensures text { IfOk result (λ r. r.0 ≡ text_of (drop gone mail.now.lines)) }
+    ensures count { IfOk result (λ r. r.1 ≡ length (drop gone mail.now.lines)) }
 {
-    let mut all = Vec::new(alloc);
-    for line in lines {
-        if all.push(with_end(alloc, line.bytes())?).is_err() {
-            return Err(Memory);
-        }
+    let count = mail.len();
+    if gone >= count as u64 {
+        return Ok((LineText::new(Vec::new(alloc)), 0));
     }
-    Ok(all)
-}
-
-fn with_end(alloc: Global, line: &[u8]) -> Result<LineText, Memory>
-    ensures { IfOk result (λ t. t ≡ line.now ++ 10 ∷ []) }
-{
-    let Ok(mut bytes) = Vec::from_slice(alloc, line) else {
-        return Err(Memory);
-    };
-    if bytes.push(b'\n').is_err() {
-        return Err(Memory);
-    }
-    Ok(LineText::new(bytes))
+    let text = mail.text_from(alloc, gone as usize)?;
+    Ok((text, count as u64 - gone))
 }

@@ -1,64 +1,98 @@
-//! The scene and the posts after an entry.
-ghost use Rattle.std.specs.Prelude.{◌≡◌, ◌==◌, length, None, Some, IfOk};
+//! What an entry makes: the scene, the seats and the views after it.
+ghost use Rattle.std.specs.Prelude.{◌≡◌, ◌==◌, ◌≤◌, ◌+◌, ℕ, ◌<◌, if◌then◌else◌, length, true, false, None, Some, IfOk, unwrap_or, option_map, slice_get};
+ghost use Rattle.names.specs.declared.token_id.TokenId.{TokenId};
 ghost use Rattle.player_view.specs.Fields.{HasFields};
+ghost use Rattle.player_view.specs.Tables.{HasTables};
+ghost use Rattle.command_effects.specs.Settle.{IsSettled, settled as settled_lem};
+ghost use Rattle.command_looks.specs.Fields.{AreKept, field_for};
+ghost use Rattle.command_looks.specs.Touched.{is_touched, looks_for, looks_of, touched};
+ghost use Rattle.vision.specs.Fields.{field_at};
+ghost use Rattle.view_keep.specs.Kept.{view_at};
 ghost use Rattle.campaign_law.specs.Outcome.{seat_of};
-ghost use Rattle.command_effects.specs.Settle.{IsSettled};
-ghost use Rattle.campaign_law.specs.World.{outcome_of, steps_of, scene_after};
-ghost use Rattle.campaign_law.specs.State.{world_in, state_after};
+ghost use Rattle.campaign_law.specs.World.{outcome_of, steps_of, step, scene_after, mapped_from};
+ghost use Rattle.campaign_law.specs.Worlds.{FitsTogether};
+ghost use Rattle.campaign_law.specs.Session.{changes_state};
+ghost use Rattle.campaign_law.specs.State.{state_after, world_in};
+ghost use Rattle.campaign_core.specs.Places.{law, world_at, put_all, HaveRoom};
+ghost use Rattle.campaign_core.specs.Leaving.{due};
+ghost use Rattle.campaign_core.specs.Sound.{AreSound};
 ghost use Rattle.campaign_law.specs.Law.{answer_of};
 ghost use Rattle.campaign_core.specs.Changed.{IsChanged, scene_in, fields_in};
-ghost use Rattle.campaign_core.specs.Glances.{AreGlances};
+ghost use Rattle.campaign_core.specs.Glances.{AreGlances, ViewsFit};
+ghost use Rattle.campaign_core.specs.Steps.{with_book};
+ghost use Rattle.campaign_core.specs.Prepared.{IsPrepared};
+ghost use Rattle.campaign_core.specs.Shown.{AreShown, is_none, made_or, made_view, view_then};
 
-use crate::outcome::{Outcome, decide, own_seat};
-use crate::queues::{Glances, next_posts};
-use crate::state::{Post, State};
+use crate::outcome::{Outcome, decide};
+use crate::queues::{Glances, NextSeats, next_seats};
+use crate::state::{NextPost, State};
 use campaign_law::{Answer, Entry};
 use command_effects::{scene_by, settle};
-use names::Memory;
-use player_view::fields_of;
+use command_json::Command;
+use command_looks::{Touched, fields_after, serve, touched_by};
+use names::{Memory, SeatNo};
+use seats::SeatBook;
 use std::alloc::Global;
 use topology::Eye;
+use view_keep::Keep;
+use views::View;
 use vision::Fields;
 use world::Scene;
 
-/// A scene that an entry made, with its fields.
+/// A scene that an entry made, and its fields, where they aren't those of the scene before.
 #[derive(Drop)]
 pub(crate) struct Changed {
     pub(crate) scene: Scene,
-    pub(crate) fields: Fields,
+    pub(crate) fields: Option<Fields>,
 }
 
 /// All that an entry makes, before any of it is put in its place.
 #[derive(Drop)]
 pub(crate) struct Prepared {
-    pub(crate) posts: Vec<Post>,
+    pub(crate) nexts: Vec<Option<NextPost>>,
+    pub(crate) views: Vec<Option<View>>,
     pub(crate) changed: Option<Changed>,
     pub(crate) answer: Answer,
 }
 
 /// What the entry makes of the state.
-pub(crate) fn prepare<E: Eye>(
+pub(crate) fn made_by<E: Eye>(
     alloc: Global,
     state: &State,
-    fields: &Fields,
+    keep: &Keep,
     eye: &mut E,
     entry: &Entry,
 ) -> Result<Prepared, Memory>
+    requires fits { FitsTogether (world_at state.now) }
+    requires tables { HasTables state.now.scene }
     requires settled { IsSettled state.now.scene }
-    requires fields { HasFields state.now.scene fields.now }
-    ensures state { IfOk result (λ p. record { posts = p.posts.items; scene = scene_in state.now.scene p.changed } ≡ state_after state.now entry.now) }
-    ensures changed { IfOk result (λ p. IsChanged (world_in state.now) entry.now p.changed) }
-    ensures answer { IfOk result (λ p. p.answer ≡ answer_of (steps_of (world_in state.now) entry.now) (outcome_of (world_in state.now) entry.now)) }
+    requires sound { AreSound (law state.now).posts }
+    requires fields { AreKept state.now.scene keep.now.fields }
+    requires views { AreShown (world_at state.now) keep.now.views }
+    ensures prepared { IfOk result (IsPrepared (law state.now) keep.now entry.now) }
+    ensures looks { E.looks_made eye.new ≤ E.looks_made eye.old + looks_of state.now.scene (outcome_of (world_at state.now) entry.now).done }
 {
-    let (steps, outcome) = decide(alloc, state, entry)?;
-    let changed = changed_scene(alloc, state, eye, entry, &outcome, steps)?;
-    let posts = posts_after(alloc, state, fields, entry, &outcome, &changed)?;
+    let (steps, mut outcome) = decide(alloc, state, entry)?;
+    let changed = changed_scene(alloc, state, keep, eye, entry, &outcome, steps)?;
+    let book = take_book(&mut outcome);
+    let NextSeats { nexts, views } = seats_after(
+        alloc, state, keep, entry, &outcome, book, &changed,
+    )?;
     let answer = told(steps, outcome);
     Ok(Prepared {
-        posts,
+        nexts,
+        views,
         changed,
         answer,
     })
+}
+
+/// Takes the book out of the outcome.
+fn take_book(outcome: &mut Outcome) -> Option<SeatBook>
+    ensures book { result ≡ outcome.old.book }
+    ensures outcome { outcome.new ≡ record outcome.old { book = None } }
+{
+    outcome.book.take()
 }
 
 fn told(steps: u32, mut outcome: Outcome) -> Answer
@@ -72,100 +106,294 @@ fn told(steps: u32, mut outcome: Outcome) -> Answer
     }
 }
 
-/// Puts what an entry made in its place. It takes no memory.
-pub(crate) fn go_on(
-    state: &mut State,
-    fields: &mut Fields,
-    posts: Vec<Post>,
-    changed: Option<Changed>,
-)
-    requires count { length posts.items ≡ length state.old.posts }
-    requires players { (scene_in state.old.scene changed).fog.players ≡ state.old.scene.fog.players }
-    ensures state { state.new ≡ record { posts = posts.items; scene = scene_in state.old.scene changed } }
-    ensures fields { fields.new ≡ fields_in fields.old changed }
+// ---- the scene
+
+/// The fields of a scene that the command made of one with these fields; none, where they are the same.
+fn next_fields<E: Eye>(
+    alloc: Global,
+    scene: &Scene,
+    command: &Command,
+    fields: &Fields,
+    eye: &mut E,
+) -> Result<Option<Fields>, Memory>
+    requires kept { (id : TokenId) → is_touched scene.now.tokens (touched command.now) id ≡ false → field_at id fields.now ≡ field_for scene.now id }
+    ensures fields { IfOk result (λ next. AreKept scene.now (unwrap_or next fields.now)) }
+    ensures looks { E.looks_made eye.new ≤ E.looks_made eye.old + looks_for scene.now.tokens (touched command.now) }
 {
-    match changed {
-        Some(changed) => {
-            state.go_on(posts, Some(changed.scene));
-            *fields = changed.fields;
-        }
-        None => state.go_on(posts, None),
+    let touched = touched_by(command);
+    if let Touched::Nobody = &touched {
+        return Ok(None);
     }
+    Ok(Some(fields_after(alloc, scene, &touched, fields, eye)?))
+}
+
+/// The scene in which what players see is exposed to them.
+fn settled(
+    alloc: Global,
+    mut scene: Scene,
+    next: &Option<Fields>,
+    fields: &Fields,
+) -> Result<Scene, Memory>
+    requires { AreKept scene (unwrap_or next.now fields.now) }
+    ensures { IfOk result (λ s. s ≡ settled_lem scene) }
+{
+    match next {
+        Some(next) => {
+            serve(&scene, next);
+            settle(alloc, &mut scene, next)?;
+        }
+        None => {
+            serve(&scene, fields);
+            settle(alloc, &mut scene, fields)?;
+        }
+    }
+    Ok(scene)
 }
 
 /// The scene after the entry with its fields; none, where the entry leaves it as it is.
 pub(crate) fn changed_scene<E: Eye>(
     alloc: Global,
     state: &State,
+    keep: &Keep,
     eye: &mut E,
     entry: &Entry,
     outcome: &Outcome,
     steps: u32,
 ) -> Result<Option<Changed>, Memory>
+    requires fits { FitsTogether (world_at state.now) }
     requires settled { IsSettled state.now.scene }
-    requires outcome { outcome.now ≡ outcome_of (world_in state.now) entry.now }
-    requires steps { steps ≡ steps_of (world_in state.now) entry.now }
-    ensures { IfOk result (IsChanged (world_in state.now) entry.now) }
+    requires fields { AreKept state.now.scene keep.now.fields }
+    requires outcome { outcome.now ≡ outcome_of (world_at state.now) entry.now }
+    requires steps { steps ≡ steps_of (world_at state.now) entry.now }
+    ensures changed { IfOk result (IsChanged (world_at state.now) entry.now keep.now.fields) }
+    ensures looks { E.looks_made eye.new ≤ E.looks_made eye.old + looks_of state.now.scene (outcome_of (world_at state.now) entry.now).done }
 {
     let Some(command) = &outcome.done else {
         return Ok(None);
     };
     // The state tells with its count of seats that all but the first are the scene's players.
     let _seats = state.seats();
-    let Some(mut scene) = scene_by(alloc, state.scene(), own_seat(entry), command, steps)? else {
+    let before = state.scene();
+    // The scene tells with its maps that its parts fit together.
+    let _maps = before.maps();
+    let Some(scene) = scene_by(alloc, before, entry.seat(), command, steps)? else {
         return Ok(None);
     };
-    let fields = fields_of(alloc, &scene, eye)?;
-    settle(alloc, &mut scene, &fields)?;
+    // The table tells with its length that no id is there twice.
+    let _count = scene.tokens().len();
+    let fields = next_fields(alloc, &scene, command, keep.fields(), eye)?;
+    let scene = settled(alloc, scene, &fields, keep.fields())?;
     Ok(Some(Changed { scene, fields }))
 }
 
-/// The seats' posts after the entry.
-pub(crate) fn posts_after(
+// ---- the seats
+
+/// The seats after the entry.
+pub(crate) fn seats_after(
     alloc: Global,
     state: &State,
-    fields: &Fields,
+    keep: &Keep,
     entry: &Entry,
     outcome: &Outcome,
+    book: Option<SeatBook>,
     changed: &Option<Changed>,
-) -> Result<Vec<Post>, Memory>
-    requires fields { HasFields state.now.scene fields.now }
-    requires outcome { outcome.now ≡ outcome_of (world_in state.now) entry.now }
-    requires changed { IsChanged (world_in state.now) entry.now changed.now }
-    ensures { IfOk result (λ posts. record { posts = posts.items; scene = scene_in state.now.scene changed.now } ≡ state_after state.now entry.now) }
+) -> Result<NextSeats, Memory>
+    requires fits { FitsTogether (world_at state.now) }
+    requires tables { HasTables state.now.scene }
+    requires settled { IsSettled state.now.scene }
+    requires sound { AreSound (law state.now).posts }
+    requires fields { AreKept state.now.scene keep.now.fields }
+    requires views { AreShown (world_at state.now) keep.now.views }
+    requires outcome { with_book outcome.now book ≡ outcome_of (world_at state.now) entry.now }
+    requires changed { IsChanged (world_at state.now) entry.now keep.now.fields changed.now }
+    ensures count { IfOk result (λ n. length n.nexts.items ≡ length state.now.posts) }
+    ensures state { IfOk result (λ n. record { posts = put_all n.nexts.items (law state.now).posts; scene = scene_in state.now.scene changed.now } ≡ state_after (law state.now) entry.now) }
+    ensures views { IfOk result (λ n. n.views.items ≡ mapped_from (λ seat p. made_view (is_none changed.now) (seat_of entry.now == seat) (outcome_of (world_at state.now) entry.now) (scene_after (world_at state.now) entry.now) seat p.seat) 0 state.now.posts) }
 {
-    let glances = glances(state, fields, entry, changed);
-    next_posts(alloc, outcome, own_seat(entry), state.posts(), &glances)
+    let glances = glances(state, keep, entry, changed);
+    next_seats(alloc, outcome, book, entry.seat(), state.posts(), &glances)
 }
 
 /// What is seen before the entry and after it.
 fn glances<'s>(
     state: &'s State,
-    fields: &'s Fields,
+    keep: &'s Keep,
     entry: &Entry,
     changed: &'s Option<Changed>,
 ) -> Glances<'s>
-    requires fields { HasFields state.now.scene fields.now }
-    requires changed { IsChanged (world_in state.now) entry.now changed.now }
+    requires fields { AreKept state.now.scene keep.now.fields }
+    requires changed { IsChanged (world_at state.now) entry.now keep.now.fields changed.now }
+    requires fit { ViewsFit state.now.scene (scene_in state.now.scene changed.now) }
     ensures glances { AreGlances result }
     ensures before { result.before.now ≡ state.now.scene }
+    ensures keep { result.keep.now ≡ keep.now }
     ensures after { result.after.now ≡ scene_in state.now.scene changed.now }
+    ensures same { result.same ≡ is_none changed.now }
 {
     let _entry = entry;
     match changed {
-        Some(changed) => Glances {
-            before: state.scene(),
-            before_fields: fields,
-            after: &changed.scene,
-            after_fields: &changed.fields,
-            same: false,
-        },
-        None => Glances {
-            before: state.scene(),
-            before_fields: fields,
-            after: state.scene(),
-            after_fields: fields,
-            same: true,
-        },
+        Some(changed) => glances_at(state, keep, changed),
+        None => glances_still(state, keep),
+    }
+}
+
+fn glances_still<'s>(state: &'s State, keep: &'s Keep) -> Glances<'s>
+    requires fields { AreKept state.now.scene keep.now.fields }
+    requires fit { ViewsFit state.now.scene state.now.scene }
+    ensures glances { AreGlances result }
+    ensures before { result.before.now ≡ state.now.scene }
+    ensures keep { result.keep.now ≡ keep.now }
+    ensures after { result.after.now ≡ state.now.scene }
+    ensures same { result.same ≡ true }
+{
+    let scene = state.scene();
+    let fields = keep.fields();
+    serve(scene, fields);
+    Glances {
+        before: scene,
+        keep,
+        after: scene,
+        fields,
+        same: true,
+    }
+}
+
+fn glances_at<'s>(state: &'s State, keep: &'s Keep, changed: &'s Changed) -> Glances<'s>
+    requires fields { AreKept changed.now.scene (unwrap_or changed.now.fields keep.now.fields) }
+    requires fit { ViewsFit state.now.scene changed.now.scene }
+    requires players { changed.now.scene.fog.players ≡ state.now.scene.fog.players }
+    ensures glances { AreGlances result }
+    ensures before { result.before.now ≡ state.now.scene }
+    ensures keep { result.keep.now ≡ keep.now }
+    ensures after { result.after.now ≡ changed.now.scene }
+    ensures same { result.same ≡ false }
+{
+    let fields = match &changed.fields {
+        Some(fields) => fields,
+        None => keep.fields(),
+    };
+    serve(&changed.scene, fields);
+    let scene = state.scene();
+    Glances {
+        before: scene,
+        keep,
+        after: &changed.scene,
+        fields,
+        same: false,
+    }
+}
+
+// ---- what is made is put in its place
+
+fn put_made(keep: &mut Keep, seat: SeatNo, made: Option<View>)
+    requires { seat < length keep.old.views }
+    ensures fields { keep.new.fields ≡ keep.old.fields }
+    ensures count { length keep.new.views ≡ length keep.old.views }
+    ensures views { (other : ℕ) → view_at other keep.new.views ≡ (if seat == other then made_or made (view_at other keep.old.views) else view_at other keep.old.views) }
+{
+    if let Some(view) = made {
+        keep.put_view(seat, view);
+    }
+}
+
+/// Puts in the views that were made.
+fn put_views(keep: &mut Keep, views: Vec<Option<View>>)
+    requires count { length views.items ≤ length keep.old.views }
+    requires seats { length keep.old.views ≤ 33 }
+    ensures fields { keep.new.fields ≡ keep.old.fields }
+    ensures count { length keep.new.views ≡ length keep.old.views }
+    ensures views { (seat : ℕ) → view_at seat keep.new.views ≡ view_then views.items keep.old.views seat }
+{
+    let mut number: u8 = 0;
+    for made in views {
+        let Some(seat) = SeatNo::new(number) else {
+            unreachable!();
+        };
+        put_made(keep, seat, made);
+        number += 1;
+    }
+}
+
+/// Puts what an entry made in its place. It takes no memory.
+fn go_on(
+    state: &mut State,
+    keep: &mut Keep,
+    nexts: Vec<Option<NextPost>>,
+    views: Vec<Option<View>>,
+    changed: Option<Changed>,
+)
+    requires count { length nexts.items ≤ length state.old.posts }
+    requires room { HaveRoom nexts.items state.old.posts }
+    requires players { (scene_in state.old.scene changed).fog.players ≡ state.old.scene.fog.players }
+    requires views { length views.items ≤ length keep.old.views }
+    requires seats { length keep.old.views ≤ 33 }
+    ensures state { law state.new ≡ record { posts = put_all nexts.items (law state.old).posts; scene = scene_in state.old.scene changed } }
+    ensures seats { length state.new.posts ≡ length state.old.posts }
+    ensures fields { keep.new.fields ≡ fields_in keep.old.fields changed }
+    ensures count { length keep.new.views ≡ length keep.old.views }
+    ensures views { (seat : ℕ) → view_at seat keep.new.views ≡ view_then views.items keep.old.views seat }
+{
+    put_views(keep, views);
+    match changed {
+        Some(changed) => {
+            state.go_on(nexts, Some(changed.scene));
+            put_fields(keep, changed.fields);
+        }
+        None => state.go_on(nexts, None),
+    }
+}
+
+fn put_fields(keep: &mut Keep, fields: Option<Fields>)
+    ensures { keep.new ≡ record keep.old { fields = unwrap_or fields keep.old.fields } }
+{
+    if let Some(fields) = fields {
+        keep.put_fields(fields);
+    }
+}
+
+/// The entry acts: all that it makes is put in its place. It takes no memory.
+pub(crate) fn act(state: &mut State, keep: &mut Keep, entry: &Entry, prepared: Prepared) -> Answer
+    requires fields { AreKept state.old.scene keep.old.fields }
+    requires count { length keep.old.views ≡ length state.old.posts }
+    requires most { length keep.old.views ≤ 33 }
+    requires room { HaveRoom prepared.nexts.items state.old.posts }
+    requires prepared { IsPrepared (law state.old) keep.old entry.now prepared }
+    ensures state { law state.new ≡ state_after (law state.old) entry.now }
+    ensures seats { length state.new.posts ≡ length state.old.posts }
+    ensures fields { AreKept state.new.scene keep.new.fields }
+    ensures views { AreShown (step (world_in (law state.old)) entry.now) keep.new.views }
+    ensures count { length keep.new.views ≡ length keep.old.views }
+    ensures answer { result ≡ answer_of (steps_of (world_in (law state.old)) entry.now) (outcome_of (world_in (law state.old)) entry.now) }
+{
+    let _entry = entry;
+    let Prepared {
+        nexts,
+        views,
+        changed,
+        answer,
+    } = prepared;
+    go_on(state, keep, nexts, views, changed);
+    answer
+}
+
+/// The entry is a Leave that changes its seat's state. It takes no memory.
+pub(crate) fn leave(state: &mut State, entry: &Entry) -> Answer
+    requires settled { IsSettled state.old.scene }
+    requires sound { AreSound (law state.old).posts }
+    requires moves { changes_state (world_in (law state.old)) entry.now ≡ true }
+    ensures state { law state.new ≡ state_after (law state.old) entry.now }
+    ensures seats { length state.new.posts ≡ length state.old.posts }
+    ensures scene { state.new.scene ≡ state.old.scene }
+    ensures owed { due (law state.new).posts + 1 ≤ due (law state.old).posts }
+    ensures answer { result ≡ answer_of (steps_of (world_in (law state.old)) entry.now) (outcome_of (world_in (law state.old)) entry.now) }
+{
+    match entry {
+        Entry::Leave { seat, drop } => state.leave(*seat, *drop),
+        Entry::Join { .. } | Entry::Line { .. } | Entry::Taken { .. } => unreachable!(),
+    }
+    Answer {
+        refusal: None,
+        taken: 0,
+        line: None,
     }
 }

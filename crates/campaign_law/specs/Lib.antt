@@ -7,3 +7,7 @@ pub mod Session
 pub mod State
 pub mod Player
 pub mod Law
+pub mod SessionLaws
+pub mod Written
+pub mod Worlds
+pub mod Client

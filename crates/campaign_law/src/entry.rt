@@ -15,9 +15,32 @@ pub enum Entry {
         seat: SeatNo,
         bytes: LineText,
     },
+    /// A Joined seat's lines are no longer read. With `drop` the lines that wait for a Joined or a
+    /// Closing seat are dropped, and it becomes Free.
+    Leave {
+        seat: SeatNo,
+        drop: bool,
+    },
     /// The first `count` lines of the seat's session were taken and no longer wait.
     Taken {
         seat: SeatNo,
         count: u64,
     },
+}
+
+impl Entry {
+    ghost use Rattle.std.specs.Prelude.{◌≡◌};
+    ghost use Rattle.campaign_law.specs.Outcome.{seat_of};
+
+    /// The seat whose entry it is.
+    pub fn seat(&self) -> SeatNo
+        ensures { result ≡ seat_of self.now }
+    {
+        match self {
+            Entry::Join { seat, .. } => *seat,
+            Entry::Line { seat, .. } => *seat,
+            Entry::Leave { seat, .. } => *seat,
+            Entry::Taken { seat, .. } => *seat,
+        }
+    }
 }

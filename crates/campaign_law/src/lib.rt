@@ -1,8 +1,12 @@
 //! What a campaign is: entries, their outcomes, the replay, what is sent, and the player machine, which
-//! holds no world. The laws of what players are sent stand on a function.
+//! holds no world. The laws of what players are sent, of one session, of the worlds of a replay and of a client that
+//! reads its lines stand on functions.
 #![tactic(auto)]
 
 ghost use Rattle.campaign_law.specs.Law.{SentIsMachine, AgreeingSendAlike, NoLineEndIsSent, RefusedChangesLittle};
+ghost use Rattle.campaign_law.specs.Client.{LinesTellViews, ClientHoldsView};
+ghost use Rattle.campaign_law.specs.Worlds.{OpeningWorldFits, WorldsFit, MadeTokensAreNew, OpeningSceneHasTables, ScenesHaveTables, OpeningWorldIsWritten, WorldsAreWritten};
+ghost use Rattle.campaign_law.specs.SessionLaws.{AcceptedJoinSeats, LeaveCloses, JoinedSeatStays, LastingSessionIsHeld, HeldSessionLasts, SessionGrows, EndedSessionStays, EndedSessionWasTaken, TakensBoundSession};
 
 mod answer;
 mod entry;
@@ -19,4 +23,47 @@ pub fn sent_is_machine()
     ensures agreeing { AgreeingSendAlike }
     ensures one_line { NoLineEndIsSent }
     ensures refused { RefusedChangesLittle }
+{}
+
+/// The laws of one session, over every opening world and every history. An accepted Join begins one; a Leave closes its
+/// seat, and nothing but a line or a Leave of its own moves a Joined seat. While a session lasts its passes hold the seat, and its
+/// lines are the seat's present ones. In a longer history it has the same lines and further ones behind them, and once its
+/// seat was Free it doesn't change. Where it ends without a Leave that drops lines, the number of lines taken is
+/// the number of its lines.
+pub fn session_laws()
+    ensures begins { AcceptedJoinSeats }
+    ensures leaves { LeaveCloses }
+    ensures joined { JoinedSeatStays }
+    ensures held { LastingSessionIsHeld }
+    ensures lasts { HeldSessionLasts }
+
+    ensures grows { SessionGrows }
+    ensures stays { EndedSessionStays }
+
+    ensures taken { EndedSessionWasTaken }
+    ensures bounded { TakensBoundSession }
+{}
+
+/// The laws of the worlds of a replay. A world that fits together opens to one that does, and so does each world after it: 1 to 33
+/// seats, numbered by their places, of which all but the first are its scene's players, and each token's maker used its
+/// tag. So a token that an accepted command makes is new. The parts of each scene fit together and its tables stay in order.
+/// Names, sizes and keys stay as a campaign text takes them.
+pub fn worlds_fit()
+    ensures opens { OpeningWorldFits }
+    ensures always { WorldsFit }
+    ensures new { MadeTokensAreNew }
+
+    ensures opens_tables { OpeningSceneHasTables }
+    ensures tables { ScenesHaveTables }
+
+    ensures opens_written { OpeningWorldIsWritten }
+    ensures written { WorldsAreWritten }
+{}
+
+/// The laws of a client that reads the lines of its seat, the game master's or a player's. Each line is a reply, a message, or tells the
+/// whole view or the change from the view before. A client that takes the one, and applies the other to the view that it
+/// holds, holds just what its seat is shown after each entry at which the seat is present.
+pub fn client_laws()
+    ensures lines { LinesTellViews }
+    ensures holds { ClientHoldsView }
 {}

@@ -1,6 +1,6 @@
 -- No command takes a map or a type, or changes a map's size.
 use Rattle.std.proofs.Common.{◌≡◌, ℕ, Bool, true, false, cond, List, Option, Some, None, refl, sym, ◌∙◌, ap, ℤ}
-use Rattle.std.specs.Prelude.{option_map, is_some, nat_le}
+use Rattle.std.specs.Prelude.{option_map, is_some}
 use Rattle.std.specs.Ordering.{eq_by_cmp}
 use Rattle.std.specs.Cmp.Lexicographic.{nat_list_cmp_total}
 use Rattle.std.specs.FinMap.Entries.{find-put}
@@ -9,24 +9,20 @@ use Rattle.std.proofs.lemmas.Slice.Eq.{bytes_eq-Decides}
 use Rattle.names.specs.Tag.{tag_cmp}
 use Rattle.names.specs.declared.token_id.TokenId.{TokenId}
 use Rattle.cells.specs.Cells.{Extent}
-use Rattle.maps.specs.Maps.{Grid, map_of, has_map, with_map, new_map, with_mode, shown_if as map_shown_if, with_letters, with_wall_of, without_wall_of}
+use Rattle.maps.specs.Maps.{Grid, map_of, new_map, with_mode, shown_if as map_shown_if, with_letters, with_wall_of, without_wall_of}
 use Rattle.maps.specs.MapFaults.{map_fault}
 use Rattle.maps.specs.declared.map_table.MapFault.TheVariants.{MapExists, MapLimit}
 use Rattle.topology.specs.WallLists.{with_wall, without_wall}
 use Rattle.topology.specs.Order.{wall_between}
 use Rattle.tokens.specs.declared.token.Token.{Token as Made}
-use Rattle.tokens.specs.Tokens.{put, has_token}
 use Rattle.type_table.specs.Types.{type_of, with_type}
-use Rattle.command_json.specs.declared.command.Command.{Command}
-use Rattle.command_json.specs.declared.command.Command.TheVariants.{Move, Make, Map, Mode, Show, Terrain, Wall, Unwall, Lighttype, Sighttype, Token}
+use Rattle.command_json.specs.declared.command.Command.TheVariants.{Move, Map, Mode, Show, Terrain, Wall, Unwall, Lighttype, Sighttype}
 use Rattle.world.specs.Scene.{Scene, with_grid, with_new_map}
 use Rattle.world.specs.Rules.{size_of}
 use Rattle.world.proofs.FogRules.{size_of-changed, size_of-with_map}
 use Rattle.world.proofs.SceneRules.{walls_keep_size}
 use Rattle.player_view.specs.Follows.{Follows}
 use Rattle.command_rules.specs.Places.{coordinate, rect_at, point_at}
-use Rattle.command_effects.specs.Allowed.{IsAllowed}
-use Rattle.command_effects.specs.Making.{new_token, players_token, with_new}
 use Rattle.command_effects.specs.GmEffects.{gm_scene_by, sight_by}
 use Rattle.command_effects.specs.Effects.{own_token, after_steps, scene_by}
 use Rattle.command_effects.specs.Follows.{ScenesFollow}
@@ -88,14 +84,6 @@ still_there name v other types there = ap is_some (find-put tag_cmp nat_list_cmp
 
 -- ---- all commands
 
-new_keeps : (t : Made) (s : Scene) → Follows s (settled (with_new t s))
-unfolding settled
-new_keeps t s = by (has_token t.id s.tokens)
-  where
-    by : (b : Bool) → Follows s (settled (cond b s (record s { tokens = put t s.tokens })))
-    by true = same_tables s _ refl refl refl
-    by false = same_tables s _ refl refl refl
-
 steps_keep : (steps : ℕ) (id : TokenId) (path : List (ℤ × ℤ)) (o : Option Made) (s : Scene) → Follows s (settled (after_steps steps id path o s))
 unfolding settled
 steps_keep steps id path None s = same_tables s _ refl refl refl
@@ -109,8 +97,6 @@ settles s t follows = record { sizes = follows.sizes; lights = follows.lights; s
 pub scenes_follow : ScenesFollow
 unfolding scene_by gm_scene_by settled
 scenes_follow steps seat s (Move token path) allowed = steps_keep steps token path (own_token s seat token) s
-scenes_follow steps seat s (Make tag map place name) allowed = new_keeps (players_token seat tag map place name) s
-scenes_follow steps seat s (Token tag map place name size layer) allowed = new_keeps (new_token seat tag map place name (coordinate size) layer 0) s
 scenes_follow steps seat s (Map name w h) allowed =
     settles s _ (one_map_more s name (record { w = coordinate w; h = coordinate h }) (map_may s seat name w h allowed))
 scenes_follow steps seat s (Mode map mode) allowed = settles s _ (one_grid s map (with_mode mode) (λ m. refl) (λ m. refl))

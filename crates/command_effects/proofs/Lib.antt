@@ -4,4 +4,6 @@ pub mod GmAllowed
 pub mod Allowed
 pub mod GmCommands
 pub mod Players
+pub mod NewTags
+pub mod KeptScenes
 pub mod Following

@@ -1,23 +1,13 @@
 -- No command changes how many players there are.
-use Rattle.std.proofs.Common.{◌≡◌, ℕ, Bool, true, false, cond, List, Some, None, refl, ℤ}
+use Rattle.std.proofs.Common.{◌≡◌, ℕ, List, Some, None, refl, ℤ}
 use Rattle.std.specs.Prelude.{Option}
 use Rattle.names.specs.declared.token_id.TokenId.{TokenId}
 use Rattle.tokens.specs.declared.token.Token.{Token as Made}
-use Rattle.tokens.specs.Tokens.{put, has_token}
 use Rattle.command_json.specs.declared.command.Command.{Command}
-use Rattle.command_json.specs.declared.command.Command.TheVariants.{Move, Make, Token}
+use Rattle.command_json.specs.declared.command.Command.TheVariants.{Move}
 use Rattle.world.specs.Scene.{Scene}
-use Rattle.command_rules.specs.Places.{coordinate}
-use Rattle.command_effects.specs.Making.{new_token, players_token, with_new}
 use Rattle.command_effects.specs.GmEffects.{gm_scene_by}
 use Rattle.command_effects.specs.Effects.{own_token, after_steps, scene_by}
-
-new_keeps : (t : Made) (s : Scene) → (with_new t s).fog.players ≡ s.fog.players
-new_keeps t s = by (has_token t.id s.tokens)
-  where
-    by : (b : Bool) → (cond b s (record s { tokens = put t s.tokens })).fog.players ≡ s.fog.players
-    by true = refl
-    by false = refl
 
 steps_keep : (steps : ℕ) (id : TokenId) (path : List (ℤ × ℤ)) (o : Option Made) (s : Scene) → (after_steps steps id path o s).fog.players ≡ s.fog.players
 steps_keep steps id path None s = refl
@@ -27,6 +17,4 @@ pub players_kept : (steps seat : ℕ) (s : Scene) (c : Option Command) → (scen
 unfolding scene_by gm_scene_by
 players_kept steps seat s None = refl
 players_kept steps seat s (Some (Move token path)) = steps_keep steps token path (own_token s seat token) s
-players_kept steps seat s (Some (Make tag map place name)) = new_keeps (players_token seat tag map place name) s
-players_kept steps seat s (Some (Token tag map place name size layer)) = new_keeps (new_token seat tag map place name (coordinate size) layer 0) s
 players_kept steps seat s (Some c) = refl

@@ -1,5 +1,5 @@
 //! What an accepted command does to the scene.
-ghost use Rattle.std.specs.Prelude.{◌≡◌, ◌≤◌, ◌∷◌, ◌++◌, [], None, Some, IfOk, OnOk, length, true, unwrap_or};
+ghost use Rattle.std.specs.Prelude.{◌≡◌, ◌≤◌, ◌∷◌, ◌++◌, [], None, Some, IfOk, OnOk, length, true, false, unwrap_or};
 ghost use Rattle.std.specs.List.{list_all};
 ghost use Rattle.maps.specs.Maps.{in_order as maps_in_order};
 ghost use Rattle.tokens.specs.Properties.{value_limit};
@@ -10,6 +10,7 @@ ghost use Rattle.command_rules.specs.Places.{fits_at as fits_at_lem, cell_at as 
 ghost use Rattle.command_effects.specs.Making.{players_token, with_new as with_new_lem};
 ghost use Rattle.command_effects.specs.Effects.{eye_at as eye_at_lem, eyes_along as eyes_along_lem, free_steps as free_steps_lem, steps_with as steps_with_lem, steps_by as steps_by_lem, own_token, cell_after as cell_after_lem, after_steps as after_steps_lem, scene_by as scene_by_lem};
 ghost use Rattle.command_effects.specs.Allowed.{IsAllowed, MayMove, MaySet, MayStand};
+ghost use Rattle.command_effects.specs.Tags.{MakesNew};
 
 use crate::gm_effects::gm_scene_by;
 use crate::making::{cell_on, new_token, with_new};
@@ -73,7 +74,8 @@ fn free_steps(
 ) -> Result<usize, Memory>
     requires start { fits map.now.walls.extent token.now.cell token.now.size ≡ true }
     requires path { list_all (fits_at_lem map.now.walls.extent token.now.size) path.now ≡ true }
-    ensures { IfOk result (λ n. n ≡ free_steps_lem map.now.walls token.now.size token.now.cell path.now) }
+    ensures value { IfOk result (λ n. n ≡ free_steps_lem map.now.walls token.now.size token.now.cell path.now) }
+    ensures most { IfOk result (λ n. n ≤ length path.now) }
 {
     let eyes = eyes_along(alloc, map, token, path)?;
     Ok(map.walls().first_block(&eyes).unwrap_or(path.len()))
@@ -105,7 +107,8 @@ fn move_steps(
     path: &CellPath,
 ) -> Result<usize, Memory>
     requires { MayMove scene.now seat token path.now }
-    ensures { IfOk result (λ n. n ≡ steps_with_lem scene.now seat path.now (own_token scene.now seat token)) }
+    ensures value { IfOk result (λ n. n ≡ steps_with_lem scene.now seat path.now (own_token scene.now seat token)) }
+    ensures most { IfOk result (λ n. n ≤ length path.now) }
 {
     let Some(token) = mine(scene, seat, token) else {
         unreachable!();
@@ -195,6 +198,7 @@ fn with_players_token(
     place: (i32, i32),
     name: &Text,
 ) -> Result<Scene, Memory>
+    requires absent { has_token (record { maker = seat; tag = tag.now }) scene.now.tokens ≡ false }
     requires stands { MayStand scene.now map.now 1 place }
     requires player { is_player scene.now.fog.players seat ≡ true }
     ensures { IfOk result (λ s. s ≡ with_new_lem (players_token seat tag.now map.now place name.now) scene.now) }
@@ -234,16 +238,15 @@ pub fn steps_by(
     let _told = told(scene);
     match command {
         Command::Move { token, path } => {
-            match u32::try_from(move_steps(alloc, scene, seat, *token, path)?) {
-                Ok(steps) => Ok(steps),
-                Err(_) => Err(Memory),
-            }
+            // A path has 64 cells at most.
+            Ok(move_steps(alloc, scene, seat, *token, path)? as u32)
         }
         _ => Ok(0),
     }
 }
 
-/// The scene after an accepted command; none, where the command leaves it as it is.
+/// The scene after an accepted command; none, where the command leaves it as it is. A token that it makes is new, since
+/// its maker hasn't used its tag.
 #[tactic(auto, unfolding(crate::specs::Effects::scene_by))]
 pub fn scene_by(
     alloc: Global,
@@ -253,6 +256,7 @@ pub fn scene_by(
     steps: u32,
 ) -> Result<Option<Scene>, Memory>
     requires allowed { IsAllowed scene.now seat command.now }
+    requires new { MakesNew scene.now seat command.now }
     requires seat { seat ≤ scene.now.fog.players }
     ensures { IfOk result (λ after. unwrap_or after scene.now ≡ scene_by_lem steps seat scene.now (Some command.now)) }
 {

@@ -17,6 +17,7 @@ ghost use Rattle.command_rules.specs.Places.{cell_at as cell_at_lem, coordinate 
 ghost use Rattle.command_effects.specs.Making.{new_token as new_token_lem, with_new as with_new_lem};
 ghost use Rattle.command_effects.specs.GmEffects.{gm_scene_by as gm_scene_by_lem, sight_by, with_fog};
 ghost use Rattle.command_effects.specs.Allowed.{IsAllowed, MayFill, MayPlace, MayStand, MayWall};
+ghost use Rattle.command_effects.specs.Tags.{MakesNew};
 
 use crate::effects::with_prop;
 use crate::making::{cell_on, new_token, with_new};
@@ -216,7 +217,8 @@ fn with_gm_token(
     size: u8,
     layer: Layer,
 ) -> Result<Scene, Memory>
-    requires { MayStand scene.now map.now size place }
+    requires absent { has_token (record { maker = seat; tag = tag.now }) scene.now.tokens ≡ false }
+    requires stands { MayStand scene.now map.now size place }
     ensures { IfOk result (λ s. s ≡ with_new_lem (new_token_lem seat tag.now map.now place name.now size layer 0) scene.now) }
 {
     let id = TokenId {
@@ -324,7 +326,8 @@ pub(crate) fn gm_scene_by(
     seat: SeatNo,
     command: &Command,
 ) -> Result<Option<Scene>, Memory>
-    requires { IsAllowed scene.now seat command.now }
+    requires allowed { IsAllowed scene.now seat command.now }
+    requires new { MakesNew scene.now seat command.now }
     ensures { IfOk result (λ after. unwrap_or after scene.now ≡ gm_scene_by_lem seat scene.now command.now) }
 {
     match command {

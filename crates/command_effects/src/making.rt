@@ -1,5 +1,6 @@
 //! New tokens.
-ghost use Rattle.std.specs.Prelude.{◌≡◌, [], None, IfOk, true};
+ghost use Rattle.std.specs.Prelude.{◌≡◌, [], None, IfOk, true, false};
+ghost use Rattle.tokens.specs.Tokens.{has_token};
 ghost use Rattle.world.specs.Rules.{belongs};
 ghost use Rattle.command_rules.specs.Places.{cell_at as cell_at_lem};
 ghost use Rattle.command_effects.specs.Making.{with_new as with_new_lem};
@@ -53,15 +54,13 @@ pub(crate) fn new_token(
     })
 }
 
-/// The scene with the token, unless one of its id is there.
+/// The scene with the token, which is new and belongs there.
 pub(crate) fn with_new(scene: &Scene, token: Token) -> Result<Scene, Memory>
-    requires { belongs scene.now token ≡ true }
+    requires absent { has_token token.id scene.now.tokens ≡ false }
+    requires fitting { belongs scene.now token ≡ true }
     ensures { IfOk result (λ s. s ≡ with_new_lem token scene.now) }
 {
     let mut after = scene.copy()?;
-    if scene.tokens().get(token.id).is_some() {
-        return Ok(after);
-    }
     match after.make(token) {
         Ok(()) => Ok(after),
         Err(_) => Err(Memory),

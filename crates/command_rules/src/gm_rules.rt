@@ -17,7 +17,7 @@ use command_json::Command;
 use lights::LightFault;
 use maps::{GridMap, MapFault};
 use names::{SeatNo, Tag, TokenId, WallKind};
-use seats::SeatBook;
+use seats::{SeatBook, most_tags};
 use sight_types::SightFault;
 use topology::{WallFault, Walls};
 use world::Scene;
@@ -191,13 +191,14 @@ fn sight_type_rule(scene: &Scene, name: Tag, range: i32, night: i32, mult: i32) 
 
 // ---- tokens
 
-/// The game master, who has this book, may still use the tag.
-fn tag_rule(book: &SeatBook, tag: Tag) -> Option<Refusal>
+/// The game master, whose seat this is and who has this book, may still use the tag.
+fn tag_rule(seat: SeatNo, book: &SeatBook, tag: Tag) -> Option<Refusal>
+    requires { seat ≡ 0 }
     ensures { result ≡ tag_rule_lem book.now.tags tag }
 {
     if book.has_tag(tag) {
         Some(Refusal::IdUsed)
-    } else if book.tag_count() >= 2048 {
+    } else if book.tag_count() >= most_tags(seat) {
         Some(Refusal::TokenLimit)
     } else {
         None
@@ -205,32 +206,36 @@ fn tag_rule(book: &SeatBook, tag: Tag) -> Option<Refusal>
 }
 
 fn new_token_rule(
+    seat: SeatNo,
     book: &SeatBook,
     tag: Tag,
     side: u32,
     place: (i32, i32),
     map: &GridMap,
 ) -> Option<Refusal>
+    requires { seat ≡ 0 }
     ensures { result ≡ new_token_rule_lem book.now.tags tag side place map.now }
 {
     match square_rule(side, place, map) {
         Some(refusal) => Some(refusal),
-        None => tag_rule(book, tag),
+        None => tag_rule(seat, book, tag),
     }
 }
 
 fn make_rule(
     scene: &Scene,
+    seat: SeatNo,
     book: &SeatBook,
     tag: Tag,
     map: Tag,
     place: (i32, i32),
     size: i32,
 ) -> Option<Refusal>
+    requires { seat ≡ 0 }
     ensures { result ≡ map_rule (new_token_rule_lem book.now.tags tag (coordinate_lem size) place) (map_of map scene.now.maps) }
 {
     match scene.maps().get(map) {
-        Some(map) => new_token_rule(book, tag, coordinate(size), place, map),
+        Some(map) => new_token_rule(seat, book, tag, coordinate(size), place, map),
         None => Some(Refusal::NoSuchMap),
     }
 }
@@ -328,9 +333,15 @@ fn fog_rule(scene: &Scene, seat: SeatNo, map: Tag, rect: (i32, i32, i32, i32)) -
 
 // ---- all commands
 
-/// The first broken rule of a command of the game master, who has this book.
+/// The first broken rule of a command of the game master, whose seat this is and who has this book.
 #[tactic(auto, unfolding(crate::specs::GmRules::gm_rule))]
-pub(crate) fn gm_rule(scene: &Scene, book: &SeatBook, command: &Command) -> Option<Refusal>
+pub(crate) fn gm_rule(
+    scene: &Scene,
+    seat: SeatNo,
+    book: &SeatBook,
+    command: &Command,
+) -> Option<Refusal>
+    requires { seat ≡ 0 }
     ensures { result ≡ gm_rule_lem scene.now book.now.tags command.now }
 {
     match command {
@@ -353,7 +364,7 @@ pub(crate) fn gm_rule(scene: &Scene, book: &SeatBook, command: &Command) -> Opti
             cell,
             size,
             ..
-        } => make_rule(scene, book, *tag, *map, *cell, *size),
+        } => make_rule(scene, seat, book, *tag, *map, *cell, *size),
         Command::Own { token, seat, .. } => own_rule(scene, *token, *seat),
         Command::Layer { token, .. } => some_token_rule(scene, *token),
         Command::Visible { token, .. } => some_token_rule(scene, *token),

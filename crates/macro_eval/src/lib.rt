@@ -28,7 +28,7 @@ pub use outcome::{Intents, Outcome};
 pub use readable::Readable;
 pub use runs::run;
 pub use stop::{FaultKind, MacroStop};
-pub use texts::Texts;
+pub use names::Texts;
 
 #[cfg(test)]
 mod tests;

@@ -18,12 +18,12 @@ use crate::operators::{number, shown};
 use crate::setting::Setting;
 use crate::state::State;
 use crate::stop::{FaultKind, MacroStop, fault};
-use crate::texts::{Texts, joined, keep};
+use crate::texts::{joined, keep};
 use crate::value::Value;
 use crate::way::Way;
 use chat::To;
 use macro_parse::{Address, Branch, Options};
-use names::{SeatNo, Text};
+use names::{SeatNo, Text, Texts};
 
 /// How often a statement is evaluated at most.
 const MOST_TIMES: u32 = 1000;

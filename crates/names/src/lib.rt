@@ -18,7 +18,7 @@ pub use letters::is_letter;
 pub use memory::Memory;
 pub use seat_no::SeatNo;
 pub use tags::{BadTag, Tag};
-pub use texts::{LineText, Text};
+pub use texts::{LineText, Text, Texts};
 pub use token_id::TokenId;
 
 #[cfg(test)]

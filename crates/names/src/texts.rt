@@ -106,3 +106,24 @@ impl Clone for Text {
         })
     }
 }
+
+/// Texts, in order. Contracts see the list of their bytes.
+#[derive(Drop)]
+pub struct Texts {
+    pub list: Vec<Text>,
+}
+
+impl Model for Texts {
+    ghost Value = { List (List ℕ) };
+
+    ghost view = { λ t. t.list.items };
+}
+
+impl Texts {
+    /// The texts, in order.
+    pub fn texts(&self) -> &[Text]
+        ensures { result.now ≡ self.now }
+    {
+        self.list.as_slice()
+    }
+}

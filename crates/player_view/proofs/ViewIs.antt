@@ -45,7 +45,7 @@ each_map_there s are =
     λ k d h.
     let m : Grid = get_or s.maps k d in
     sym (at-find tag_cmp (λ g. g.name) m.name (λ g. bytes_eq g.name m.name) (λ g. tag_ties_turned m.name g.name) s.maps)
-    ∙ each_found tag_cmp (λ g. g.name) tag_total s.maps are.maps.ordered k d h
+    ∙ each_found tag_cmp (λ g. g.name) tag_total s.maps are.maps k d h
 
 player : (seats q : ℕ) → is_gm q ≡ false → q ≤ seats → is_player seats q ≡ true
 player seats q e h = both (nat_le 1 q) (nat_le q seats) (grind (arith, nat_tests)) (grind (arith, nat_tests))
@@ -113,7 +113,7 @@ pub map_in_view : (s : Scene) (q : ℕ) (name : List ℕ) → HasTables s
     → find (λ v. bytes_eq v.name name) (map (map_view s q) (filter (has_map q) s.maps)) ≡ option_map (map_view s q) (kept (has_map q) (map_of name s.maps))
 map_in_view s q name are =
     find-map-filter (λ v. bytes_eq v.name name) (map_view s q) (has_map q) (λ m. has_map q m && has_name name m) (λ m. refl) s.maps
-    ∙ ap (option_map (map_view s q)) (find-both (has_map q) name s.maps are.maps.ordered)
+    ∙ ap (option_map (map_view s q)) (find-both (has_map q) name s.maps are.maps)
 
 shown_map : (s : Scene) (q : ℕ) (t : Token) → IsShown s q t → IsShownMap s t.map
 shown_map s q t (inl own) = own.map
@@ -158,13 +158,13 @@ token_is s q t are on shown = record {
 
 -- ---- the whole
 
-view_is : (s : Scene) (q : ℕ) → HasTables s → q ≤ s.fog.players → IsView (view_of s q)
+pub view_is : (s : Scene) (q : ℕ) → HasTables s → q ≤ s.fog.players → IsView (view_of s q)
 unfolding view_of
 view_is s q are seat = record {
-  lights = in_order-map tag_cmp (λ l. l.0) name_of light_text (λ l. refl) s.lights ∙ in_order-entries tag_cmp s.lights ∙ are.lights.table.in_order;
-  sights = in_order-map tag_cmp (λ l. l.0) name_of sight_text (λ l. refl) s.sights ∙ in_order-entries tag_cmp s.sights ∙ are.sights.table.in_order;
+  lights = in_order-map tag_cmp (λ l. l.0) name_of light_text (λ l. refl) s.lights ∙ in_order-entries tag_cmp s.lights ∙ are.lights;
+  sights = in_order-map tag_cmp (λ l. l.0) name_of sight_text (λ l. refl) s.sights ∙ in_order-entries tag_cmp s.sights ∙ are.sights;
   maps = in_order-map tag_cmp (λ g. g.name) map_name (map_view s q) (λ m. refl) (filter (has_map q) s.maps)
-      ∙ in_order-filter tag_cmp (λ g. g.name) (has_map q) s.maps are.maps.ordered;
+      ∙ in_order-filter tag_cmp (λ g. g.name) (has_map q) s.maps are.maps;
   tokens = in_order-map id_cmp (λ t. t.id) token_id (token_view s q) (λ t. refl) (filter (has_token s q) s.tokens)
       ∙ in_order-filter id_cmp (λ t. t.id) (has_token s q) s.tokens are.tokens;
   each_map = All-map (IsMapView (is_gm q)) (map_view s q) (filter (has_map q) s.maps)

@@ -2,7 +2,6 @@
 ghost use Rattle.std.specs.Prelude.{◌≡◌, ◌<◌, ◌==◌, length, IfOk, Ok, Some};
 ghost use Rattle.command_json.specs.Commands.{command_of};
 ghost use Rattle.campaign_law.specs.Law.{world_of};
-ghost use Rattle.campaign_law.specs.Outcome.{seat_of as seat_of_lem};
 ghost use Rattle.campaign_law.specs.Seat.{was_joined};
 ghost use Rattle.campaign_law.specs.World.{seat_at};
 ghost use Rattle.script_play.specs.Script.{entry_of as entry_of_lem, entry_of_line as entry_of_line_lem, joining_key as joining_key_lem, hello_part, key_for};
@@ -37,17 +36,6 @@ pub(crate) fn entry_of_line<E: Eye + Drop>(
     match entry_of(alloc, campaign, seat, bytes) {
         Ok(entry) => Ok(Some(entry)),
         Err(_) => Err(Memory),
-    }
-}
-
-/// The seat of an entry.
-pub(crate) fn seat_of(entry: &Entry) -> SeatNo
-    ensures { result ≡ seat_of_lem entry.now }
-{
-    match entry {
-        Entry::Join { seat, .. } => *seat,
-        Entry::Line { seat, .. } => *seat,
-        Entry::Taken { seat, .. } => *seat,
     }
 }
 

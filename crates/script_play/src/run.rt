@@ -7,7 +7,7 @@ ghost use Rattle.campaign_law.specs.Law.{IsOpening, IsSentAsMachine, world_of};
 ghost use Rattle.script_play.specs.Script.{NothingWaits, script_from, script_of, takens, with_takens};
 ghost use Rattle.script_play.specs.Played.{GoesOn, HasEntered, HasRead, HasWritten, Writes, LeavesNothing, IsPrefix, IsOfLine, IsCutShort, IsLineStop, entries_since, played};
 
-use crate::entries::{entry_of_line, seat_of};
+use crate::entries::entry_of_line;
 use crate::sending::send_all;
 use campaign_core::Campaign;
 use campaign_law::Entry;
@@ -196,7 +196,7 @@ fn enter<O: Sink, E: Eye + Drop>(
     ensures count { O.faults_of out.old ≤ O.faults_of out.new }
     ensures write_fault { played result ≡ Played.WriteFault → CountRose (O.faults_of out.old) (O.faults_of out.new) }
 {
-    let acting = seat_of(&entry);
+    let acting = entry.seat();
     match campaign.step(entry) {
         Ok(answer) => send_all(alloc, campaign, acting, &answer.line, out),
         Err(_) => Err(Played::Memory),

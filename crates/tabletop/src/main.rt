@@ -3,6 +3,8 @@
 
 mod endings;
 #[cfg(test)]
+mod look_tests;
+#[cfg(test)]
 mod tests;
 mod top;
 mod words;

@@ -1,6 +1,7 @@
-use Rattle.std.proofs.Common.{subst}
+use Rattle.std.proofs.Common.{ap, subst}
 use Rattle.command_json.specs.declared.command.Command.{Command}
 use Rattle.command_effects.specs.Allowed.{IsAllowed}
+use Rattle.command_effects.specs.Tags.{tag_made}
 use Rattle.command_effects.proofs.Moves.{may_move}
 use Rattle.command_effects.proofs.Allowed.{may_set, may_light, may_make, makes_as_player}
 use Rattle.command_effects.proofs.effects.scene_by.Goals as goal
@@ -13,6 +14,9 @@ with_light-requires-clause-there c = (may_light c.args.scene.now c.args.seat c.i
 
 pub with_light-requires-clause-known : goal.with_light-requires-clause-known
 with_light-requires-clause-known c = (may_light c.args.scene.now c.args.seat c.in-Light.token c.in-Light.light c.told-told.ensures.tokens (subst (λ (command : Command). IsAllowed c.args.scene.now c.args.seat command) c.in-Light.is c.requires.allowed)).1
+
+pub with_players_token-requires-clause-absent : goal.with_players_token-requires-clause-absent
+with_players_token-requires-clause-absent c = c.requires.new c.in-Make.tag (ap tag_made c.in-Make.is)
 
 pub with_players_token-requires-clause-stands : goal.with_players_token-requires-clause-stands
 with_players_token-requires-clause-stands c = may_make c.args.scene.now c.args.seat c.in-Make.tag c.in-Make.map c.in-Make.cell c.in-Make.name c.told-told.ensures.maps (subst (λ (command : Command). IsAllowed c.args.scene.now c.args.seat command) c.in-Make.is c.requires.allowed)

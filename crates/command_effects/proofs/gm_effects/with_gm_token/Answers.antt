@@ -1,12 +1,16 @@
 use Rattle.std.proofs.Common.{◌∙◌, sym, ap, subst}
 use Rattle.tokens.specs.declared.token.Token.{Token}
+use Rattle.tokens.specs.Tokens.{has_token}
 use Rattle.command_effects.specs.Allowed.{MayStand}
 use Rattle.command_effects.proofs.Allowed.{gm_token_belongs}
 use Rattle.command_effects.proofs.gm_effects.with_gm_token.Goals as goal
 
-pub with_new-requires : goal.with_new-requires
-with_new-requires c = gm_token_belongs c.args.scene.now c.in_ok-token.token c.args.place
-    (subst (λ (t : Token). MayStand c.args.scene.now t.map t.size c.args.place) (sym c.in_ok-token.ensures) c.requires)
+pub with_new-requires-clause-absent : goal.with_new-requires-clause-absent
+with_new-requires-clause-absent c = ap (λ (t : Token). has_token t.id c.args.scene.now.tokens) c.in_ok-token.ensures ∙ c.requires.absent
+
+pub with_new-requires-clause-fitting : goal.with_new-requires-clause-fitting
+with_new-requires-clause-fitting c = gm_token_belongs c.args.scene.now c.in_ok-token.token c.args.place
+    (subst (λ (t : Token). MayStand c.args.scene.now t.map t.size c.args.place) (sym c.in_ok-token.ensures) c.requires.stands)
     (ap (λ (t : Token). t.cell) c.in_ok-token.ensures ∙ c.cell_on-cell.ensures)
     (ap (λ (t : Token). t.sight) c.in_ok-token.ensures)
     (ap (λ (t : Token). t.light) c.in_ok-token.ensures)

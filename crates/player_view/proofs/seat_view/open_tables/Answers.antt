@@ -1,15 +1,15 @@
 use Rattle.std.proofs.Common.{subst, ◌≡◌, true}
-use Rattle.lights.specs.Lights.{AreLights}
-use Rattle.maps.specs.Maps.{AreMaps}
-use Rattle.sight_types.specs.Sights.{AreSightTypes}
+use Rattle.std.specs.FinMap.Entries.{is_sorted}
+use Rattle.names.specs.Tag.{tag_cmp}
+use Rattle.maps.specs.Maps.{in_order as maps_in_order}
 use Rattle.tokens.specs.Tokens.{in_order}
 use Rattle.player_view.proofs.seat_view.open_tables.Goals as goal
 
 pub returns : goal.returns
 returns c = record {
   fitting = c.maps.ensures.fitting;
-  maps = subst AreMaps c.maps.ensures.value c.len-maps.ensures.valid;
+  maps = subst (λ maps. maps_in_order maps ≡ true) c.maps.ensures.value c.len-maps.ensures.valid.ordered;
   tokens = subst (λ tokens. in_order tokens ≡ true) c.tokens.ensures.value c.len-tokens.ensures.ordered;
-  lights = subst AreLights c.lights.ensures.value c.len-lights.ensures.valid;
-  sights = subst AreSightTypes c.sights.ensures.value c.len-sights.ensures.valid;
+  lights = subst (λ lights. is_sorted tag_cmp lights ≡ true) c.lights.ensures.value c.len-lights.ensures.valid.table.in_order;
+  sights = subst (λ sights. is_sorted tag_cmp sights ≡ true) c.sights.ensures.value c.len-sights.ensures.valid.table.in_order;
 }

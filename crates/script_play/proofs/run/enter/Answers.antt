@@ -9,8 +9,8 @@ use Rattle.script_play.proofs.run.enter.Goals as goal
 
 pub returns-in-Ok-clause-written : goal.returns-in-Ok-clause-written
 returns-in-Ok-clause-written g c =
-    entered_written c.send_all.result c.args.campaign.now c.step.new.self c.args.entry c.seat_of-acting.result c.in-Ok.answer.line _ _
-    c.in-Ok.ensures.origin c.in-Ok.ensures.history c.requires.opening c.requires.line c.requires.quiet c.send_all.ensures.few c.seat_of-acting.ensures
+    entered_written c.send_all.result c.args.campaign.now c.step.new.self c.args.entry c.seat-acting.result c.in-Ok.answer.line _ _
+    c.in-Ok.ensures.origin c.in-Ok.ensures.history c.requires.opening c.requires.line c.requires.quiet c.send_all.ensures.few c.seat-acting.ensures
     (ap (λ (a : Answer). a.line) c.in-Ok.ensures.answer) c.send_all.ensures.sends
 
 pub returns-clause-stopped : goal.returns-clause-stopped

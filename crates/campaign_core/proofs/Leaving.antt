@@ -1,0 +1,286 @@
+-- A Leave changes the post of its seat alone, and needs one place of those that are kept for it.
+use Rattle.std.proofs.Common.{◌≡◌, ◌≢◌, ◌≤◌, ◌<◌, ℕ, zero, suc, ◌+◌, ◌-◌, ◌*◌, Bool, true, false, cond, ◌||◌, ◌&&◌, ◌++◌, eqb, List, [], ◌∷◌, length, map, drop, set, Some, None, refl, sym, ◌∙◌, ap, subst, arith, zero-add, add-zero, eq-eqb, eqb-true, max, min}
+use Rattle.std.specs.Prelude.{Option, option_map, slice_get, IfSome, unwrap_or}
+use Rattle.std.proofs.lemmas.Bool.Decides.{nat_tests}
+use Rattle.std.proofs.lemmas.List.{length-drop}
+use Rattle.std.proofs.lemmas.Option.{slice_get-get_or, slice_get_past, slice_get-map}
+use Rattle.std.specs.List.{ItemBy, AllByRecursion}
+use Rattle.seats.specs.SeatState.{is_free, is_joined, is_closing, closed}
+use Rattle.seats.specs.declared.seat_state.SeatState.{SeatState}
+use Rattle.seats.specs.declared.seat_state.SeatState.TheVariants.{Free, Joined, Closing}
+use Rattle.views.specs.declared.view.View.{View}
+use Rattle.player_view.specs.View.{view_of}
+use Rattle.command_effects.specs.Settle.{IsSettled}
+use Rattle.player_view.specs.Asked.{Asked}
+use Rattle.campaign_law.specs.declared.entry.Entry.{Entry}
+use Rattle.campaign_law.specs.declared.entry.Entry.TheVariants.{Leave}
+use Rattle.campaign_law.specs.Seat.{Seat, IsFreshSeat, freed_seat, is_let_go, let_go, settled, taken_to}
+use Rattle.campaign_law.specs.Outcome.{Outcome, nothing, outcome_at, seat_of}
+use Rattle.campaign_law.specs.World.{World, seat_at, asked_of, steps_of, outcome_of, changed, addressed, view_lines, some_to_list, is_present, queued_reply, queued_lines, scene_after, mapped_from, replay}
+use Rattle.campaign_law.specs.Session.{session, leaves, standing, changes_state}
+use Rattle.campaign_law.specs.State.{Post, State, world_in, post_by, post_after, mail_after, state_after, state_of}
+use Rattle.campaign_law.specs.Law.{IsOpening, answer_of}
+use Rattle.campaign_law.proofs.Lists.{ap₂, append_nil, length-mapped_from, mapped_from-same, mapped_from-itself}
+use Rattle.campaign_law.proofs.Seats.{settled-free, settled-none}
+use Rattle.campaign_law.proofs.Sessions.{kept_at, IsKept, world_in-state_of}
+use Rattle.campaign_law.proofs.States.{post_found, slice_get-state_of}
+use Rattle.campaign_law.proofs.Settled.{scene_stays, replay_settled}
+use Rattle.campaign_law.proofs.Views.{same_no_change}
+use Rattle.campaign_core.specs.Places.{Place, posted}
+use Rattle.campaign_core.proofs.Nexts.{no_steps}
+use Rattle.campaign_core.specs.Sound.{IsSound, AreSound}
+use Rattle.campaign_core.specs.Leaving.{mail_of, left_book, left_seat, left_post, left_posts, due_of, due}
+
+-- ---- a post between entries
+
+none_of : {A : Type 0} (xs : List A) → length xs ≡ 0 → xs ≡ []
+none_of [] h = refl
+none_of (x ∷ xs) h = cc
+
+free_queued : (s : Seat) → settled 0 s ≡ s → is_free s.book.state ≡ true → s.queued ≡ 0
+free_queued s is free = ap (λ (x : Seat). x.queued) (sym is ∙ settled-free 0 s free)
+
+-- nothing waits for a Free seat
+pub free_mail : (post : Post) → IsSound post → is_free post.seat.book.state ≡ true → post.mail ≡ []
+free_mail post sound free =
+    let none : post.seat.queued ≡ 0 = free_queued post.seat sound.settled free in
+    let count = sound.mail in
+    none_of post.mail (omega (arith, none, count))
+
+pub own_mail : (post : Post) → IsSound post → mail_of post.seat post.mail ≡ post.mail
+own_mail post sound = by_free (is_free post.seat.book.state) refl
+  where
+    by_free : (free : Bool) → is_free post.seat.book.state ≡ free → cond free [] post.mail ≡ post.mail
+    by_free true is = sym (free_mail post sound is)
+    by_free false is = refl
+
+pub replayed_sound : (w : World) (h : List Entry) (state : State) → IsOpening w → state ≡ state_of w h → AreSound state.posts
+replayed_sound w h state opening is p post at =
+    let there = post_found w h p post state is (sym at) in
+    let kept : IsKept (session w h p) post.seat = subst (λ o. IfSome o (IsKept (session w h p))) (sym there.seat_is) (kept_at w h p opening) in
+    let count = kept.count in
+    record {
+      settled = kept.sound.settled;
+      taken = kept.sound.taken;
+      mail = ap length there.mail_is ∙ length-drop post.seat.taken (session w h p) ∙ ap (λ n. n - post.seat.taken) count;
+    }
+
+-- ---- a seat that neither acts nor gets a line
+
+-- what it is after n lines, of which none is queued
+pub rests : (seat : ℕ) (o : Outcome) (v v' : View) (post : Post) → IsSound post → queued_lines seat false (Some post.seat) o v v' ≡ [] → post_by seat false o v v' post ≡ post
+rests seat o v v' post sound none =
+    (λ i. record { seat = settled (length (none i)) post.seat; mail = mail_after post.seat (settled (length (none i)) post.seat) (none i) post.mail })
+    ∙ (λ i. record { seat = sound.settled i; mail = mail_after post.seat (sound.settled i) [] post.mail })
+    ∙ ap (λ mail. record { seat = post.seat; mail = mail }) (still ∙ own_mail post sound)
+  where
+    still : mail_after post.seat post.seat [] post.mail ≡ mail_of post.seat post.mail
+    still = ap (λ n. cond (is_free post.seat.book.state) [] (drop n post.mail ++ [])) (let z : post.seat.taken - post.seat.taken ≡ 0 = omega arith in z) ∙ ap (λ l. cond (is_free post.seat.book.state) [] l) (append_nil post.mail)
+
+-- ---- a Leave
+
+abbrev leaving : Bool → Seat → Outcome
+leaving drop s = record nothing { book = Some (left_book drop s.book) }
+
+quiet : (seat : ℕ) (v : View) (present : Bool) (full : Bool) → full ≡ false → cond present (addressed seat [] ++ view_lines full v v) [] ≡ []
+unfolding addressed
+quiet seat v true true h = cc
+quiet seat v true false h = ap some_to_list (same_no_change v)
+quiet seat v false full h = refl
+
+and_no : (b : Bool) → (b && false) ≡ false
+and_no true = refl
+and_no false = refl
+
+no_lines : (seat : ℕ) (acts : Bool) (drop : Bool) (t : Seat) (s : Seat) (v : View) → queued_lines seat acts (Some s) (leaving drop t) v v ≡ []
+no_lines seat true drop t s v = quiet seat v (is_present true (Some s) (leaving drop t)) false refl
+no_lines seat false drop t s v = quiet seat v (is_present false (Some s) (leaving drop t)) false refl
+
+same_taken : (s : Seat) → taken_to 0 s.queued s.taken ≡ s.taken
+same_taken s = omega arith
+
+pub own_leaves : (seat : ℕ) (drop : Bool) (v : View) (post : Post) → post_by seat true (leaving drop post.seat) v v post ≡ left_post drop post
+own_leaves seat drop_it v post =
+    (λ i. let next = settled (length (no_lines seat true drop_it post.seat post.seat v i)) (record { book = left_book drop_it post.seat.book; queued = post.seat.queued; taken = same_taken post.seat i }) in
+    record { seat = next; mail = mail_after post.seat next (no_lines seat true drop_it post.seat post.seat v i) post.mail })
+    ∙ (λ i. let next = settled-none (record post.seat { book = left_book drop_it post.seat.book }) i in record { seat = next; mail = mail_after post.seat next [] post.mail })
+    ∙ ap (λ mail. record { seat = left_seat drop_it post.seat; mail = mail }) (waits (is_let_go left) refl)
+  where
+    left : Seat
+    left = record post.seat { book = left_book drop_it post.seat.book }
+
+    waits : (t : Bool) → is_let_go left ≡ t → mail_after post.seat (cond t (freed_seat left) left) [] post.mail ≡ mail_of (cond t (freed_seat left) left) post.mail
+    waits true is = refl
+    waits false is =
+        ap (λ n. cond (is_free left.book.state) [] (drop n post.mail ++ [])) (let z : post.seat.taken - post.seat.taken ≡ 0 = omega arith in z)
+        ∙ ap (λ l. cond (is_free left.book.state) [] l) (append_nil post.mail)
+
+-- ---- all posts
+
+eqb_same : (n : ℕ) → eqb n n ≡ true
+eqb_same n = grind (arith, nat_tests)
+
+eqb_apart : (n m : ℕ) → n ≢ m → eqb n m ≡ false
+eqb_apart n m h = grind (arith, nat_tests)
+
+abbrev at_place : {A : Type 0} → (A → A) → ℕ → ℕ → A → A
+at_place f place p x = cond (eqb place p) (f x) x
+
+apart : {A : Type 0} (f : A → A) (place k : ℕ) (xs : List A) → place < k → mapped_from (at_place f place) k xs ≡ xs
+apart f place k [] lt = refl
+apart f place k (x ∷ xs) lt = ap₂ (λ b ys. cond b (f x) x ∷ ys) (eqb_apart place k (omega arith)) (apart f place (suc k) xs (omega arith))
+
+put_there : {A : Type 0} (f : A → A) (place k i : ℕ) (xs : List A) (x : A) → k + i ≡ place → slice_get xs i ≡ Some x → set xs i (f x) ≡ mapped_from (at_place f place) k xs
+put_there f place k i [] x is at = cc
+put_there f place k zero (y ∷ ys) x is at =
+    let same : y ≡ x = cc in
+    let here : k ≡ place = omega (arith, is) in
+    (λ j. cond (sym (ap (λ n. eqb n k) (sym here) ∙ eqb_same k) j) (f (sym same j)) y ∷ sym (apart f place (suc k) ys (omega (arith, here))) j)
+put_there f place k (suc i) (y ∷ ys) x is at =
+    ap₂ (λ b zs. cond b (f y) y ∷ zs) (sym (eqb_apart place k (omega (arith, is)))) (put_there f place (suc k) i ys x (omega (arith, is)) at)
+
+none_there : {A : Type 0} (f : A → A) (place k i : ℕ) (xs : List A) → k + i ≡ place → slice_get xs i ≡ None → xs ≡ mapped_from (at_place f place) k xs
+none_there f place k i [] is at = refl
+none_there f place k zero (y ∷ ys) is at = cc
+none_there f place k (suc i) (y ∷ ys) is at =
+    ap₂ (λ b zs. cond b (f y) y ∷ zs) (sym (eqb_apart place k (omega (arith, is)))) (none_there f place (suc k) i ys (omega (arith, is)) at)
+
+pub left_there : (seat : ℕ) (drop : Bool) (posts : List Post) (post : Post) → slice_get posts seat ≡ Some post → set posts seat (left_post drop post) ≡ left_posts seat drop posts
+left_there seat drop_it posts post at = put_there (left_post drop_it) seat 0 seat posts post (zero-add seat) at
+
+pub left_nowhere : (seat : ℕ) (drop : Bool) (posts : List Post) → slice_get posts seat ≡ None → posts ≡ left_posts seat drop posts
+left_nowhere seat drop_it posts at = none_there (left_post drop_it) seat 0 seat posts (zero-add seat) at
+
+-- ---- an item that is lent
+
+pub lent : {R X : Type 0} (now : R → X) (xs : List X) (i : ℕ) (o : Option R) (x : R) → o ≡ Some x → ItemBy now xs i i o → slice_get xs i ≡ Some (now x)
+lent now xs i None x is item = cc
+lent now xs i (Some y) x is item =
+    let same : y ≡ x = cc in
+    slice_get-get_or xs i (now y) item.3.0 ∙ ap Some (sym item.1) ∙ ap (λ z. Some (now z)) same
+
+pub lent_none : {R X : Type 0} (now : R → X) (xs : List X) (i : ℕ) (o : Option R) → o ≡ None → ItemBy now xs i i o → slice_get xs i ≡ None
+lent_none now xs i None is item = slice_get_past xs i item.3
+lent_none now xs i (Some y) is item = cc
+
+-- ---- the state after a Leave
+
+pub no_done : (asked : Asked) (steps : ℕ) (before : Option Seat) (seat : ℕ) (drop : Bool) → (outcome_at asked steps before (Leave seat drop)).done ≡ None
+no_done asked steps None seat drop_it = refl
+no_done asked steps (Some s) seat drop_it = refl
+
+others_none : (asked : Asked) (steps : ℕ) (before : Option Seat) (seat : ℕ) (drop : Bool) (p : ℕ) (s : Seat) (v : View) → queued_lines p false (Some s) (outcome_at asked steps before (Leave seat drop)) v v ≡ []
+others_none asked steps None seat drop_it p s v = quiet p v (is_present false (Some s) nothing) false refl
+others_none asked steps (Some t) seat drop_it p s v = no_lines p false drop_it t s v
+
+pub leave_stays : (w : World) (seat : ℕ) (drop : Bool) → IsSettled w.scene → scene_after w (Leave seat drop) ≡ w.scene
+leave_stays w seat drop_it settled = scene_stays w (Leave seat drop_it) settled (no_done (asked_of w seat) (steps_of w (Leave seat drop_it)) (seat_at w seat) seat drop_it)
+
+left_at : (w : World) (seat : ℕ) (drop : Bool) (p : ℕ) (post : Post) (acts : Bool) → eqb seat p ≡ acts → IsSettled w.scene → seat_at w p ≡ Some post.seat → IsSound post
+    → post_by p acts (outcome_of w (Leave seat drop)) (view_of w.scene p) (view_of (scene_after w (Leave seat drop)) p) post ≡ cond acts (left_post drop post) post
+left_at w seat drop_it p post false is settled at sound =
+    let o : Outcome = outcome_of w (Leave seat drop_it) in
+    ap (λ scene. post_by p false o (view_of w.scene p) (view_of scene p) post) (leave_stays w seat drop_it settled)
+    ∙ rests p o (view_of w.scene p) (view_of w.scene p) post sound (others_none (asked_of w seat) (steps_of w (Leave seat drop_it)) (seat_at w seat) seat drop_it p post.seat (view_of w.scene p))
+left_at w seat drop_it p post true is settled at sound =
+    let o : Outcome = outcome_of w (Leave seat drop_it) in
+    let own : seat_at w seat ≡ Some post.seat = ap (seat_at w) (eqb-true seat p is) ∙ at in
+    ap (λ scene. post_by p true o (view_of w.scene p) (view_of scene p) post) (leave_stays w seat drop_it settled)
+    ∙ ap (λ b. post_by p true (outcome_at (asked_of w seat) (steps_of w (Leave seat drop_it)) b (Leave seat drop_it)) (view_of w.scene p) (view_of w.scene p) post) own
+    ∙ own_leaves p drop_it (view_of w.scene p) post
+
+pub leave_state : (state : State) (seat : ℕ) (drop : Bool) → IsSettled state.scene → AreSound state.posts → record { posts = left_posts seat drop state.posts; scene = state.scene } ≡ state_after state (Leave seat drop)
+leave_state state seat drop_it settled sound =
+    let w : World = world_in state in
+    sym (λ i. record {
+      posts = mapped_from-same (post_after w (Leave seat drop_it)) (at_place (left_post drop_it) seat) 0 state.posts
+          (λ k post at. subst (λ p. post_after w (Leave seat drop_it) p post ≡ at_place (left_post drop_it) seat p post) (sym (zero-add k))
+          (left_at w seat drop_it k post (eqb seat k) refl settled (slice_get-map (λ x. x.seat) state.posts k ∙ ap (option_map (λ (x : Post). x.seat)) at) (sound k post at))) i;
+      scene = leave_stays w seat drop_it settled i;
+    })
+
+answer_at : (asked : Asked) (n steps : ℕ) (before : Option Seat) (seat : ℕ) (drop : Bool) → record { refusal = None; taken = n; line = None } ≡ answer_of n (outcome_at asked steps before (Leave seat drop))
+answer_at asked n steps None seat drop_it = refl
+answer_at asked n steps (Some s) seat drop_it = refl
+
+-- a Leave has no answer
+pub leave_answer : (w : World) (seat : ℕ) (drop : Bool) → record { refusal = None; taken = 0; line = None } ≡ answer_of (steps_of w (Leave seat drop)) (outcome_of w (Leave seat drop))
+leave_answer w seat drop_it =
+    ap (λ n. record { refusal = None; taken = n; line = None }) (no_steps w (Leave seat drop_it) (outcome_at (asked_of w seat) 0 (seat_at w seat) (Leave seat drop_it)) refl (no_done (asked_of w seat) 0 (seat_at w seat) seat drop_it))
+    ∙ answer_at (asked_of w seat) (steps_of w (Leave seat drop_it)) (steps_of w (Leave seat drop_it)) (seat_at w seat) seat drop_it
+
+-- ---- places for Leaves
+
+pub due_most : (posts : List Post) → due posts ≤ 2 * length posts
+due_most [] = omega arith
+due_most (post ∷ posts) = let rest = due_most posts in let one = most post.seat.book.state in omega (arith, rest, one)
+  where
+    most : (state : SeatState) → due_of state ≤ 2
+    most Free = omega arith
+    most (Joined reader writer) = omega arith
+    most (Closing reader writer) = omega arith
+
+abbrev state_in : Option Post → SeatState
+state_in None = Free
+state_in (Some post) = post.seat.book.state
+
+due_same : (f : Post → Post) (place k : ℕ) (posts : List Post) → place < k → due (mapped_from (at_place f place) k posts) ≡ due posts
+due_same f place k posts lt = ap due (apart f place k posts lt)
+
+-- a Leave that changes the state of a seat takes one place or more
+due_put : (f : Post → Post) (place k i : ℕ) (posts : List Post) (post : Post) → k + i ≡ place → slice_get posts i ≡ Some post → due_of (f post).seat.book.state + 1 ≤ due_of post.seat.book.state → due (mapped_from (at_place f place) k posts) + 1 ≤ due posts
+due_put f place k i [] post is at less = cc
+due_put f place k zero (y ∷ ys) post is at less =
+    let same : y ≡ post = cc in
+    let here : k ≡ place = omega (arith, is) in
+    let rest = due_same f place (suc k) ys (omega (arith, here)) in
+    let head : due_of (at_place f place k y).seat.book.state ≡ due_of (f post).seat.book.state =
+    (λ j. due_of (cond ((ap (λ n. eqb n k) (sym here) ∙ eqb_same k) j) (f (same j)) (same j)).seat.book.state) in
+    let old : due_of y.seat.book.state ≡ due_of post.seat.book.state = ap (λ (x : Post). due_of x.seat.book.state) same in
+    omega (arith, rest, head, old, less)
+due_put f place k (suc i) (y ∷ ys) post is at less =
+    let rest = due_put f place (suc k) i ys post (omega (arith, is)) at less in
+    let head : due_of (at_place f place k y).seat.book.state ≡ due_of y.seat.book.state = ap (λ b. due_of (cond b (f y) y).seat.book.state) (eqb_apart place k (omega (arith, is))) in
+    omega (arith, rest, head)
+
+-- what is left once a seat was let go, or not
+less_left : (drop : Bool) (s : Seat) → leaves s.book.state drop ≡ true → due_of (left_seat drop s).book.state + 1 ≤ due_of s.book.state
+less_left drop_it s moves = by_state s.book.state refl moves
+  where
+    let_go_less : (t : Bool) (c : Seat) (n : ℕ) → due_of c.book.state ≤ n → due_of (cond t (freed_seat c) c).book.state ≤ n
+    let_go_less true c n h = omega arith
+    let_go_less false c n h = h
+
+    by_drop : (d : Bool) (state : SeatState) → s.book.state ≡ state → leaves state d ≡ true → due_of (left_book d s.book).state + 1 ≤ due_of s.book.state
+    by_drop true Free is h = cc
+    by_drop true (Joined reader writer) is h = let n = ap due_of is in omega (arith, n)
+    by_drop true (Closing reader writer) is h = let n = ap due_of is in omega (arith, n)
+    by_drop false Free is h = cc
+    by_drop false (Joined reader writer) is h = let n = ap due_of is in let m = ap (λ x. due_of (closed x)) is in omega (arith, n, m)
+    by_drop false (Closing reader writer) is h = cc
+
+    by_state : (state : SeatState) → s.book.state ≡ state → leaves s.book.state drop_it ≡ true → due_of (left_seat drop_it s).book.state + 1 ≤ due_of s.book.state
+    by_state state is h =
+        let less = by_drop drop_it state is (sym (ap (λ x. leaves x drop_it) is) ∙ h) in
+        let c : Seat = record s { book = left_book drop_it s.book } in
+        let few = let_go_less (is_let_go c) c (due_of s.book.state - 1) (omega (arith, less)) in
+        omega (arith, less, few)
+
+moved_there : (state : State) (seat : ℕ) (drop : Bool) (o : Option Post) → slice_get state.posts seat ≡ o → leaves (standing (option_map (λ p. p.seat) o)) drop ≡ true → due (left_posts seat drop state.posts) + 1 ≤ due state.posts
+moved_there state seat drop_it None at moves = cc
+moved_there state seat drop_it (Some post) at moves = due_put (left_post drop_it) seat 0 seat state.posts post (zero-add seat) at (less_left drop_it post.seat moves)
+
+pub due_left : (state : State) (seat : ℕ) (drop : Bool) → changes_state (world_in state) (Leave seat drop) ≡ true → due (left_posts seat drop state.posts) + 1 ≤ due state.posts
+due_left state seat drop_it moves = moved_there state seat drop_it (slice_get state.posts seat) refl (sym (ap (λ o. leaves (standing o) drop_it) (slice_get-map (λ (x : Post). x.seat) state.posts seat)) ∙ moves)
+
+-- an opening owes none
+pub due_fresh : (posts : List Post) → AllByRecursion IsFreshSeat (map (λ post. post.seat) posts) → due posts ≡ 0
+due_fresh [] fresh = refl
+due_fresh (post ∷ posts) fresh = let rest = due_fresh posts fresh.1 in let one : due_of post.seat.book.state ≡ 0 = ap due_of fresh.0.book.state in omega (arith, rest, one)
+
+-- ---- posts with room
+
+pub map_set : (places : List Place) (i : ℕ) (y : Place) → map posted (set places i y) ≡ set (map posted places) i (posted y)
+map_set [] i y = refl
+map_set (p ∷ places) zero y = refl
+map_set (p ∷ places) (suc i) y = ap (λ ps. posted p ∷ ps) (map_set places i y)

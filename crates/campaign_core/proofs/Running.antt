@@ -1,0 +1,137 @@
+-- A running campaign from entry to entry.
+use Rattle.std.proofs.Common.{◌≡◌, ◌≤◌, ◌<◌, ℕ, ◌+◌, ◌*◌, ◌++◌, Bool, true, false, List, [], ◌∷◌, length, map, zero, suc, Some, None, refl, sym, ◌∙◌, ap, subst, arith}
+use Rattle.std.specs.Prelude.{Option, slice_get, IfSome}
+use Rattle.std.specs.List.{AllByRecursion}
+use Rattle.std.proofs.lemmas.List.{length-map}
+use Rattle.seats.specs.SeatState.{is_joined}
+use Rattle.view_keep.specs.declared.keep.KeptView.{KeptView}
+use Rattle.view_keep.specs.Kept.{Kept, view_at}
+use Rattle.player_view.specs.View.{view_of}
+use Rattle.command_looks.specs.Fields.{AreKept}
+use Rattle.command_effects.specs.Settle.{IsSettled}
+use Rattle.campaign_law.specs.declared.entry.Entry.{Entry}
+use Rattle.campaign_law.specs.Seat.{Seat, IsFreshSeat, was_joined}
+use Rattle.campaign_law.specs.World.{World, replay, step, scene_after, seat_after, seat_at, mapped_from}
+use Rattle.campaign_law.specs.State.{Post, State, post_after, world_in, state_after, state_of}
+use Rattle.campaign_law.specs.Law.{IsOpening}
+use Rattle.campaign_law.proofs.Lists.{map-mapped_from, mapped_from-map}
+use Rattle.campaign_law.specs.Worlds.{FitsTogether}
+use Rattle.player_view.specs.Tables.{HasTables}
+use Rattle.campaign_law.proofs.Worlds.{fits_always}
+use Rattle.campaign_law.proofs.ScenesOfWorlds.{tables_always}
+use Rattle.campaign_law.proofs.Settled.{replay_settled}
+use Rattle.campaign_law.proofs.Sessions.{state_of-more, world_in-state_of}
+use Rattle.campaign_core.specs.declared.next.Prepared.{Prepared}
+use Rattle.campaign_core.specs.declared.campaign.Made.{Made}
+use Rattle.campaign_core.specs.declared.campaign.Made.TheVariants.{Whole, Alone}
+use Rattle.campaign_core.specs.declared.campaign.Staged.{Staged}
+use Rattle.campaign_core.specs.Leaving.{due}
+use Rattle.campaign_core.specs.Places.{Standing, posted, law}
+use Rattle.campaign_core.specs.Shown.{AreShown}
+use Rattle.campaign_core.specs.Sound.{AreSound}
+use Rattle.campaign_core.specs.Running.{IsRunning, IsStaged, IsMade}
+use Rattle.campaign_core.proofs.Leaving.{due_most, replayed_sound}
+
+-- ---- an opening
+
+free_seat : (seats : List Seat) (seat : ℕ) → AllByRecursion IsFreshSeat seats → was_joined (slice_get seats seat) ≡ false
+free_seat [] seat all = refl
+free_seat (s ∷ seats) zero all = ap is_joined all.0.book.state
+free_seat (s ∷ seats) (suc seat) all = free_seat seats seat all.1
+
+-- no seat is Joined
+pub opening_shown : (w : World) (views : List KeptView) → IsOpening w → AreShown w views
+opening_shown w views opening = record { each = λ seat joined. (let no : true ≡ false = sym joined ∙ free_seat w.seats seat opening.seats in cc) }
+
+-- ---- what holds between entries
+
+pub world_now : (origin : World) (h : List Entry) (room : ℕ) (before : Standing) (kept : Kept) (stage : Option Staged) → IsRunning origin h room before kept stage → world_in (law before) ≡ replay origin h
+world_now origin h room before kept stage r = ap world_in r.now ∙ world_in-state_of origin h
+
+pub running_settled : (origin : World) (h : List Entry) (room : ℕ) (before : Standing) (kept : Kept) (stage : Option Staged) → IsRunning origin h room before kept stage → IsSettled before.scene
+running_settled origin h room before kept stage r = subst (λ (w : World). IsSettled w.scene) (sym (world_now origin h room before kept stage r)) (replay_settled origin h r.opening.scene)
+
+pub running_sound : (origin : World) (h : List Entry) (room : ℕ) (before : Standing) (kept : Kept) (stage : Option Staged) → IsRunning origin h room before kept stage → AreSound (law before).posts
+running_sound origin h room before kept stage r = replayed_sound origin h (law before) r.opening r.now
+
+pub running_fits : (origin : World) (h : List Entry) (room : ℕ) (before : Standing) (kept : Kept) (stage : Option Staged) → IsRunning origin h room before kept stage → FitsTogether (world_in (law before))
+running_fits origin h room before kept stage r = subst FitsTogether (sym (world_now origin h room before kept stage r)) (fits_always origin h r.fits)
+
+pub running_tables : (origin : World) (h : List Entry) (room : ℕ) (before : Standing) (kept : Kept) (stage : Option Staged) → IsRunning origin h room before kept stage → HasTables before.scene
+running_tables origin h room before kept stage r = subst (λ (w : World). HasTables w.scene) (sym (world_now origin h room before kept stage r)) (tables_always origin h r.fits r.tables)
+
+-- the kept view of a seat that is Joined is what it is shown
+pub shown_now : (origin : World) (h : List Entry) (room : ℕ) (before : Standing) (kept : Kept) (stage : Option Staged) → IsRunning origin h room before kept stage → (seat : ℕ)
+    → was_joined (seat_at (replay origin h) seat) ≡ true → view_at seat kept.views ≡ Some (view_of (replay origin h).scene seat)
+shown_now origin h room before kept stage r seat joined =
+    let shown : AreShown (replay origin h) kept.views = subst (λ (w : World). AreShown w kept.views) (world_now origin h room before kept stage r) r.views in
+    shown.each seat joined
+
+-- ---- staging
+
+-- what leaves the state as it is and takes no place leaves it running
+pub restaged : (origin : World) (h : List Entry) (room room' : ℕ) (before after : Standing) (kept : Kept) (stage stage' : Option Staged) → IsRunning origin h room before kept stage
+    → law after ≡ law before → length after.posts ≡ length before.posts → room ≤ room' → IfSome stage' (IsStaged room' after kept) → IsRunning origin h room' after kept stage'
+restaged origin h room room' before after kept stage stage' r same count more staged =
+    let places = r.owed in
+    let owed = ap (λ (s : State). due s.posts) same in
+    record {
+      now = same ∙ r.now;
+      opening = r.opening;
+      fits = r.fits;
+      tables = r.tables;
+      fields = subst (λ (s : State). AreKept s.scene kept.fields) (sym same) r.fields;
+      views = subst (λ (s : State). AreShown (world_in s) kept.views) (sym same) r.views;
+      count = r.count ∙ sym count;
+      most = r.most;
+      owed = omega (arith, places, owed, more);
+      staged = staged;
+    }
+
+-- ---- the commit
+
+world_after : (s : State) (e : Entry) → world_in (state_after s e) ≡ step (world_in s) e
+world_after s e =
+    let w : World = world_in s in
+    ap (λ seats. record { seats = seats; scene = scene_after w e })
+    (map-mapped_from (post_after w e) (λ (post : Post). post.seat) 0 s.posts ∙ sym (mapped_from-map (seat_after w e) (λ (post : Post). post.seat) 0 s.posts))
+
+-- an entry more
+pub advances : (origin : World) (h h' : List Entry) (room room' : ℕ) (before after : Standing) (kept kept' : Kept) (stage : Option Staged) (e : Entry) → IsRunning origin h room before kept stage
+    → law after ≡ state_after (law before) e → length after.posts ≡ length before.posts → AreKept after.scene kept'.fields → AreShown (step (world_in (law before)) e) kept'.views
+    → length kept'.views ≡ length kept.views → due (law after).posts ≤ room' → h' ≡ h ++ e ∷ [] → IsRunning origin h' room' after kept' None
+advances origin h h' room room' before after kept kept' stage e r next seats fields shown same owed more = record {
+  now = next ∙ ap (λ s. state_after s e) r.now ∙ state_of-more origin h e r.opening ∙ ap (state_of origin) (sym more);
+  opening = r.opening;
+  fits = r.fits;
+  tables = r.tables;
+  fields = fields;
+  views = subst (λ w. AreShown w kept'.views) (sym (ap world_in next ∙ world_after (law before) e)) shown;
+  count = same ∙ r.count ∙ sym seats;
+  most = subst (λ n. n ≤ 33) (sym same) r.most;
+  owed = owed;
+  staged = tt;
+}
+
+-- no more is owed than two places a seat
+pub owed_most : (origin : World) (h : List Entry) (room : ℕ) (before after : Standing) (kept : Kept) (stage : Option Staged) → IsRunning origin h room before kept stage → length after.posts ≡ length before.posts → due (law after).posts ≤ 66
+owed_most origin h room before after kept stage r seats =
+    let few = due_most (law after).posts in
+    let posts : length (law after).posts ≡ length after.posts = length-map after.posts posted in
+    let count = r.count in
+    let most = r.most in
+    omega (arith, few, posts, seats, count, most)
+
+-- ---- what is staged
+
+pub made_is : (places : ℕ) (before : Standing) (kept : Kept) (stage : Option Staged) (s : Staged) (made : Made) → Some s ≡ stage → s.made ≡ made → IfSome stage (IsStaged places before kept) → IsMade places before kept s.entry made
+made_is places before kept stage s made is at fits = subst (IsMade places before kept s.entry) at (subst (λ o. IfSome o (IsStaged places before kept)) (sym is) fits)
+
+pub if_is : {A : Type 0} (o : Option A) (a : A) (P : A → Type 0) → o ≡ Some a → P a → IfSome o P
+if_is o a P is h = subst (λ x. IfSome x P) (sym is) h
+
+-- ---- by the course
+
+-- the same of the entry that is staged
+pub if_staged : (stage : Option Entry) (e : Entry) (P : Entry → Type 0) → Some e ≡ stage → P e → IfSome stage P
+if_staged stage e P is h = subst (λ o. IfSome o P) is h

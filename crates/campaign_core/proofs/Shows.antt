@@ -1,0 +1,206 @@
+-- The views that are kept, seat by seat.
+use Rattle.std.proofs.Common.{◌≡◌, ◌<◌, ◌≤◌, ◌+◌, ℕ, Bool, true, false, cond, ◌&&◌, ◌||◌, eqb, zero, suc, List, [], ◌∷◌, ◌++◌, length, drop, get_or, Some, None, refl, sym, ◌∙◌, ap, subst, arith, zero-add}
+use Rattle.std.specs.Prelude.{Option, option_map, slice_get, not}
+use Rattle.std.proofs.lemmas.Option.{slice_get-map}
+use Rattle.std.proofs.lemmas.Bool.Decides.{nat_tests}
+use Rattle.seats.specs.SeatState.{is_joined}
+use Rattle.names.specs.declared.token_id.TokenId.{TokenId}
+use Rattle.cells.specs.Cells.{Cells}
+use Rattle.views.specs.declared.view.View.{View}
+use Rattle.view_keep.specs.declared.keep.KeptView.{KeptView}
+use Rattle.view_keep.specs.Kept.{view_at}
+use Rattle.command_effects.specs.Settle.{IsSettled}
+use Rattle.view_marks.specs.Marks.{marks}
+use Rattle.view_marks.proofs.Marked.{unmarked}
+use Rattle.world.specs.Scene.{Scene}
+use Rattle.player_view.specs.View.{view_of}
+use Rattle.player_view.specs.Asked.{Asked}
+use Rattle.campaign_law.specs.declared.entry.Entry.{Entry}
+use Rattle.campaign_law.specs.declared.entry.Entry.TheVariants.{Join, Line, Leave, Taken}
+use Rattle.campaign_law.specs.Seat.{Seat, was_joined}
+use Rattle.campaign_law.specs.Outcome.{Outcome, outcome_at, seat_of}
+use Rattle.campaign_law.specs.World.{World, asked_of, changed, is_present, mapped_from, outcome_of, queued_lines, scene_after, seat_after, seat_at, step, steps_of}
+use Rattle.campaign_law.specs.Session.{changes_state}
+use Rattle.campaign_law.proofs.Lists.{mapped_from_more, slice_get-mapped_from}
+use Rattle.campaign_law.proofs.Sessions.{seat_at-after}
+use Rattle.campaign_law.proofs.Outcomes.{IsFit, outcome_fits, absent_joins}
+use Rattle.campaign_law.proofs.Seats.{joined_before}
+use Rattle.campaign_core.specs.declared.next.Changed.{Changed}
+use Rattle.campaign_core.specs.Changed.{IsChanged}
+use Rattle.campaign_core.specs.Places.{Place, Standing, world_at}
+use Rattle.campaign_core.proofs.Leaving.{leave_stays}
+use Rattle.campaign_core.specs.Shown.{AreShown, AreStill, IsShown, is_kept, is_none, view_made_in, made_or, made_view, new_view, view_then}
+
+-- ---- a seat that joins is due the full line
+
+joins_seat : (asked : _) (steps : ℕ) (before : Option Seat) (e : Entry) → (outcome_at asked steps before e).joins ≡ true → (outcome_at asked steps before e).full ≡ true
+joins_seat asked steps None e h = let no : true ≡ false = sym h ∙ absent_joins asked steps e in cc
+joins_seat asked steps (Some s) e h = (outcome_fits asked steps s e).joins h
+
+pub joins_full : (w : World) (e : Entry) → (outcome_of w e).joins ≡ true → (outcome_of w e).full ≡ true
+joins_full w e h = joins_seat (asked_of w (seat_of e)) (steps_of w e) (seat_at w (seat_of e)) e h
+
+-- ---- before the entry
+
+pub shown_seats : (state : Standing) (views : List KeptView) → AreShown (world_at state) views → (seat : ℕ) → IsShown state.scene views seat (option_map (λ p. p.seat) (slice_get state.posts seat))
+shown_seats state views shown seat joined = shown.each seat (ap was_joined (slice_get-map (λ (p : Place). p.seat) state.posts seat) ∙ joined)
+
+-- ---- after the entry
+
+or_false : (x : Bool) → (x || false) ≡ x
+or_false true = refl
+or_false false = refl
+
+-- the view that stands for a seat that is Joined after the entry
+view_stands : (stays acts : Bool) (o : Outcome) (before after : Scene) (seat : ℕ) (kept : Option View) (joined : Bool)
+    → (stays ≡ true → view_of after seat ≡ view_of before seat) → (joined ≡ true → kept ≡ Some (view_of before seat)) → (joined ≡ false → (acts && o.joins) ≡ true)
+    → made_or (cond joined (new_view stays after seat) (new_view (not (acts && o.joins)) after seat)) kept ≡ Some (view_of after seat)
+view_stands true acts o before after seat kept true still shown joins = shown refl ∙ ap Some (sym (still refl))
+view_stands false acts o before after seat kept true still shown joins = refl
+view_stands stays acts o before after seat kept false still shown joins = ap (λ b. made_or (new_view (not b) after seat) kept) (joins refl)
+
+is_joined_then : (acts : Bool) (o : Outcome) (s : Seat) → (acts ≡ true → IsFit s o) → is_joined (changed o acts s).book.state ≡ true → is_joined s.book.state ≡ false → (acts && o.joins) ≡ true
+is_joined_then true o s fit after before =
+    let there : is_present true (Some s) o ≡ true = (fit refl).joined after in
+    ap (λ b. b || o.joins) (sym before) ∙ there
+is_joined_then false o s fit after before = let no : true ≡ false = sym after ∙ before in cc
+
+same_seat : (a b : ℕ) → eqb a b ≡ true → a ≡ b
+same_seat a b h = grind (arith, nat_tests, h)
+
+fit_at : (w : World) (e : Entry) (seat : ℕ) (s : Seat) → seat_at w seat ≡ Some s → eqb (seat_of e) seat ≡ true → IsFit s (outcome_of w e)
+fit_at w e seat s at acts =
+    let here : seat_at w (seat_of e) ≡ Some s = ap (seat_at w) (same_seat (seat_of e) seat acts) ∙ at in
+    subst (λ o. IsFit s (outcome_at (asked_of w (seat_of e)) (steps_of w e) o e)) (sym here) (outcome_fits (asked_of w (seat_of e)) (steps_of w e) s e)
+
+still_by : (w : World) (e : Entry) (fields : List (TokenId × Cells)) (changed : Option Changed) (seat : ℕ) → IsSettled w.scene → IsChanged w e fields changed
+    → is_kept (is_none changed) (outcome_of w e) seat ≡ true → view_of (scene_after w e) seat ≡ view_of w.scene seat
+unfolding scene_after
+still_by w e fields None seat settled h is = ap (λ (s : Scene). view_of s seat) h
+still_by w e fields (Some changed) seat settled h is = unmarked (steps_of w e) (seat_of e) w.scene (outcome_of w e).done seat settled (none_marked (marks (outcome_of w e).done seat) is)
+  where
+    none_marked : (b : Bool) → not b ≡ true → b ≡ false
+    none_marked true k = let no : false ≡ true = k in cc
+    none_marked false k = refl
+
+-- a scene that stays, or a command that doesn't mark the seat
+pub stays_in_view : (w : World) (e : Entry) (fields : List (TokenId × Cells)) (changed : Option Changed) → IsSettled w.scene → IsChanged w e fields changed
+    → AreStill (is_none changed) (outcome_of w e) w.scene (scene_after w e)
+stays_in_view w e fields changed settled h = record { each = λ seat is. still_by w e fields changed seat settled h is }
+
+one_stands : (w : World) (e : Entry) (kept : List KeptView) (made : List (Option View)) (same : Bool) (seat : ℕ) (o : Option Seat) → seat_at w seat ≡ o
+    → AreShown w kept → AreStill same (outcome_of w e) w.scene (scene_after w e)
+    → slice_get made seat ≡ option_map (λ s. made_view same (eqb (seat_of e) seat) (outcome_of w e) (scene_after w e) seat s) o
+    → was_joined (option_map (seat_after w e seat) o) ≡ true
+    → view_then made kept seat ≡ Some (view_of (scene_after w e) seat)
+one_stands w e kept made same seat None at shown stays is joined = cc
+one_stands w e kept made same seat (Some s) at shown stays is joined =
+    let out = outcome_of w e in
+    let acts = eqb (seat_of e) seat in
+    ap (λ m. made_or (view_made_in m) (view_at seat kept)) is
+    ∙ view_stands (is_kept same out seat) acts out w.scene (scene_after w e) seat (view_at seat kept) (is_joined s.book.state) (stays.each seat)
+    (λ j. shown.each seat (ap was_joined at ∙ j))
+    (λ j. is_joined_then acts out s (λ yes. fit_at w e seat s at yes)
+    (joined_before (length (queued_lines seat acts (Some s) out (view_of w.scene seat) (view_of (scene_after w e) seat))) (changed out acts s) joined) j)
+
+pub views_stand : (w : World) (e : Entry) (kept : List KeptView) (made : List (Option View)) (same : Bool) → AreShown w kept → AreStill same (outcome_of w e) w.scene (scene_after w e)
+    → made ≡ mapped_from (λ seat s. made_view same (eqb (seat_of e) seat) (outcome_of w e) (scene_after w e) seat s) 0 w.seats
+    → (seat : ℕ) → was_joined (seat_at (step w e) seat) ≡ true → view_then made kept seat ≡ Some (view_of (scene_after w e) seat)
+views_stand w e kept made same shown stays is seat joined =
+    let f : ℕ → Seat → Option View = λ n s. made_view same (eqb (seat_of e) n) (outcome_of w e) (scene_after w e) n s in
+    one_stands w e kept made same seat (seat_at w seat) refl shown stays
+    (ap (λ xs. slice_get xs seat) is ∙ slice_get-mapped_from f 0 w.seats seat ∙ ap (λ n. option_map (f n) (slice_get w.seats seat)) (zero-add seat))
+    (ap was_joined (sym (seat_at-after w e seat)) ∙ joined)
+
+-- ---- a Leave
+
+leave_joins : (asked : Asked) (steps : ℕ) (before : Option Seat) (seat : ℕ) (drop : Bool) → (outcome_at asked steps before (Leave seat drop)).joins ≡ false
+leave_joins asked steps None seat drop_it = refl
+leave_joins asked steps (Some s) seat drop_it = refl
+
+and_false : (acts joins : Bool) → joins ≡ false → (acts && joins) ≡ false
+and_false true joins h = h
+and_false false joins h = refl
+
+-- who is Joined after a Leave was so before it
+joined_was : (w : World) (seat : ℕ) (drop : Bool) (p : ℕ) (o : Option Seat) → seat_at w p ≡ o → was_joined (option_map (seat_after w (Leave seat drop) p) o) ≡ true → was_joined o ≡ true
+joined_was w seat drop_it p None at joined = cc
+joined_was w seat drop_it p (Some s) at joined = by (is_joined s.book.state) refl
+  where
+    by : (b : Bool) → is_joined s.book.state ≡ b → is_joined s.book.state ≡ true
+    by true is = is
+    by false is =
+        let e : Entry = Leave seat drop_it in
+        let out = outcome_of w e in
+        let acts = eqb (seat_of e) p in
+        let none = and_false acts out.joins (leave_joins (asked_of w seat) (steps_of w e) (seat_at w seat) seat drop_it) in
+        let some = is_joined_then acts out s (λ yes. fit_at w e p s at yes) (joined_before (length (queued_lines p acts (Some s) out (view_of w.scene p) (view_of (scene_after w e) p))) (changed out acts s) joined) is in
+        let no : true ≡ false = sym some ∙ none in
+        cc
+
+-- a Leave that changes its seat's state leaves the kept views as they are
+pub left_shown : (w : World) (e : Entry) (views : List KeptView) → changes_state w e ≡ true → IsSettled w.scene → AreShown w views → AreShown (step w e) views
+left_shown w (Join seat key reader writer) views moves settled shown = cc
+left_shown w (Line seat bytes) views moves settled shown = cc
+left_shown w (Taken seat count) views moves settled shown = cc
+left_shown w (Leave seat drop_it) views moves settled shown = record {
+  each = λ p joined. shown.each p (joined_was w seat drop_it p (seat_at w p) refl (ap was_joined (sym (seat_at-after w (Leave seat drop_it) p)) ∙ joined))
+      ∙ ap (λ (s : Scene). Some (view_of s p)) (sym (leave_stays w seat drop_it settled));
+}
+
+-- ---- views that are put one after another
+
+zero_suc : (n : ℕ) → eqb 0 (suc n) ≡ false
+zero_suc n = grind (arith, nat_tests)
+
+suc_zero : (n : ℕ) → eqb (suc n) 0 ≡ false
+suc_zero n = grind (arith, nat_tests)
+
+suc_suc : (a b : ℕ) → eqb (suc a) (suc b) ≡ eqb a b
+suc_suc a b = grind (arith, nat_tests)
+
+made_more : (made : List (Option View)) (x : Option View) (seat : ℕ) → view_made_in (slice_get (made ++ x ∷ []) seat) ≡ cond (eqb (length made) seat) x (view_made_in (slice_get made seat))
+made_more [] x zero = refl
+made_more [] x (suc seat) = sym (ap (λ b. cond b x None) (zero_suc seat))
+made_more (m ∷ made) x zero = sym (ap (λ b. cond b x m) (suc_zero (length made)))
+made_more (m ∷ made) x (suc seat) = made_more made x seat ∙ ap (λ b. cond b x (view_made_in (slice_get made seat))) (sym (suc_suc (length made) seat))
+
+none_past : (made : List (Option View)) (seat : ℕ) → eqb (length made) seat ≡ true → view_made_in (slice_get made seat) ≡ None
+none_past [] seat h = refl
+none_past (m ∷ made) zero h = let no : true ≡ false = sym h ∙ suc_zero (length made) in cc
+none_past (m ∷ made) (suc seat) h = none_past made seat (sym (suc_suc (length made) seat) ∙ h)
+
+pub then_more : (made : List (Option View)) (kept : List KeptView) (x : Option View) (seat : ℕ)
+    → view_then (made ++ x ∷ []) kept seat ≡ cond (eqb (length made) seat) (made_or x (view_then made kept seat)) (view_then made kept seat)
+then_more made kept x seat = ap (λ m. made_or m (view_at seat kept)) (made_more made x seat) ∙ by (eqb (length made) seat) refl
+  where
+    by : (b : Bool) → eqb (length made) seat ≡ b → made_or (cond b x (view_made_in (slice_get made seat))) (view_at seat kept) ≡ cond b (made_or x (view_then made kept seat)) (view_then made kept seat)
+    by true e = ap (λ m. made_or x (made_or m (view_at seat kept))) (sym (none_past made seat e))
+    by false e = refl
+
+pub one_more : {A : Type 0} (xs : List A) (x : A) (n : ℕ) → n ≡ length xs → n + 1 ≡ length (xs ++ x ∷ [])
+one_more [] x n h = omega (arith, h)
+one_more (y ∷ xs) x n h =
+    let rest : length xs + 1 ≡ length (xs ++ x ∷ []) = one_more xs x (length xs) refl in
+    omega (arith, h, rest)
+
+-- ---- seats that are made one after another
+
+pushed : {B : Type 0} (ys : List B) (y : B) (zs : List B) → (ys ++ y ∷ []) ++ zs ≡ ys ++ y ∷ zs
+pushed [] y zs = refl
+pushed (x ∷ ys) y zs = ap (λ rest. x ∷ rest) (pushed ys y zs)
+
+-- what is made and what is left make the whole
+pub mapped_on : {A B : Type 0} (f : ℕ → A → B) (k i : ℕ) (xs : List A) (x : A) (ys zs whole : List B) (y : B) → i < length xs → get_or xs i x ≡ x → zs ≡ ys ++ y ∷ [] → y ≡ f k x
+    → ys ++ mapped_from f k (drop i xs) ≡ whole → zs ++ mapped_from f (k + 1) (drop (i + 1) xs) ≡ whole
+mapped_on f k i xs x ys zs whole y lt is more made so_far =
+    let n : k + 1 ≡ suc k = omega arith in
+    let m : i + 1 ≡ suc i = omega arith in
+    (λ j. more j ++ mapped_from f (n j) (drop (m j) xs))
+    ∙ pushed ys y (mapped_from f (suc k) (drop (suc i) xs))
+    ∙ ap (λ z. ys ++ z ∷ mapped_from f (suc k) (drop (suc i) xs)) made
+    ∙ ap (λ rest. ys ++ rest) (sym (mapped_from_more f k xs i x lt is))
+    ∙ so_far
+
+pub no_more : (a b : ℕ) → a ≡ b → a ≤ b
+no_more a b h = omega (arith, h)

@@ -1,0 +1,57 @@
+-- The views that are kept, and those that an entry makes.
+use Rattle.std.specs.Prelude.{◌≡◌, ℕ, ◌&&◌, ◌||◌, Bool, true, false, not, if◌then◌else◌, List, Option, Some, None, slice_get}
+use Rattle.seats.specs.SeatState.{is_joined}
+use Rattle.views.specs.declared.view.View.{View}
+use Rattle.view_keep.specs.declared.keep.KeptView.{KeptView}
+use Rattle.view_keep.specs.Kept.{view_at}
+use Rattle.view_marks.specs.Marks.{marks}
+use Rattle.world.specs.Scene.{Scene}
+use Rattle.player_view.specs.View.{view_of}
+use Rattle.campaign_law.specs.Seat.{Seat, was_joined}
+use Rattle.campaign_law.specs.Outcome.{Outcome}
+use Rattle.campaign_law.specs.World.{World, seat_at}
+
+-- the kept view of a seat that is Joined is what it sees
+abbrev pub IsShown : Scene → List KeptView → ℕ → Option Seat → Type 0
+IsShown scene views seat before = was_joined before ≡ true → view_at seat views ≡ Some (view_of scene seat)
+
+-- of each seat
+pub record AreShown (w : World) (views : List KeptView) : Type 0 where
+  pub each : (seat : ℕ) → IsShown w.scene views seat (seat_at w seat)
+
+-- what a seat is shown that is Joined
+abbrev pub kept_view : World → ℕ → Option View
+kept_view w seat = if was_joined (seat_at w seat) then Some (view_of w.scene seat) else None
+
+-- the view of a seat, where it isn't known to be the kept one
+abbrev pub new_view : Bool → Scene → ℕ → Option View
+new_view kept scene seat = if kept then None else Some (view_of scene seat)
+
+-- the seat's view is known to stay: the scene is the same, or what was done doesn't mark the seat
+abbrev pub is_kept : Bool → Outcome → ℕ → Bool
+is_kept same o seat = same || not (marks o.done seat)
+
+-- the view that an entry makes: of a seat that is Joined, where its view isn't known to stay; and of one that joins
+abbrev pub made_view : Bool → Bool → Outcome → Scene → ℕ → Seat → Option View
+made_view same acts o scene seat s = if is_joined s.book.state then new_view (is_kept same o seat) scene seat else new_view (not (acts && o.joins)) scene seat
+
+abbrev pub is_none : {A : Type 0} → Option A → Bool
+is_none None = true
+is_none (Some a) = false
+
+-- the view that was made, else the kept one
+abbrev pub made_or : Option View → Option View → Option View
+made_or None kept = kept
+made_or (Some view) kept = Some view
+
+abbrev pub view_made_in : Option (Option View) → Option View
+view_made_in None = None
+view_made_in (Some made) = made
+
+-- the view that stands for a seat once these are put
+abbrev pub view_then : List (Option View) → List KeptView → ℕ → Option View
+view_then made kept seat = made_or (view_made_in (slice_get made seat)) (view_at seat kept)
+
+-- each seat whose view is known to stay sees after the entry what it saw
+pub record AreStill (same : Bool) (o : Outcome) (before after : Scene) : Type 0 where
+  pub each : (seat : ℕ) → is_kept same o seat ≡ true → view_of after seat ≡ view_of before seat

@@ -1,0 +1,161 @@
+//! The lines that wait for a seat.
+ghost use Rattle.std.specs.Prelude.{◌≡◌, ◌≤◌, ◌++◌, ◌-◌, [], ◌∷◌, IfOk, IfSome, OnOk, drop, length, map};
+ghost use Rattle.mails.specs.Texts.{text_of};
+
+use names::{LineText, Memory};
+use std::alloc::Global;
+use std::collections::VecDeque;
+use std::marker::Model;
+
+/// The lines that wait for a seat, in order, with places for further ones.
+#[derive(Drop)]
+pub struct Mail {
+    lines: VecDeque<LineText>,
+}
+
+impl Model for Mail {
+    ghost use Rattle.std.specs.Prelude.{◌-◌};
+    ghost use Rattle.std.specs.VecDeque.{deque_len, deque_capacity};
+    ghost use Rattle.mails.specs.Waiting.{Waiting};
+
+    ghost Value = { Waiting };
+
+    ghost view = { λ m. record { lines = m.lines.items; room = deque_capacity m.lines - deque_len m.lines } };
+}
+
+impl Mail {
+    /// No lines, and no places.
+    pub fn new(alloc: Global) -> Mail
+        ensures { result.lines ≡ [] }
+    {
+        Mail {
+            lines: VecDeque::new(alloc),
+        }
+    }
+
+    /// How many lines wait.
+    pub fn len(&self) -> usize
+        ensures { result ≡ length self.now.lines }
+    {
+        self.lines.len()
+    }
+
+    /// An equal mail, but for its places.
+    pub fn copy(&self, alloc: Global) -> Result<Mail, Memory>
+        ensures { IfOk result (λ m. m.lines ≡ self.now.lines) }
+    {
+        let mut lines = VecDeque::new(alloc);
+        for place in 0..self.lines.len() {
+            let line = LineText::copy(alloc, self.lines[place].bytes())?;
+            if lines.push_back(line).is_err() {
+                return Err(Memory);
+            }
+        }
+        Ok(Mail { lines })
+    }
+
+    /// The lines from the place `first` on, each with its LF.
+    pub fn lines_from(&self, alloc: Global, first: usize) -> Result<Vec<LineText>, Memory>
+        ensures { IfOk result (λ v. v.items ≡ map (λ line. line ++ 10 ∷ []) (drop first self.now.lines)) }
+    {
+        let mut all = Vec::new(alloc);
+        for place in first..self.lines.len() {
+            if all
+                .push(with_end(alloc, self.lines[place].bytes())?)
+                .is_err()
+            {
+                return Err(Memory);
+            }
+        }
+        Ok(all)
+    }
+
+    /// How many bytes the lines from the place `first` on have, with their LFs; none, where they are more than can be counted.
+    fn size_from(&self, first: usize) -> Option<usize>
+        ensures { IfSome result (λ n. n ≡ length (text_of (drop first self.now.lines))) }
+    {
+        let mut size: usize = 0;
+        for place in first..self.lines.len() {
+            size = size
+                .checked_add(self.lines[place].bytes().len())?
+                .checked_add(1)?;
+        }
+        Some(size)
+    }
+
+    /// The text of the lines from the place `first` on, each with its LF, in one piece of memory.
+    pub fn text_from(&self, alloc: Global, first: usize) -> Result<LineText, Memory>
+        ensures { IfOk result (λ t. t ≡ text_of (drop first self.now.lines)) }
+    {
+        let Some(size) = self.size_from(first) else {
+            return Err(Memory);
+        };
+        let Ok(mut text) = Vec::with_capacity(alloc, size) else {
+            return Err(Memory);
+        };
+        for place in first..self.lines.len() {
+            if text.extend_from_slice(self.lines[place].bytes()).is_err() {
+                return Err(Memory);
+            }
+            if text.push(b'\n').is_err() {
+                return Err(Memory);
+            }
+        }
+        Ok(LineText::new(text))
+    }
+
+    /// Makes places for so many further lines. The lines stay.
+    pub fn make_room(&mut self, count: usize) -> Result<(), Memory>
+        ensures lines { self.new.lines ≡ self.old.lines }
+        ensures room { OnOk result (count ≤ self.new.room) }
+        ensures kept { self.old.room ≤ self.new.room }
+    {
+        match self.lines.reserve(count) {
+            Ok(()) => Ok(()),
+            Err(_) => Err(Memory),
+        }
+    }
+
+    /// Takes out all lines.
+    pub fn clear(&mut self)
+        ensures { self.new.lines ≡ [] }
+    {
+        self.lines.clear();
+    }
+
+    /// Takes out the first `gone` lines, in the time of these.
+    pub fn take_out(&mut self, gone: u64)
+        ensures lines { self.new.lines ≡ drop gone self.old.lines }
+        ensures room { self.old.room ≤ self.new.room }
+    {
+        if gone >= self.lines.len() as u64 {
+            self.lines.clear();
+            return;
+        }
+        let _gone = self.lines.drain(..gone as usize);
+    }
+
+    /// Puts in further lines, for which there are places. It takes no memory.
+    pub fn put_in(&mut self, lines: Vec<LineText>)
+        requires { length lines.items ≤ self.old.room }
+        ensures { self.new.lines ≡ self.old.lines ++ lines.items }
+    {
+        let mut further = VecDeque::from_vec(lines);
+        match self.lines.append(&mut further) {
+            Ok(()) => {}
+            Err(_) => unreachable!(),
+        }
+    }
+}
+
+fn with_end(alloc: Global, line: &[u8]) -> Result<LineText, Memory>
+    ensures { IfOk result (λ t. t ≡ line.now ++ 10 ∷ []) }
+{
+    let Ok(mut bytes) = Vec::from_slice(alloc, line) else {
+        return Err(Memory);
+    };
+    if bytes.push(b'\n').is_err() {
+        return Err(Memory);
+    }
+    Ok(LineText::new(bytes))
+}

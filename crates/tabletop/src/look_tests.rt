@@ -1,0 +1,122 @@
+//! How often the eye is asked at each line.
+
+use campaign_core::{Answer, Campaign, Entry};
+use names::{LineText, SeatNo};
+use sight_sweep::SweepEye;
+use std::alloc::Global;
+use std::test::Fail;
+
+// The game master and one player, whose token stands in a cave that a wall cuts in two.
+const CAVE: &[u8] =
+    br#"{"format":1,"lights":{},"maps":[{"h":3,"mbl":[],"mode":"day","name":"cave","rows":["...","...","..."],"shown":true,"vbl":[[2,0,2,4]],"w":3}],"seats":[{"drawn":0,"fog":{},"key":"g","macros":{},"seed":"0000000000000000000000000000000000000000000000000000000000000000","tags":[]},{"drawn":0,"fog":{},"key":"a","macros":{},"seed":"0000000000000000000000000000000000000000000000000000000000000000","tags":["ann"]}],"sights":{"human":[10,0,2]},"tokens":[{"cell":[0,0],"id":"1:ann","layer":"token","light":null,"map":"cave","name":"Ann","own":[],"owners":[1],"props":[],"secret":[],"sight":"human","size":1,"visible":true}]}"#;
+
+fn seat(number: u8) -> Result<SeatNo, Fail> {
+    Ok(SeatNo::new(number).ok_or("a seat")?)
+}
+
+fn opened(alloc: Global) -> Result<Campaign<SweepEye>, Fail> {
+    match Campaign::open(alloc, CAVE, SweepEye::new(alloc)) {
+        Ok(campaign) => Ok(campaign),
+        Err(_) => Err(Fail::from("no campaign")),
+    }
+}
+
+fn step(campaign: &mut Campaign<SweepEye>, entry: Entry) -> Result<Answer, Fail> {
+    match campaign.step(entry) {
+        Ok(answer) => Ok(answer),
+        Err(_) => Err(Fail::from("want of memory")),
+    }
+}
+
+fn join(alloc: Global, campaign: &mut Campaign<SweepEye>, number: u8, key: &[u8]) -> Result<(), Fail> {
+    let entry = Entry::Join {
+        seat: seat(number)?,
+        key: LineText::copy(alloc, key)?,
+        reader: 1,
+        writer: 2,
+    };
+    let _answer = step(campaign, entry)?;
+    Ok(())
+}
+
+// A line, and how many looks are to be made at it.
+#[derive(Clone, Copy)]
+struct Asked<'a> {
+    seat: u8,
+    line: &'a [u8],
+    refused: bool,
+    looks: u64,
+}
+
+const LINES: [Asked<'static>; 8] = [
+    Asked {
+        seat: 1,
+        line: br#"{"do":"say","text":"hi"}"#,
+        refused: false,
+        looks: 0,
+    },
+    Asked {
+        seat: 0,
+        line: br#"{"do":"show","map":"cave","on":true}"#,
+        refused: false,
+        looks: 0,
+    },
+    Asked {
+        seat: 1,
+        line: br#"{"do":"setprop","token":"1:ann","class":"public","name":"hp","value":"10"}"#,
+        refused: false,
+        looks: 0,
+    },
+    Asked {
+        seat: 0,
+        line: br#"{"do":"expose","seat":1,"map":"cave","rect":[1,0,2,3]}"#,
+        refused: false,
+        looks: 0,
+    },
+    Asked {
+        seat: 1,
+        line: br#"{"do":"move","token":"1:ann","path":[[2,2]]}"#,
+        refused: true,
+        looks: 0,
+    },
+    Asked {
+        seat: 1,
+        line: br#"{"do":"move","token":"1:ann","path":[[0,1]]}"#,
+        refused: false,
+        looks: 1,
+    },
+    Asked {
+        seat: 0,
+        line: br#"{"do":"unwall","map":"cave","kind":"vbl","a":[2,0],"b":[2,4]}"#,
+        refused: false,
+        looks: 1,
+    },
+    Asked {
+        seat: 0,
+        line: br#"{"do":"wall","map":"cave","kind":"mbl","a":[2,0],"b":[2,4]}"#,
+        refused: false,
+        looks: 0,
+    },
+];
+
+#[test]
+fn looks(rt: HostRuntime) -> Result<(), Fail> {
+    let alloc = rt.alloc();
+    let mut campaign = opened(alloc)?;
+    assert_eq!(rt; campaign.looks(), 1);
+    join(alloc, &mut campaign, 0, b"g")?;
+    join(alloc, &mut campaign, 1, b"a")?;
+    assert_eq!(rt; campaign.looks(), 1, "a join asks nothing");
+    for asked in &LINES {
+        let before = campaign.looks();
+        let entry = Entry::Line {
+            seat: seat(asked.seat)?,
+            bytes: LineText::copy(alloc, asked.line)?,
+        };
+        let answer = step(&mut campaign, entry)?;
+        let line = std::str::from_utf8(asked.line).unwrap_or("");
+        assert_eq!(rt; answer.refusal.is_some(), asked.refused, "{line}");
+        assert!(rt; campaign.looks() <= before.saturating_add(asked.looks), "{line}");
+    }
+    Ok(())
+}
