@@ -24,11 +24,11 @@ mod way;
 
 pub use intent::Intent;
 pub use laws::{examples_read, examples_run};
+pub use names::Texts;
 pub use outcome::{Intents, Outcome};
 pub use readable::Readable;
 pub use runs::run;
 pub use stop::{FaultKind, MacroStop};
-pub use names::Texts;
 
 #[cfg(test)]
 mod tests;

@@ -28,7 +28,12 @@ fn step(campaign: &mut Campaign<SweepEye>, entry: Entry) -> Result<Answer, Fail>
     }
 }
 
-fn join(alloc: Global, campaign: &mut Campaign<SweepEye>, number: u8, key: &[u8]) -> Result<(), Fail> {
+fn join(
+    alloc: Global,
+    campaign: &mut Campaign<SweepEye>,
+    number: u8,
+    key: &[u8],
+) -> Result<(), Fail> {
     let entry = Entry::Join {
         seat: seat(number)?,
         key: LineText::copy(alloc, key)?,
@@ -116,7 +121,10 @@ fn looks(rt: HostRuntime) -> Result<(), Fail> {
         let answer = step(&mut campaign, entry)?;
         let line = std::str::from_utf8(asked.line).unwrap_or("");
         assert_eq!(rt; answer.refusal.is_some(), asked.refused, "{line}");
-        assert!(rt; campaign.looks() <= before.saturating_add(asked.looks), "{line}");
+        assert!(rt;
+            campaign.looks() <= before.saturating_add(asked.looks),
+            "{line}"
+        );
     }
     Ok(())
 }
