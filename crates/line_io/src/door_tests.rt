@@ -1,5 +1,7 @@
 //! Doors and spawners: ends that go out and come back, each call that fails, and a connection over TCP.
 
+ghost use Rattle.std.specs.Prelude.{◌≤◌, ◌≡◌};
+
 use crate::*;
 use names::LineText;
 use std::alloc::Global;
