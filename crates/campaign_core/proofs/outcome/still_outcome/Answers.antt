@@ -2,7 +2,7 @@ use Rattle.std.proofs.Common.{◌≡◌, Some, None, sym, ◌∙◌, ap, subst}
 use Rattle.std.specs.Prelude.{Option, IfOk, slice_get}
 use Rattle.campaign_law.specs.Seat.{Seat}
 use Rattle.campaign_law.specs.Outcome.{outcome_at, seat_of}
-use Rattle.campaign_law.specs.World.{asked_of, seat_at}
+use Rattle.campaign_law.specs.World.{asked_of}
 use Rattle.campaign_core.specs.Places.{Place, world_at}
 use Rattle.campaign_core.proofs.Allowing.{may_use_allowed, seat_found}
 use Rattle.campaign_core.proofs.outcome.still_outcome.Goals as goal
