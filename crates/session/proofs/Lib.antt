@@ -9,3 +9,4 @@ pub mod ServedSessions
 pub mod Joinings
 pub mod SatSessions
 pub mod RefusalLines
+pub mod Servings

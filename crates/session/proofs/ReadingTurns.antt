@@ -185,7 +185,7 @@ module _ (w : World) (hold : Hold) (p q r : PassState Entry World) (line : List 
   whole_front : turn.entered ≡ true → r.front ≡ turn.turn.found ++ e ∷ []
   whole_front did = turn.turn.front_is ∙ ap (λ b. turn.turn.found ++ cond b (e ∷ []) []) did
 
-  place : ℕ
+  abbrev place : ℕ
   place = length turn.turn.found
 
   -- the line is the last entry of the front

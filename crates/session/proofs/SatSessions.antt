@@ -146,11 +146,13 @@ module _ (w : World) (seat : ℕ) (key : List ℕ) (joined : Joined) (p r s : Pa
     whole_take : take (suc there) r.front ≡ r.front
     whole_take = take_all (suc there) r.front (omega (arith, long))
 
-    -- both halves ended
-    pub sat_halves : (q t : PassState Entry World) (read : ReadEnd) (gone : Bool) (wrote : Wrote) (text : Option (List ℕ)) (reader : ReaderState) (left before after : Option (List ℕ)) (faults_before faults_after : ℕ) (ended : Ended) → IsOpening w → (gone ≡ true → reading ≡ true) → ended ≡ ended_by read wrote
-        → HasHeard w hold r q read gone text (bytes_to_come reader left) → HasWritten w hold s t wrote before after → ((stop : Stop) → read ≡ reads.Stopped stop → Stops stop reader left)
+    -- both halves ended, which held the seat so
+    pub sat_halves : (q t : PassState Entry World) (held : Hold) (read : ReadEnd) (gone : Bool) (wrote : Wrote) (text : Option (List ℕ)) (reader : ReaderState) (left before after : Option (List ℕ)) (faults_before faults_after : ℕ) (ended : Ended) → IsOpening w → held ≡ hold → (gone ≡ true → reading ≡ true)
+        → ended ≡ ended_by read wrote → HasHeard w held r q read gone text (bytes_to_come reader left) → HasWritten w held s t wrote before after → ((stop : Stop) → read ≡ reads.Stopped stop → Stops stop reader left)
         → HasSat w seat key p q s t text reader left before after faults_before faults_after ended
-    sat_halves q t read gone wrote text reader left before after faults_before faults_after ended opening reads_so end heard written stops =
+    sat_halves q t held read gone wrote text reader left before after faults_before faults_after ended opening same reads_so end held_heard held_written stops =
+        let heard = subst (λ x. HasHeard w x r q read gone text (bytes_to_come reader left)) same held_heard in
+        let written = subst (λ x. HasWritten w x s t wrote before after) same held_written in
         let front : IsPrefix r.front q.front = heard.got.front in
         let grown = prefix_length r.front q.front front in
         let here : there < length r.front = omega (arith, long) in
@@ -189,7 +191,8 @@ module _ (w : World) (seat : ℕ) (key : List ℕ) (joined : Joined) (p r s : Pa
       cause = (there, Contains-push [] there, ap (λ l. is_spent (seat_at (replay w l) seat)) whole_take ∙ taken.spent none);
     }
 
-    pub sat_spent : (t : PassState Entry World) (wrote : Wrote) (reader : ReaderState) (left before after : Option (List ℕ)) (faults_before faults_after : ℕ) (ended : Ended) → IsOpening w → reading ≡ false → ended ≡ ended_by reads.Spent wrote → HasWritten w hold s t wrote before after
+    pub sat_spent : (t : PassState Entry World) (held : Hold) (wrote : Wrote) (reader : ReaderState) (left before after : Option (List ℕ)) (faults_before faults_after : ℕ) (ended : Ended) → IsOpening w → held ≡ hold → reading ≡ false → ended ≡ ended_by reads.Spent wrote → HasWritten w held s t wrote before after
         → HasSat w seat key p r s t (bytes_to_come reader left) reader left before after faults_before faults_after ended
-    sat_spent t wrote reader left before after faults_before faults_after ended opening none end written =
-        sat_halves r t reads.Spent false wrote (bytes_to_come reader left) reader left before after faults_before faults_after ended opening (λ g. cc) end (spent_heard (bytes_to_come reader left) none) written (λ stop is. cc)
+    sat_spent t held wrote reader left before after faults_before faults_after ended opening same none end written =
+        sat_halves r t held reads.Spent false wrote (bytes_to_come reader left) reader left before after faults_before faults_after ended opening same (λ g. cc) end
+        (subst (λ x. HasHeard w x r r reads.Spent false (bytes_to_come reader left) (bytes_to_come reader left)) (sym same) (spent_heard (bytes_to_come reader left) none)) written (λ stop is. cc)

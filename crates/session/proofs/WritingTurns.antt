@@ -142,13 +142,16 @@ joined-map (line ∷ lines) = ap (λ l. (line ++ 10 ∷ []) ++ l) (joined-map li
 pub bytes_of-parts : (count : ℕ) (lines : List (List ℕ)) → bytes_of (take count lines) ++ bytes_of (drop count lines) ≡ bytes_of lines
 bytes_of-parts count lines = sym (bytes_of-append (take count lines) (drop count lines)) ∙ ap bytes_of (take-append-drop count lines)
 
-line_ends-append : (xs ys : List ℕ) → line_ends (xs ++ ys) ≡ line_ends xs + line_ends ys
-line_ends-append [] ys = refl
-line_ends-append (x ∷ xs) ys = by_end (eqb x 10)
+ends_one : (x : ℕ) (xs ys zs : List ℕ) → line_ends zs ≡ line_ends xs + line_ends ys → line_ends (x ∷ zs) ≡ line_ends (x ∷ xs) + line_ends ys
+ends_one x xs ys zs rest = by_end (eqb x 10)
   where
-    by_end : (b : Bool) → length (cond b (x ∷ filter (λ byte. eqb byte 10) (xs ++ ys)) (filter (λ byte. eqb byte 10) (xs ++ ys))) ≡ length (cond b (x ∷ filter (λ byte. eqb byte 10) xs) (filter (λ byte. eqb byte 10) xs)) + line_ends ys
-    by_end true = ap suc (line_ends-append xs ys)
-    by_end false = line_ends-append xs ys
+    by_end : (b : Bool) → length (cond b (x ∷ filter (λ byte. eqb byte 10) zs) (filter (λ byte. eqb byte 10) zs)) ≡ length (cond b (x ∷ filter (λ byte. eqb byte 10) xs) (filter (λ byte. eqb byte 10) xs)) + line_ends ys
+    by_end true = omega (arith, rest)
+    by_end false = rest
+
+line_ends-append : (xs ys : List ℕ) → line_ends (xs ++ ys) ≡ line_ends xs + line_ends ys
+line_ends-append [] ys = omega arith
+line_ends-append (x ∷ xs) ys = ends_one x xs ys (xs ++ ys) (line_ends-append xs ys)
 
 -- each line with its LF has one
 whole_lines : (lines : List (List ℕ)) → length lines ≤ line_ends (bytes_of lines)

@@ -25,10 +25,7 @@ pub(crate) enum Stop {
 }
 
 /// The next line of the input.
-pub(crate) fn next_line<I: Source>(
-    reader: &mut LineReader,
-    input: &mut I,
-) -> Result<LineText, Stop>
+pub(crate) fn next_line<I: Source>(reader: &mut LineReader, input: &mut I) -> Result<LineText, Stop>
     requires { IsReaderOf reader.old (I.left input.old) }
     ensures reader { IsReaderOf reader.new (I.left input.new) }
     ensures line { IfOk result (λ line. CameFirst line (bytes_to_come reader.old (I.left input.old)) (bytes_to_come reader.new (I.left input.new))) }
@@ -46,11 +43,7 @@ pub(crate) fn next_line<I: Source>(
 }
 
 /// Reads the input to its end, or until it stops.
-pub(crate) fn read_on<R: Wait, I: Source>(
-    rt: &R,
-    reader: &mut LineReader,
-    input: &mut I,
-) -> Stop
+pub(crate) fn read_on<R: Wait, I: Source>(rt: &R, reader: &mut LineReader, input: &mut I) -> Stop
     requires { IsReaderOf reader.old (I.left input.old) }
     ensures reader { IsReaderOf reader.new (I.left input.new) }
     ensures stop { Stops result reader.new (I.left input.new) }

@@ -15,7 +15,10 @@ use turn_lock::{Job, Object};
 #[derive(Drop)]
 pub(crate) enum Joined {
     /// It was accepted at this place of the history; whether the seat's lines are read.
-    Seated { place: u64, reads: bool },
+    Seated {
+        place: u64,
+        reads: bool,
+    },
     /// It was refused for this cause. The line tells it, and has no LF.
     Refused {
         refusal: JoinRefusal,

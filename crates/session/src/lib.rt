@@ -20,8 +20,8 @@ mod writing;
 
 use campaign_core::Campaign;
 pub use serving::{Sat, serve_session};
-pub use sitting::Ended;
 use sight_sweep::SweepEye;
+pub use sitting::Ended;
 
 /// The campaign that sessions share.
 pub type Table = Campaign<SweepEye>;

@@ -42,8 +42,11 @@ pub fn serve_session<R: Threads + Wait + Sync, I: Source + Send, O: Sink + Send>
     requires reader { IsPassOf hall.now reader }
     requires writer { IsPassOf hall.now writer }
     requires opening { IsOpening hall.now.origin }
-    ensures reader { IsPassOf hall.now result.reader × Grew reader result.reader }
-    ensures writer { IsPassOf hall.now result.writer × Grew writer result.writer }
+    ensures reader { IsPassOf hall.now result.reader }
+    ensures writer { IsPassOf hall.now result.writer }
+
+    // Each keeps its number, and its front begins with what it was.
+    ensures grew { Grew reader result.reader × Grew writer result.writer }
 
     // What it entered and wrote, and why it ended so.
     ensures served { HasServed hall.now.origin reader result.reader writer result.writer (I.left input.old) (I.left input.new) (O.written output.old) (O.written output.new) (O.faults_of output.old) (O.faults_of output.new) result.ended }
@@ -74,8 +77,9 @@ fn serve<R: Threads + Wait + Sync, I: Source + Send, O: Sink + Send>(
     requires reader { IsPassOf hall.now reader.old }
     requires writer { IsPassOf hall.now writer.old }
     requires opening { IsOpening hall.now.origin }
-    ensures reader { IsPassOf hall.now reader.new × Grew reader.old reader.new }
-    ensures writer { IsPassOf hall.now writer.new × Grew writer.old writer.new }
+    ensures reader { IsPassOf hall.now reader.new }
+    ensures writer { IsPassOf hall.now writer.new }
+    ensures grew { Grew reader.old reader.new × Grew writer.old writer.new }
     ensures served { HasServed hall.now.origin reader.old reader.new writer.old writer.new (I.left input.old) (I.left input.new) (O.written output.old) (O.written output.new) (O.faults_of output.old) (O.faults_of output.new) result }
     ensures input_count { I.faults_of input.old ≤ I.faults_of input.new }
     ensures read_fault { result ≡ Ended.ReadFault → CountRose (I.faults_of input.old) (I.faults_of input.new) }

@@ -1,12 +1,12 @@
 //! A session that read a hello.
 ghost use Rattle.std.specs.Prelude.{◌≡◌, ◌≤◌, []};
-ghost use mathlib.Core.List.{IsPrefix};
 ghost use Rattle.line_io.specs.Counts.{CountRose};
 ghost use Rattle.line_io.specs.Reader.{bytes_to_come};
 ghost use Rattle.turn_lock.specs.Pass.{IsPassOf};
 ghost use Rattle.campaign_law.specs.Law.{IsOpening};
 ghost use Rattle.session.specs.Inputs.{IsReaderOf};
 ghost use Rattle.session.specs.Ends.{WroteLine, ended_by as ended_by_lem, ended_at};
+ghost use Rattle.session.specs.Own.{Grew};
 ghost use Rattle.session.specs.Sat.{HasSat};
 ghost use Rattle.session.specs.JoinTurn.{TakesSeat};
 
@@ -62,6 +62,7 @@ pub(crate) fn sit<R: Threads + Wait + Sync, I: Source + Send, O: Sink + Send>(
     requires lines { IsReaderOf lines.old (I.left input.old) }
     ensures reader { IsPassOf hall.now reader.new }
     ensures writer { IsPassOf hall.now writer.new }
+    ensures grew { Grew reader.old reader.new × Grew writer.old writer.new }
     ensures sat { HasSat hall.now.origin seat key reader.old reader.new writer.old writer.new (bytes_to_come lines.old (I.left input.old)) lines.new (I.left input.new) (O.written output.old) (O.written output.new) (O.faults_of output.old) (O.faults_of output.new) result }
     ensures input_count { I.faults_of input.old ≤ I.faults_of input.new }
     ensures read_fault { result ≡ Ended.ReadFault → CountRose (I.faults_of input.old) (I.faults_of input.new) }
