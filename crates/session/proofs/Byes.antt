@@ -38,7 +38,7 @@ dice_counted : (b c : Book) (dice : Option (List ℕ)) → IsCounted b c → IsC
 dice_counted b c None is = is
 dice_counted b c (Some dice) is = record { state = is.state; lines = is.lines }
 
-book_after : Outcome → Book → Book
+abbrev book_after : Outcome → Book → Book
 book_after o b = unwrap_or o.book b
 
 -- what a Joined seat's line does to its book, but for a bye

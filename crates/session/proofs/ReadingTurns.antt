@@ -15,8 +15,8 @@ use Rattle.turn_lock.proofs.Prefixes.{prefix_self, prefix_get, prefix_trans}
 use Rattle.session.specs.declared.hold.Hold.{Hold}
 use Rattle.session.specs.declared.speaking.Said.{Said}
 use Rattle.session.specs.declared.speaking.Said.TheVariants as saying
-use Rattle.session.specs.declared.reading.ReadEnd.{ReadEnd}
-use Rattle.session.specs.declared.reading.ReadEnd.TheVariants.{Bye, Spent, Stopped}
+use Rattle.session.specs.declared.hearing.ReadEnd.{ReadEnd}
+use Rattle.session.specs.declared.hearing.ReadEnd.TheVariants.{Bye, Spent, Stopped}
 use Rattle.session.specs.declared.input.Stop.{Stop}
 use Rattle.session.specs.declared.input.Stop.TheVariants.{Memory}
 use Rattle.session.specs.Inputs.{CameFirst, StopsBefore}

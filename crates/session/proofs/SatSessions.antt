@@ -23,8 +23,8 @@ use Rattle.session.specs.declared.joining.Joined.{Joined}
 use Rattle.session.specs.declared.joining.Joined.TheVariants as joins
 use Rattle.session.specs.declared.sitting.Ended.{Ended}
 use Rattle.session.specs.declared.sitting.Ended.TheVariants as ends
-use Rattle.session.specs.declared.reading.ReadEnd.{ReadEnd}
-use Rattle.session.specs.declared.reading.ReadEnd.TheVariants as reads
+use Rattle.session.specs.declared.hearing.ReadEnd.{ReadEnd}
+use Rattle.session.specs.declared.hearing.ReadEnd.TheVariants as reads
 use Rattle.session.specs.declared.writing.Wrote.{Wrote}
 use Rattle.session.specs.Inputs.{Stops}
 use Rattle.session.specs.Own.{Grew}

@@ -16,8 +16,8 @@ use Rattle.line_io.specs.Told.{WhereTold}
 use Rattle.line_io.specs.Reader.{bytes_to_come}
 use Rattle.line_io.specs.ReaderState.{ReaderState}
 use Rattle.session.specs.declared.hold.Hold.{Hold}
-use Rattle.session.specs.declared.reading.ReadEnd.{ReadEnd}
-use Rattle.session.specs.declared.reading.ReadEnd.TheVariants.{Bye, Spent, Stopped}
+use Rattle.session.specs.declared.hearing.ReadEnd.{ReadEnd}
+use Rattle.session.specs.declared.hearing.ReadEnd.TheVariants.{Bye, Spent, Stopped}
 use Rattle.session.specs.declared.input.Stop.{Stop}
 use Rattle.session.specs.declared.input.Stop.TheVariants.{End, TooLong, ReadFault, Memory as NoMemory}
 use Rattle.session.specs.declared.sitting.Ended.{Ended}

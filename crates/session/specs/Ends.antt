@@ -5,8 +5,8 @@ use mathlib.Core.List.{IsPrefix}
 use Rattle.line_io.specs.Counts.{CountRose}
 use Rattle.session.specs.declared.input.Stop.{Stop}
 use Rattle.session.specs.declared.input.Stop.TheVariants as stops
-use Rattle.session.specs.declared.reading.ReadEnd.{ReadEnd}
-use Rattle.session.specs.declared.reading.ReadEnd.TheVariants as reads
+use Rattle.session.specs.declared.hearing.ReadEnd.{ReadEnd}
+use Rattle.session.specs.declared.hearing.ReadEnd.TheVariants as reads
 use Rattle.session.specs.declared.writing.Wrote.{Wrote}
 use Rattle.session.specs.declared.writing.Wrote.TheVariants as writes
 use Rattle.session.specs.declared.sitting.Ended.{Ended}

@@ -8,8 +8,8 @@ use Rattle.campaign_law.specs.declared.entry.Entry.TheVariants.{Join, Line, Leav
 use Rattle.campaign_law.specs.World.{World, seat_at, replay}
 use Rattle.turn_lock.specs.Pass.{PassState}
 use Rattle.session.specs.declared.hold.Hold.{Hold}
-use Rattle.session.specs.declared.reading.ReadEnd.{ReadEnd}
-use Rattle.session.specs.declared.reading.ReadEnd.TheVariants.{Bye, Spent, Stopped}
+use Rattle.session.specs.declared.hearing.ReadEnd.{ReadEnd}
+use Rattle.session.specs.declared.hearing.ReadEnd.TheVariants.{Bye, Spent, Stopped}
 use Rattle.session.specs.declared.input.Stop.TheVariants.{Memory}
 use Rattle.session.specs.Held.{is_held, is_read}
 use Rattle.session.specs.Spoken.{is_spent}

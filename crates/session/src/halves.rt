@@ -5,14 +5,14 @@ ghost use Rattle.line_io.specs.Reader.{bytes_to_come};
 ghost use Rattle.turn_lock.specs.Pass.{IsPassOf};
 ghost use Rattle.campaign_law.specs.Law.{IsOpening};
 ghost use Rattle.session.specs.Inputs.{IsReaderOf, Stops};
-ghost use Rattle.session.specs.declared.reading.ReadEnd.TheVariants.{Stopped};
+ghost use Rattle.session.specs.declared.hearing.ReadEnd.TheVariants.{Stopped};
 ghost use Rattle.session.specs.Heard.{HasHeard};
 ghost use Rattle.session.specs.Written.{HasWritten};
 
 use crate::Table;
+use crate::hearing::{ReadEnd, read_half};
 use crate::hold::Hold;
 use crate::input::Stop;
-use crate::reading::{ReadEnd, read_half};
 use crate::writing::{Wrote, write_half};
 use line_io::{LineReader, Sink, Source};
 use std::sync::Wait;

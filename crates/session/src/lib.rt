@@ -8,18 +8,18 @@
 mod exchange;
 mod first_line;
 mod halves;
+mod hearing;
 mod hold;
 mod input;
 mod joining;
 mod leaving;
-mod reading;
-mod serving;
+mod service;
 mod sitting;
 mod speaking;
 mod writing;
 
 use campaign_core::Campaign;
-pub use serving::{Sat, serve_session};
+pub use service::{Sat, serve_session};
 use sight_sweep::SweepEye;
 pub use sitting::Ended;
 

@@ -12,10 +12,10 @@ ghost use Rattle.session.specs.JoinTurn.{TakesSeat};
 
 use crate::Table;
 use crate::halves::run_halves;
+use crate::hearing::ReadEnd;
 use crate::hold::Hold;
 use crate::input::Stop;
 use crate::joining::{Joined, Joining};
-use crate::reading::ReadEnd;
 use crate::writing::{Wrote, write_half};
 use line_io::{LineReader, Sink, Source, write_whole};
 use names::{LineText, SeatNo};

@@ -4,7 +4,7 @@ ghost use Rattle.line_io.specs.Counts.{CountRose};
 ghost use Rattle.line_io.specs.Reader.{bytes_to_come};
 ghost use Rattle.turn_lock.specs.Pass.{IsPassOf};
 ghost use Rattle.session.specs.Inputs.{IsReaderOf, Stops};
-ghost use Rattle.session.specs.declared.reading.ReadEnd.TheVariants.{Stopped};
+ghost use Rattle.session.specs.declared.hearing.ReadEnd.TheVariants.{Stopped};
 ghost use Rattle.session.specs.Heard.{HasHeard};
 ghost use Rattle.session.specs.Turned.{Speaks, Leaves};
 

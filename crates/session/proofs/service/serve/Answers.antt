@@ -1,6 +1,6 @@
 use Rattle.std.proofs.Common.{refl}
 use Rattle.session.proofs.Servings.{serves_nothing, serves_unread, serves_strange, serves_greeted}
-use Rattle.session.proofs.serving.serve.Goals as goal
+use Rattle.session.proofs.service.serve.Goals as goal
 
 pub returns-in_default-clause-served : goal.returns-in_default-clause-served
 returns-in_default-clause-served g c = serves_nothing c.args.hall.now.origin c.args.reader.now c.args.writer.now (g.I.Source.left c.args.input.now) (g.O.Sink.written c.args.output.now) (g.O.Sink.faults_of c.args.output.now)
