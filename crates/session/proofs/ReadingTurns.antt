@@ -22,12 +22,12 @@ use Rattle.session.specs.declared.input.Stop.TheVariants.{Memory}
 use Rattle.session.specs.Inputs.{CameFirst, StopsBefore}
 use Rattle.session.specs.Held.{is_held, is_read}
 use Rattle.session.specs.Own.{StandsAt, Got}
-use Rattle.session.specs.Heard.{IsReadAfter, IsReaders, line_in, lines_at, Came, AreFirst, IsSpentAt, IsReading, HasHeard}
+use Rattle.session.specs.Heard.{IsReadAfter, IsReaders, line_in, lines_at, Came, AreFirst, IsSpentAt, IsUnspent, IsReading, HasHeard}
 use Rattle.session.specs.Turned.{Speaks, Leaves}
 use Rattle.session.specs.Spoken.{is_spent, Says, SaysNot, Spoken}
 use Rattle.session.specs.Left.{Left as HasLeft}
 use Rattle.session.proofs.Alone.{stands_longer}
-use Rattle.session.proofs.Byes.{closed_by_bye}
+use Rattle.session.proofs.Byes.{closed_by_bye, spent_closes}
 use Rattle.session.proofs.WritingTurns.{stands_last}
 
 -- ---- lines at places
@@ -69,6 +69,12 @@ module _ (rule : List Entry → Entry → Type 0) (ran : List Entry → List Ent
         (subst (λ l. All (StandsAt rule l) new) (sym turn.front_is) (stands_last rule turn.found entered e lawful));
   }
 
+  -- another rule of the same entries
+  turn_stands : (other : List Entry → Entry → Type 0) → All (StandsAt other q.front) more → (entered ≡ true → other turn.found e) → All (StandsAt other r.front) (more ++ new)
+  turn_stands other old lawful =
+      All-append (StandsAt other r.front) more new (stands_longer other q.front r.front more grows old)
+      (subst (λ l. All (StandsAt other l) new) (sym turn.front_is) (stands_last other turn.found entered e lawful))
+
   turn_lines : lines_at r.front (more ++ new) ≡ lines_at q.front more ++ cond entered (line_in (Some e)) []
   turn_lines =
       lines_at-append r.front more new
@@ -109,6 +115,7 @@ starts w hold p text = record {
   got = record { front = prefix_self p.front; number = refl; own = sym (append-nil p.own); each = λ i d lt. absurd (omega (arith, lt)) };
   came = nothing_came text;
   kept = λ i d lt. absurd (omega (arith, lt));
+  unspent = λ i d lt. absurd (omega (arith, lt));
 }
   where
     nothing_came : (text : Option (List ℕ)) → WhereTold text text (Came [])
@@ -128,8 +135,11 @@ module _ (w : World) (hold : Hold) (p q r : PassState Entry World) (more : List 
       none true = append-nil (lines_at q.front more)
       none false = append-nil (lines_at q.front more)
 
-leaves_early : (w : World) (hold : Hold) (p q r : PassState Entry World) (more : List ℕ) (t v : Option (List ℕ)) (got : Got (IsReaders w hold) p q more) → AreFirst (lines_at q.front more) t → Leaves w hold q r → HasHeard w hold p r (Stopped Memory) false t v
-leaves_early w hold p q r more t v got first left = record {
+  leaving_unspent : All (StandsAt (IsUnspent w hold) q.front) more → All (StandsAt (IsUnspent w hold) r.front) (more ++ places (length left.turn.found) (cond left.entered (Leave hold.seat false ∷ []) []))
+  leaving_unspent old = turn_stands (IsReaders w hold) (λ before after. HasLeft w hold false before left.entered after) (Leave hold.seat false) left.entered p q r more got left.number left.turn (IsUnspent w hold) old (λ did. tt)
+
+leaves_early : (w : World) (hold : Hold) (p q r : PassState Entry World) (more : List ℕ) (t v : Option (List ℕ)) (got : Got (IsReaders w hold) p q more) → All (StandsAt (IsUnspent w hold) q.front) more → AreFirst (lines_at q.front more) t → Leaves w hold q r → HasHeard w hold p r (Stopped Memory) false t v
+leaves_early w hold p q r more t v got unspent first left = record {
   more = more ++ places (length left.turn.found) (cond left.entered (Leave hold.seat false ∷ []) []);
   got = leaving_got w hold p q r more got left;
   first = subst (λ ls. AreFirst ls t) (sym (leaving_lines w hold p q r more got left)) first;
@@ -137,6 +147,7 @@ leaves_early w hold p q r more t v got first left = record {
   closed = left.turn.has_run.closed;
   kept = λ g. cc;
   cause = tt;
+  unspent = λ other. leaving_unspent w hold p q r more got left unspent;
 }
 
 module _ (w : World) (hold : Hold) (p q r : PassState Entry World) (line : List ℕ) (said : Said) (t u v : Option (List ℕ)) (is : IsReading w hold p q t u) (answer : CameFirst line u v) (turn : Speaks w hold line said q r) where
@@ -201,10 +212,23 @@ module _ (w : World) (hold : Hold) (p q r : PassState Entry World) (line : List 
       let says = subst (Says w hold r.front) so (turn.turn.has_run.says did) in
       All-append (IsReadAfter w hold r.front) is.more (places place (cond turn.entered (e ∷ []) [])) kept_old
       (subst (λ b. All (IsReadAfter w hold r.front) (places place (cond b (e ∷ []) []))) (sym did)
-      (All-cons (IsReadAfter w hold r.front) place [] (ap (λ l. is_read w l hold) (whole_take did) ∙ says) (All-nil (IsReadAfter w hold r.front))))
+      (All-cons (IsReadAfter w hold r.front) place [] (ap (λ l. is_read w l hold) (whole_take did) ∙ says.0) (All-nil (IsReadAfter w hold r.front))))
+
+  unspent_more : (turn.entered ≡ true → IsUnspent w hold turn.turn.found e) → All (StandsAt (IsUnspent w hold) r.front) more
+  unspent_more lawful = turn_stands (IsReaders w hold) ran e turn.entered p q r is.more is.got turn.number turn.turn (IsUnspent w hold) is.unspent lawful
+
+  -- the line left the seat with lines to come
+  unspent_line : turn.entered ≡ true → is_spent (seat_at (replay w r.front) hold.seat) ≡ false → IsUnspent w hold turn.turn.found e
+  unspent_line did is_not = ap (λ l. is_spent (seat_at (replay w l) hold.seat)) (sym (whole_front did)) ∙ is_not
+
+  unspent_none : turn.entered ≡ false → All (StandsAt (IsUnspent w hold) r.front) more
+  unspent_none none = unspent_more (λ did. let z : true ≡ false = sym did ∙ none in absurd cc)
 
   pub goes : said ≡ saying.Goes → IsReading w hold p r t v
-  goes so = record { more = more; got = spoke_got; came = all_came (entered_by (λ s. subst (SaysNot w hold turn.turn.found) so s)); kept = kept_more so }
+  goes so =
+      let did = entered_by (λ s. subst (SaysNot w hold turn.turn.found) so s) in
+      let says = subst (Says w hold r.front) so (turn.turn.has_run.says did) in
+      record { more = more; got = spoke_got; came = all_came did; kept = kept_more so; unspent = unspent_more (λ _. unspent_line did says.1) }
 
   -- the line was the session's last
   pub ends_bye : said ≡ saying.Bye → HasHeard w hold p r Bye false t v
@@ -228,20 +252,23 @@ module _ (w : World) (hold : Hold) (p q r : PassState Entry World) (line : List 
             bye = closed_by_bye w turn.turn.found hold line (turn.turn.has_run.read did) (ap (λ l. is_read w l hold) (sym last) ∙ says.0) (ap (λ l. is_spent (seat_at (replay w l) hold.seat)) (sym last) ∙ says.1);
           },
         );
+        unspent = λ other. unspent_more (λ _. unspent_line did says.1);
       }
 
   pub ends_spent : said ≡ saying.Spent → HasHeard w hold p r Spent false t v
   ends_spent so =
       let did = entered_by (λ s. subst (SaysNot w hold turn.turn.found) so s) in
       let says = subst (Says w hold r.front) so (turn.turn.has_run.says did) in
+      let last = whole_front did in
       record {
         more = more;
         got = spoke_got;
         first = are_first (lines_at r.front more) t v (all_came did);
         all = λ g n. all_came did;
-        closed = says.0;
+        closed = ap (λ l. is_read w l hold) last ∙ spent_closes w turn.turn.found hold line (turn.turn.has_run.read did) (ap (λ l. is_spent (seat_at (replay w l) hold.seat)) (sym last) ∙ says);
         kept = λ g. cc;
-        cause = (place, Contains-append_right (hold.place ∷ []) more place (own_place did), ap (λ l. is_spent (seat_at (replay w l) hold.seat)) (whole_take did) ∙ says.1);
+        cause = (place, Contains-append_right (hold.place ∷ []) more place (own_place did), ap (λ l. is_spent (seat_at (replay w l) hold.seat)) (whole_take did) ∙ says);
+        unspent = λ other. absurd (other refl);
       }
 
   not_entered : (Says w hold r.front said → ⊥) → turn.entered ≡ false
@@ -257,13 +284,13 @@ module _ (w : World) (hold : Hold) (p q r : PassState Entry World) (line : List 
       let none = not_entered (λ s. subst (Says w hold r.front) so s) in
       let gone = subst (SaysNot w hold turn.turn.found) so (turn.turn.has_run.not none) in
       let same = nothing_entered (IsReaders w hold) ran e turn.entered p q r is.more is.got turn.number turn.turn none in
-      record { more = more; got = spoke_got; first = first_still none; all = λ g n. cc; closed = ap (λ l. is_read w l hold) same ∙ gone; kept = λ _. kept_still none; cause = tt }
+      record { more = more; got = spoke_got; first = first_still none; all = λ g n. cc; closed = ap (λ l. is_read w l hold) same ∙ gone; kept = λ _. kept_still none; cause = tt; unspent = λ other. unspent_none none }
 
   -- want of memory: the seat is left
   pub ends_unsaid : said ≡ saying.Memory → (s : PassState Entry World) → Leaves w hold r s → HasHeard w hold p s (Stopped Memory) false t v
   ends_unsaid so s left =
       let none = not_entered (λ s. subst (Says w hold r.front) so s) in
-      leaves_early w hold p r s more t v spoke_got (first_still none) left
+      leaves_early w hold p r s more t v spoke_got (unspent_none none) (first_still none) left
 
 -- ---- no further line is read
 
@@ -278,4 +305,5 @@ ends_input w hold p q r stop t u v is same left =
       closed = left.turn.has_run.closed;
       kept = λ g. cc;
       cause = tt;
+      unspent = λ other. leaving_unspent w hold p q r is.more is.got left is.unspent;
     }

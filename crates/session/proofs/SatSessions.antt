@@ -1,5 +1,5 @@
 -- A session from its Join on.
-use Rattle.std.proofs.Common.{◌≡◌, ℕ, suc, ◌+◌, ◌<◌, ◌≤◌, Bool, true, false, cond, List, [], ◌∷◌, ◌++◌, length, take, drop, slice_get, refl, sym, ◌∙◌, ap, subst, arith, append_assoc, length-append}
+use Rattle.std.proofs.Common.{◌≡◌, ◌≢◌, ℕ, suc, ◌+◌, ◌<◌, ◌≤◌, Bool, true, false, cond, List, [], ◌∷◌, ◌++◌, length, take, drop, slice_get, refl, sym, ◌∙◌, ap, subst, arith, append_assoc, length-append}
 use Rattle.std.specs.Prelude.{Option, Some, None}
 use Rattle.std.proofs.lemmas.List.{append-nil, take_all, take-append-le, take-append-drop}
 use Rattle.std.proofs.lemmas.List.Elements.{All-nil, Contains-push}
@@ -146,11 +146,14 @@ module _ (w : World) (seat : ℕ) (key : List ℕ) (joined : Joined) (p r s : Pa
     whole_take : take (suc there) r.front ≡ r.front
     whole_take = take_all (suc there) r.front (omega (arith, long))
 
+    found_take : take there r.front ≡ turn.turn.found
+    found_take = ap (λ n. take n r.front) taken.last ∙ ap (take place) (entered_front did) ∙ take-append-le place turn.turn.found (e ∷ []) (omega arith) ∙ take_all place turn.turn.found (omega arith)
+
     -- both halves ended, which held the seat so
-    pub sat_halves : (q t : PassState Entry World) (held : Hold) (read : ReadEnd) (gone : Bool) (wrote : Wrote) (text : Option (List ℕ)) (reader : ReaderState) (left before after : Option (List ℕ)) (faults_before faults_after : ℕ) (ended : Ended) → IsOpening w → held ≡ hold → (gone ≡ true → reading ≡ true)
+    pub sat_halves : (q t : PassState Entry World) (held : Hold) (read : ReadEnd) (gone : Bool) (wrote : Wrote) (text : Option (List ℕ)) (reader : ReaderState) (left before after : Option (List ℕ)) (faults_before faults_after : ℕ) (ended : Ended) → IsOpening w → held ≡ hold → (gone ≡ true → reading ≡ true) → (read ≢ reads.Spent → reading ≡ true)
         → ended ≡ ended_by read wrote → HasHeard w held r q read gone text (bytes_to_come reader left) → HasWritten w held s t wrote before after → ((stop : Stop) → read ≡ reads.Stopped stop → Stops stop reader left)
         → HasSat w seat key p q s t text reader left before after faults_before faults_after ended
-    sat_halves q t held read gone wrote text reader left before after faults_before faults_after ended opening same reads_so end held_heard held_written stops =
+    sat_halves q t held read gone wrote text reader left before after faults_before faults_after ended opening same reads_so unspent_so end held_heard held_written stops =
         let heard = subst (λ x. HasHeard w x r q read gone text (bytes_to_come reader left)) same held_heard in
         let written = subst (λ x. HasWritten w x s t wrote before after) same held_written in
         let front : IsPrefix r.front q.front = heard.got.front in
@@ -168,7 +171,13 @@ module _ (w : World) (seat : ℕ) (key : List ℕ) (joined : Joined) (p r s : Pa
               let whole : IsPrefix r.front h = prefix_trans r.front q.front h front q_front in
               served w h hold r q s t read gone wrote ended text reader left before after opening (joined_longer w r.front h there seat p.number s.number whole here taken.seated)
               (λ g. ap (λ l. is_read w l hold) (front_take (suc there) r.front h whole (omega arith) ∙ whole_take) ∙ sym taken.reads_is ∙ reads_so g)
-              heard written end stops (omega (arith, here, grown)) q_front t_front;
+              heard written end stops
+              (λ other. record {
+                entry = e;
+                there = prefix_get r.front q.front there e front entry_here;
+                lawful = ap (λ l. is_spent (seat_at (replay w (l ++ e ∷ [])) seat)) (front_take there r.front q.front front (omega arith) ∙ found_take) ∙ ap (λ l. is_spent (seat_at (replay w l) seat)) (sym (entered_front did)) ∙ taken.unspent (unspent_so other);
+              })
+              (omega (arith, here, grown)) q_front t_front;
         })
 
     none_first : (text : Option (List ℕ)) → AreFirst [] text
@@ -189,10 +198,11 @@ module _ (w : World) (seat : ℕ) (key : List ℕ) (joined : Joined) (p r s : Pa
       closed = sym taken.reads_is ∙ none;
       kept = λ g. cc;
       cause = (there, Contains-push [] there, ap (λ l. is_spent (seat_at (replay w l) seat)) whole_take ∙ taken.spent none);
+      unspent = λ other. absurd (other refl);
     }
 
     pub sat_spent : (t : PassState Entry World) (held : Hold) (wrote : Wrote) (reader : ReaderState) (left before after : Option (List ℕ)) (faults_before faults_after : ℕ) (ended : Ended) → IsOpening w → held ≡ hold → reading ≡ false → ended ≡ ended_by reads.Spent wrote → HasWritten w held s t wrote before after
         → HasSat w seat key p r s t (bytes_to_come reader left) reader left before after faults_before faults_after ended
     sat_spent t held wrote reader left before after faults_before faults_after ended opening same none end written =
-        sat_halves r t held reads.Spent false wrote (bytes_to_come reader left) reader left before after faults_before faults_after ended opening same (λ g. cc) end
+        sat_halves r t held reads.Spent false wrote (bytes_to_come reader left) reader left before after faults_before faults_after ended opening same (λ g. cc) (λ other. absurd (other refl)) end
         (subst (λ x. HasHeard w x r r reads.Spent false (bytes_to_come reader left) (bytes_to_come reader left)) (sym same) (spent_heard (bytes_to_come reader left) none)) written (λ stop is. cc)

@@ -21,11 +21,12 @@ use Rattle.session.specs.declared.hearing.ReadEnd.TheVariants.{Bye, Spent, Stopp
 use Rattle.session.specs.declared.input.Stop.{Stop}
 use Rattle.session.specs.declared.input.Stop.TheVariants.{End, TooLong, ReadFault, Memory as NoMemory}
 use Rattle.session.specs.declared.sitting.Ended.{Ended}
+use Rattle.session.specs.declared.sitting.Ended.TheVariants.{Left as LeftSo}
 use Rattle.session.specs.declared.writing.Wrote.{Wrote}
 use Rattle.session.specs.declared.writing.Wrote.TheVariants.{All as AllWritten, Memory, WriteFault}
 use Rattle.session.specs.Held.{is_held, is_read, is_over, lines_of, HasJoined}
 use Rattle.session.specs.Own.{StandsAt, Got, takes_from, IsAlone}
-use Rattle.session.specs.Heard.{IsReaders, lines_at, Came, AreFirst, IsByeAt, IsSpentAt, ClosedBy, HasHeard}
+use Rattle.session.specs.Heard.{IsReaders, lines_at, Came, AreFirst, IsByeAt, IsSpentAt, IsUnspent, ClosedBy, HasHeard}
 use Rattle.campaign_law.specs.Outcome.{seat_of}
 use Rattle.campaign_law.specs.Session.{closes}
 use Rattle.session.proofs.GoneSessions.{taken_never_closes, read_throughout}
@@ -160,6 +161,14 @@ whole_of (Stopped NoMemory) AllWritten so = cc
 whole_of read Memory so = cc
 whole_of read WriteFault so = cc
 
+-- one that just left wasn't ended by the seat's last line
+left_of : (read : ReadEnd) (wrote : Wrote) → ended_by read wrote ≡ LeftSo → read ≢ Spent
+left_of Bye AllWritten so = λ e. cc
+left_of Spent AllWritten so = cc
+left_of (Stopped stop) AllWritten so = λ e. cc
+left_of read Memory so = cc
+left_of read WriteFault so = cc
+
 -- the cause in a front of the history is one in the whole
 module _ (w : World) (f h : List Entry) (hold : Hold) (own : List ℕ) (reader : ReaderState) (left : Option (List ℕ)) (prefix : IsPrefix f h) (long : hold.place < length f) (within : All (λ k. k < length f) own) where
   spent_longer : (k : ℕ) → k < length f → IsSpentAt w f hold.seat k → IsSpentAt w h hold.seat k
@@ -187,8 +196,9 @@ stands_within rule f own each = λ i d lt. let at = each i d lt in slice_get_wit
 -- a session whose Join was accepted in the longer history
 pub served : (w : World) (h : List Entry) (hold : Hold) (p q s t : PassState Entry World) (read : ReadEnd) (gone : Bool) (wrote : Wrote) (ended : Ended) (text : Option (List ℕ)) (reader : ReaderState) (left before after : Option (List ℕ)) → IsOpening w → HasJoined w h hold
     → (gone ≡ true → is_read w (take (suc hold.place) h) hold ≡ true) → (heard : HasHeard w hold p q read gone text (bytes_to_come reader left)) → (written : HasWritten w hold s t wrote before after) → ended ≡ ended_by read wrote → ((stop : Stop) → read ≡ Stopped stop → Stops stop reader left)
+    → (read ≢ Spent → StandsAt (IsUnspent w hold) q.front hold.place)
     → hold.place < length q.front → IsPrefix q.front h → IsPrefix t.front h → IsServed w h hold heard.more written.more ended text reader left before after
-served w h hold p q s t read gone wrote ended text reader left before after opening joined begun heard written end stops long reads writes =
+served w h hold p q s t read gone wrote ended text reader left before after opening joined begun heard written end stops first long reads writes =
     let readers : All (StandsAt (IsReaders w hold) h) heard.more = stands_longer (IsReaders w hold) q.front h heard.more reads heard.got.each in
     let writers : All (StandsAt (IsWriters w hold written.count) h) written.more = stands_longer (IsWriters w hold written.count) t.front h written.more writes written.got.each in
     let joined_there = joined_in_front w t.front h hold writes written.long joined in
@@ -218,4 +228,7 @@ served w h hold p q s t read gone wrote ended text reader left before after open
           let all = whole_of read wrote (ap is_whole (sym end) ∙ so) in
           subst (λ l. WhereTold text (bytes_to_come reader left) (Came l)) (sym same) (heard.all (never_gone w h hold p q s t read gone wrote text (bytes_to_come reader left) before after joined begun heard written all.0 long reads writes quiet) all.1);
       cause = subst (λ x. IsCause x w h hold heard.more reader left) (sym end) (cause_of w q.front h hold heard.more reader left reads long (stands_within (IsReaders w hold) q.front heard.more heard.got.each) read wrote heard.cause stops);
+      unspent = λ left_so.
+          let other = left_of read wrote (sym end ∙ left_so) in
+          stands_longer (IsUnspent w hold) q.front h (hold.place ∷ heard.more) reads (All-cons (StandsAt (IsUnspent w hold) q.front) hold.place heard.more (first other) (heard.unspent other));
     }

@@ -16,7 +16,7 @@ use Rattle.session.specs.Spoken.{is_spent}
 use Rattle.command_json.specs.declared.command.Command.{Command}
 use Rattle.command_json.specs.Commands.{command_of}
 use Rattle.campaign_law.specs.Outcome.{is_bye}
-use Rattle.session.specs.Own.{Got}
+use Rattle.session.specs.Own.{StandsAt, Got}
 
 -- what the reading half may enter: Lines of the seat while its passes hold it as Joined, and a Leave while they hold it
 abbrev pub IsReaders : World → Hold → List Entry → Entry → Type 0
@@ -65,6 +65,13 @@ pub record IsByeAt (h : List Entry) (seat place : ℕ) : Type 0 where
 abbrev pub IsSpentAt : World → List Entry → ℕ → ℕ → Type 0
 IsSpentAt w h seat place = is_spent (seat_at (replay w (take (suc place) h)) seat) ≡ true
 
+-- a Join or a Line, behind which the seat hasn't had all its lines
+abbrev pub IsUnspent : World → Hold → List Entry → Entry → Type 0
+IsUnspent w hold before (Join seat key reader writer) = is_spent (seat_at (replay w (before ++ Join seat key reader writer ∷ [])) hold.seat) ≡ false
+IsUnspent w hold before (Line seat bytes) = is_spent (seat_at (replay w (before ++ Line seat bytes ∷ [])) hold.seat) ≡ false
+IsUnspent w hold before (Leave seat drop) = Unit {0}
+IsUnspent w hold before (Taken seat count) = Unit {0}
+
 -- what closed the seat, where the reading half entered at these places: a bye, or the seat's last line, which may be the Join
 abbrev pub ClosedBy : ReadEnd → World → List Entry → Hold → List ℕ → Type 0
 ClosedBy Bye w h hold own = (k : ℕ) × Contains own k × IsByeAt h hold.seat k
@@ -77,6 +84,7 @@ pub record IsReading (w : World) (hold : Hold) (p q : PassState Entry World) (te
   pub got : Got (IsReaders w hold) p q more
   pub came : WhereTold text rest (Came (lines_at q.front more))
   pub kept : All (IsReadAfter w hold q.front) more
+  pub unspent : All (StandsAt (IsUnspent w hold) q.front) more
 
 -- The reading half ended. Where it was gone, a line found that the passes no longer held the seat as Joined
 pub record HasHeard (w : World) (hold : Hold) (p q : PassState Entry World) (end : ReadEnd) (gone : Bool) (text rest : Option (List ℕ)) : Type 0 where
@@ -90,3 +98,5 @@ pub record HasHeard (w : World) (hold : Hold) (p q : PassState Entry World) (end
   -- where it was gone, none of its own entries closed the seat
   pub kept : gone ≡ true → All (IsReadAfter w hold q.front) more
   pub cause : ClosedBy end w q.front hold more
+  -- and no other of its lines was the seat's last
+  pub unspent : end ≢ Spent → All (StandsAt (IsUnspent w hold) q.front) more

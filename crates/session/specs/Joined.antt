@@ -37,6 +37,7 @@ pub record IsTaken (w : World) (hold : Hold) (before : List Entry) (reads : Bool
   pub seated : IsSeated w after hold.place hold.seat hold.reader hold.writer
   pub reads_is : reads ≡ is_read w after hold
   pub spent : reads ≡ false → is_spent (seat_at (replay w after) hold.seat) ≡ true
+  pub unspent : reads ≡ true → is_spent (seat_at (replay w after) hold.seat) ≡ false
 
 -- what follows the Join in a history that it is the last entry of
 abbrev pub IsFollowed : World → Entry → ℕ → ℕ → ℕ → List Entry → Joined → List Entry → Type 0

@@ -18,7 +18,7 @@ use Rattle.session.specs.declared.input.Stop.TheVariants.{TooLong}
 use Rattle.session.specs.Inputs.{Stops}
 use Rattle.session.specs.Held.{is_held, is_read, is_over, lines_of}
 use Rattle.session.specs.Own.{StandsAt}
-use Rattle.session.specs.Heard.{lines_at, Came, AreFirst, IsByeAt, IsSpentAt}
+use Rattle.session.specs.Heard.{lines_at, Came, AreFirst, IsByeAt, IsSpentAt, IsUnspent}
 use Rattle.session.specs.Written.{HasLines}
 use Rattle.session.specs.Ends.{is_whole}
 
@@ -71,3 +71,5 @@ pub record IsServed (w : World) (h : List Entry) (hold : Hold) (readers writers 
   -- and all that came
   pub all_read : IsUndisturbed w h (readers ++ writers) hold → is_whole ended ≡ true → WhereTold text (bytes_to_come reader left) (Came (lines_at h readers))
   pub cause : IsCause ended w h hold readers reader left
+  -- and where it just left, neither its Join nor a line of it was the seat's last
+  pub unspent : ended ≡ ends.Left → All (StandsAt (IsUnspent w hold) h) (hold.place ∷ readers)

@@ -1,18 +1,20 @@
-//! Sessions over memory.
-ghost use Rattle.std.specs.Prelude.{IfOk, Ok};
+//! Sessions over memory, one after another, and by threads, side by side.
+ghost use Rattle.std.specs.Prelude.{◌≤◌, length, IfOk};
 ghost use Rattle.turn_lock.specs.Pass.{IsPassOf};
 ghost use Rattle.campaign_law.specs.Law.{IsOpening};
 
 use crate::{Ended, Sat, Table, serve_session};
 use campaign_core::Campaign;
-use line_io::{MemSink, MemSource};
+use line_io::{Failed, MemSink, MemSource, Sink, Source};
 use names::LineText;
 use seats::JoinRefusal;
 use sight_sweep::SweepEye;
 use std::alloc::Global;
 use std::sync::Wait;
+use std::sync::atomic::{AtomicU64, Ordering};
 use std::test::Fail;
-use std::thread::Threads;
+use std::thread::{self, Threads, join};
+use std::time::{Clock, Duration};
 use turn_lock::{Hall, Pass};
 
 // The game master and two players, with the keys g, a and b.
@@ -142,5 +144,160 @@ fn sessions_of_one_hall_follow_one_another(rt: HostRuntime) -> Result<(), Fail> 
         assert!(rt; ended == guest.ended);
         assert!(rt; output.bytes() == guest.output.as_bytes());
     }
+    Ok(())
+}
+
+// Gives a hello, and a bye once the sinks have taken so many lines. Where they haven't within ten seconds it fails.
+#[derive(Drop)]
+struct Gated<'a, R> {
+    clock: &'a R,
+    hello: &'a [u8],
+    given: u32,
+    first: &'a AtomicU64,
+    second: &'a AtomicU64,
+    after_first: u64,
+    after_second: u64,
+    faults: u64,
+}
+
+impl<'a, R: Clock> Gated<'a, R> {
+    fn waits_for_both(&self) -> bool {
+        for _ in 0..10_000 {
+            let first = self.first.load(Ordering::SeqCst);
+            let second = self.second.load(Ordering::SeqCst);
+            if first >= self.after_first && second >= self.after_second {
+                return true;
+            }
+            thread::sleep(self.clock, Duration::from_millis(1));
+        }
+        false
+    }
+}
+
+fn copied(line: &[u8], piece: &mut [u8]) -> usize
+    ensures { result ≤ length piece.new }
+{
+    let count = line.len().min(piece.len());
+    piece[..count].copy_from_slice(&line[..count]);
+    count
+}
+
+impl<'a, R: Clock> Source for Gated<'a, R> {
+    ghost faults_of = { λ s. s.faults };
+
+    fn read(&mut self, piece: &mut [u8]) -> Result<usize, Failed> {
+        if self.given == 0 {
+            self.given = 1;
+            return Ok(copied(self.hello, piece));
+        }
+        if self.given > 1 {
+            return Ok(0);
+        }
+        if !self.waits_for_both() {
+            self.faults = self.faults.saturating_add(1);
+            return Err(Failed);
+        }
+        self.given = 2;
+        Ok(copied(b"{\"do\":\"bye\"}\n", piece))
+    }
+
+    fn faults(&self) -> u64 {
+        self.faults
+    }
+}
+
+// Counts the lines that it takes.
+#[derive(Drop)]
+struct Counted<'a> {
+    lines: &'a AtomicU64,
+}
+
+impl<'a> Sink for Counted<'a> {
+    ghost faults_of = { λ s. 0 };
+
+    fn write(&mut self, piece: &[u8]) -> Result<usize, Failed> {
+        for byte in piece {
+            if *byte == b'\n' {
+                self.lines.fetch_add(1, Ordering::SeqCst);
+            }
+        }
+        Ok(piece.len())
+    }
+
+    fn faults(&self) -> u64 {
+        0
+    }
+}
+
+// Two sessions, of which the first says bye once the second has a line, and the second once it has two and the first has one.
+fn side_by_side<R: Threads + Wait + Sync + Clock>(
+    rt: &R,
+    alloc: Global,
+) -> Result<(Ended, Ended), Fail> {
+    let hall = Hall::open(alloc, opened(alloc)?);
+    let (hall, mut usher, pass) = hall.ok().ok_or("memory")?;
+    let (pass, second) = hall.split(&mut usher, pass).ok().ok_or("memory")?;
+    let (pass, third) = hall.split(&mut usher, pass).ok().ok_or("memory")?;
+    let (pass, fourth) = hall.split(&mut usher, pass).ok().ok_or("memory")?;
+    let (ann, bob) = (AtomicU64::new(0), AtomicU64::new(0));
+    let mut ann_input = Gated {
+        clock: rt,
+        hello: b"{\"do\":\"hello\",\"seat\":1,\"key\":\"a\"}\n",
+        given: 0,
+        first: &ann,
+        second: &bob,
+        after_first: 0,
+        after_second: 1,
+        faults: 0,
+    };
+    let mut bob_input = Gated {
+        clock: rt,
+        hello: b"{\"do\":\"hello\",\"seat\":2,\"key\":\"b\"}\n",
+        given: 0,
+        first: &ann,
+        second: &bob,
+        after_first: 1,
+        after_second: 2,
+        faults: 0,
+    };
+    let mut ann_output = Counted { lines: &ann };
+    let mut bob_output = Counted { lines: &bob };
+    let (ann_sat, bob_sat) = join(
+        rt,
+        || -> Sat
+            requires { IsPassOf hall pass × IsPassOf hall second × IsOpening hall.origin }
+        {
+            serve_session(
+                rt,
+                alloc,
+                &hall,
+                pass,
+                second,
+                &mut ann_input,
+                &mut ann_output,
+            )
+        },
+        || -> Sat
+            requires { IsPassOf hall third × IsPassOf hall fourth × IsOpening hall.origin }
+        {
+            serve_session(
+                rt,
+                alloc,
+                &hall,
+                third,
+                fourth,
+                &mut bob_input,
+                &mut bob_output,
+            )
+        },
+    );
+    Ok((ann_sat.ended, bob_sat.ended))
+}
+
+#[test]
+fn two_sessions_run_side_by_side(rt: HostRuntime) -> Result<(), Fail> {
+    let (ann, bob) = side_by_side(&rt, rt.alloc())?;
+    assert!(rt; ann == Ended::Left);
+    assert!(rt; bob == Ended::Left);
     Ok(())
 }
