@@ -1,0 +1,12 @@
+pub mod Holds
+pub mod Alone
+pub mod WritingTurns
+pub mod WritingEnds
+pub mod Byes
+pub mod ReadingTurns
+pub mod GoneSessions
+pub mod ServedSessions
+pub mod Joinings
+pub mod SatSessions
+pub mod RefusalLines
+pub mod Servings

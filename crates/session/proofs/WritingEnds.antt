@@ -1,0 +1,48 @@
+-- The writing half, turn by turn, as its loop knows it.
+use Rattle.std.proofs.Common.{◌≡◌, ℕ, ◌<◌, ◌+◌, Bool, true, false, cond, List, [], ◌∷◌, length, take, drop, refl, sym, ◌∙◌, ap, subst}
+use Rattle.std.specs.Prelude.{Option, Some, None, Ok, Err}
+use Rattle.std.specs.Io.KnownBytes.{append_known}
+use Rattle.std.proofs.lemmas.List.{take-append-drop}
+use mathlib.Core.List.{IsPrefix}
+use Rattle.line_io.specs.Told.{TookPrefix}
+use Rattle.campaign_law.specs.declared.entry.Entry.{Entry}
+use Rattle.campaign_law.specs.World.{World}
+use Rattle.campaign_law.specs.Law.{IsOpening}
+use Rattle.turn_lock.specs.Pass.{PassState, hears}
+use Rattle.session.specs.declared.hold.Hold.{Hold}
+use Rattle.session.specs.declared.exchange.Found.{Found}
+use Rattle.session.specs.declared.exchange.Found.TheVariants.{Lines, Gone}
+use Rattle.session.specs.declared.writing.Wrote.{Wrote}
+use Rattle.session.specs.declared.writing.Wrote.TheVariants.{All as AllWritten, Memory, WriteFault}
+use Rattle.session.specs.Exchanged.{Finds}
+use Rattle.session.specs.Sent.{Sends, Exchanges, Drops}
+use Rattle.session.specs.Written.{IsWriting, HasWritten}
+use Rattle.session.proofs.WritingTurns.{exchanged, listens, writes_on, writes_all, stops_for_memory, stops_for_fault}
+
+module _ (w : World) (hold : Hold) (p q r : PassState Entry World) (count : ℕ) (before mid : Option (List ℕ)) (found : Found) (is : IsWriting w hold p q count before mid) (turn : Exchanges w hold count found q r) where
+  turned : IsWriting w hold p r count before mid × (hold.place < length r.front) × Finds w hold count r.front found
+  turned = exchanged w hold p q r count before mid turn.entered found is turn.number turn.turn
+
+  finds : (other : Found) → found ≡ other → Finds w hold count r.front other
+  finds other same = subst (Finds w hold count r.front) same turned.2
+
+  pub ends_gone : IsOpening w → found ≡ Gone → HasWritten w hold p r AllWritten before mid
+  ends_gone opening gone = writes_all w hold p r count before mid opening turned.0 turned.1 (finds Gone gone)
+
+  pub ends_memory : (s : PassState Entry World) → Drops w hold r s → HasWritten w hold p s Memory before mid
+  ends_memory s drops = stops_for_memory w hold p r s count before mid drops.entered turned.0 turned.1 drops.number drops.turn
+
+  pub goes_quiet : (n : ℕ) → IsWriting w hold p (hears r n) count before mid
+  goes_quiet n = listens w hold p r count n before mid turned.0
+
+  pub goes_on : (text : List ℕ) (lines next : ℕ) (after : Option (List ℕ)) → IsOpening w → found ≡ Lines text lines → Sends (Ok next) text count lines mid after → IsWriting w hold p r next before after
+  goes_on text lines next after opening same sends =
+      let f = finds (Lines text lines) same in subst (λ n. IsWriting w hold p r n before after) (sym sends.0) (writes_on w hold p r count before mid text lines opening turned.0 turned.1 f.0 f.1 after sends.1)
+
+  pub ends_sending : (text : List ℕ) (lines : ℕ) (after : Option (List ℕ)) (stop : Wrote) (s : PassState Entry World) → IsOpening w → found ≡ Lines text lines → Sends (Err stop) text count lines mid after → Drops w hold r s → HasWritten w hold p s stop before after
+  ends_sending text lines after AllWritten s opening same sends drops = absurd sends
+  ends_sending text lines after Memory s opening same sends drops = subst (HasWritten w hold p s Memory before) (sym sends) (ends_memory s drops)
+  ends_sending text lines after WriteFault s opening same sends drops =
+      let f = finds (Lines text lines) same in
+      stops_for_fault w hold p r s count before mid after text (take sends.count text) lines drops.entered opening turned.0 turned.1 f.0 f.1
+      (drop sends.count text, take-append-drop sends.count text) sends.written drops.number drops.turn

@@ -1,0 +1,102 @@
+-- What the reading half read and entered.
+use Rattle.std.specs.Prelude.{◌≡◌, ◌≢◌, ◌==◌, ℕ, Bool, true, false, List, [], ◌∷◌, ◌++◌, take, suc, All, Contains, slice_get, Option, Some, None, IfSome, Ok}
+use mathlib.Core.List.{IsPrefix}
+use Rattle.line_io.specs.Lines.{lines_of as text_lines}
+use Rattle.line_io.specs.Told.{WhereTold}
+use Rattle.campaign_law.specs.declared.entry.Entry.{Entry}
+use Rattle.campaign_law.specs.declared.entry.Entry.TheVariants.{Join, Line, Leave, Taken}
+use Rattle.campaign_law.specs.World.{World, seat_at, replay}
+use Rattle.turn_lock.specs.Pass.{PassState}
+use Rattle.session.specs.declared.hold.Hold.{Hold}
+use Rattle.session.specs.declared.hearing.ReadEnd.{ReadEnd}
+use Rattle.session.specs.declared.hearing.ReadEnd.TheVariants.{Bye, Spent, Stopped}
+use Rattle.session.specs.declared.input.Stop.TheVariants.{Memory}
+use Rattle.session.specs.Held.{is_held, is_read}
+use Rattle.session.specs.Spoken.{is_spent}
+use Rattle.command_json.specs.declared.command.Command.{Command}
+use Rattle.command_json.specs.Commands.{command_of}
+use Rattle.campaign_law.specs.Outcome.{is_bye}
+use Rattle.session.specs.Own.{StandsAt, Got}
+
+-- what the reading half may enter: Lines of the seat while its passes hold it as Joined, and a Leave while they hold it
+abbrev pub IsReaders : World → Hold → List Entry → Entry → Type 0
+IsReaders w hold before (Join seat key reader writer) = ⊥
+IsReaders w hold before (Line seat bytes) = (seat ≡ hold.seat) × (is_read w before hold ≡ true)
+IsReaders w hold before (Leave seat drop) = (seat ≡ hold.seat) × (drop ≡ false) × (is_held w before hold ≡ true)
+IsReaders w hold before (Taken seat count) = ⊥
+
+abbrev pub line_in : Option Entry → List (List ℕ)
+line_in None = []
+line_in (Some (Join seat key reader writer)) = []
+line_in (Some (Line seat bytes)) = bytes ∷ []
+line_in (Some (Leave seat drop)) = []
+line_in (Some (Taken seat count)) = []
+
+-- the bytes of the Lines at these places of a history
+abbrev pub lines_at : List Entry → List ℕ → List (List ℕ)
+lines_at h [] = []
+lines_at h (place ∷ places) = line_in (slice_get h place) ++ lines_at h places
+
+-- of a text these lines came, and the rest is to come
+abbrev pub Came : List (List ℕ) → List ℕ → List ℕ → Type 0
+Came lines text rest = text_lines text ≡ lines ++ text_lines rest
+
+-- they are the first lines of the text, where it is told
+abbrev pub AreFirst : List (List ℕ) → Option (List ℕ) → Type 0
+AreFirst lines text = IfSome text (λ text. IsPrefix lines (text_lines text))
+
+-- the session's passes hold the seat as Joined behind this place
+abbrev pub IsReadAfter : World → Hold → List Entry → ℕ → Type 0
+IsReadAfter w hold h place = is_read w (take (suc place) h) hold ≡ true
+
+-- a line that the seat reads as a bye
+pub record IsBye (seat : ℕ) (bytes : List ℕ) : Type 0 where
+  pub command : Command
+  pub reads : command_of bytes (seat == 0) ≡ Ok command
+  pub bye : is_bye command ≡ true
+
+-- such a line of the seat stands at the place
+pub record IsByeAt (h : List Entry) (seat place : ℕ) : Type 0 where
+  pub bytes : List ℕ
+  pub there : slice_get h place ≡ Some (Line seat bytes)
+  pub bye : IsBye seat bytes
+
+-- behind the entry at the place the seat has had all its lines
+abbrev pub IsSpentAt : World → List Entry → ℕ → ℕ → Type 0
+IsSpentAt w h seat place = is_spent (seat_at (replay w (take (suc place) h)) seat) ≡ true
+
+-- a Join or a Line, behind which the seat hasn't had all its lines
+abbrev pub IsUnspent : World → Hold → List Entry → Entry → Type 0
+IsUnspent w hold before (Join seat key reader writer) = is_spent (seat_at (replay w (before ++ Join seat key reader writer ∷ [])) hold.seat) ≡ false
+IsUnspent w hold before (Line seat bytes) = is_spent (seat_at (replay w (before ++ Line seat bytes ∷ [])) hold.seat) ≡ false
+IsUnspent w hold before (Leave seat drop) = Unit {0}
+IsUnspent w hold before (Taken seat count) = Unit {0}
+
+-- what closed the seat, where the reading half entered at these places: a bye, or the seat's last line, which may be the Join
+abbrev pub ClosedBy : ReadEnd → World → List Entry → Hold → List ℕ → Type 0
+ClosedBy Bye w h hold own = (k : ℕ) × Contains own k × IsByeAt h hold.seat k
+ClosedBy Spent w h hold own = (k : ℕ) × Contains (hold.place ∷ own) k × IsSpentAt w h hold.seat k
+ClosedBy (Stopped stop) w h hold own = Unit {0}
+
+-- between two turns of the reading half, which began with the pass p when this text was to come: all lines that came were entered
+pub record IsReading (w : World) (hold : Hold) (p q : PassState Entry World) (text rest : Option (List ℕ)) : Type 0 where
+  pub more : List ℕ
+  pub got : Got (IsReaders w hold) p q more
+  pub came : WhereTold text rest (Came (lines_at q.front more))
+  pub kept : All (IsReadAfter w hold q.front) more
+  pub unspent : All (StandsAt (IsUnspent w hold) q.front) more
+
+-- The reading half ended. Where it was gone, a line found that the passes no longer held the seat as Joined
+pub record HasHeard (w : World) (hold : Hold) (p q : PassState Entry World) (end : ReadEnd) (gone : Bool) (text rest : Option (List ℕ)) : Type 0 where
+  pub more : List ℕ
+  pub got : Got (IsReaders w hold) p q more
+  -- its lines are the first ones of the text, and all that came
+  pub first : AreFirst (lines_at q.front more) text
+  pub all : gone ≡ false → end ≢ Stopped Memory → WhereTold text rest (Came (lines_at q.front more))
+  -- the seat isn't Joined by its passes any more
+  pub closed : is_read w q.front hold ≡ false
+  -- where it was gone, none of its own entries closed the seat
+  pub kept : gone ≡ true → All (IsReadAfter w hold q.front) more
+  pub cause : ClosedBy end w q.front hold more
+  -- and no other of its lines was the seat's last
+  pub unspent : end ≢ Spent → All (StandsAt (IsUnspent w hold) q.front) more

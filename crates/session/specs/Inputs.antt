@@ -1,0 +1,28 @@
+-- The lines of an input, and why no further one is read.
+use Rattle.std.specs.Prelude.{◌≡◌, ◌≢◌, ℕ, true, List, ◌∷◌, length, Option}
+use Rattle.std.specs.Io.KnownBytes.{IsAtEnd}
+use Rattle.line_io.specs.Lines.{HasNoLineEnd, lines_of as text_lines}
+use Rattle.line_io.specs.ReaderState.{ReaderState}
+use Rattle.line_io.specs.Told.{WhereTold}
+use Rattle.session.specs.declared.input.Stop.{Stop}
+use Rattle.session.specs.declared.input.Stop.TheVariants.{End, TooLong, ReadFault, Memory}
+
+-- a reader of lines of at most 4,096 bytes of a source that has this left. Where it met an end, it is the source's
+pub record IsReaderOf (reader : ReaderState) (left : Option (List ℕ)) : Type 0 where
+  pub cap : reader.cap ≡ 4096
+  pub met : reader.ended ≡ true → IsAtEnd left
+
+-- of a text this line came first, and the rest is to come
+abbrev pub CameFirst : List ℕ → Option (List ℕ) → Option (List ℕ) → Type 0
+CameFirst line text rest = WhereTold text rest (λ text rest. text_lines text ≡ line ∷ text_lines rest)
+
+-- no line was taken; for want of memory one may be lost
+abbrev pub StopsBefore : Stop → Option (List ℕ) → Option (List ℕ) → Type 0
+StopsBefore stop text rest = stop ≢ Memory → rest ≡ text
+
+-- why it stopped, by what the reader has read and not given, and what its source has left
+abbrev pub Stops : Stop → ReaderState → Option (List ℕ) → Type 0
+Stops End reader left = IsAtEnd left
+Stops TooLong reader left = (length reader.pending ≡ 4097) × HasNoLineEnd reader.pending
+Stops ReadFault reader left = HasNoLineEnd reader.pending
+Stops Memory reader left = Unit {0}

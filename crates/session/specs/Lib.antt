@@ -1,0 +1,17 @@
+pub mod Held
+pub mod Exchanged
+pub mod Own
+pub mod Inputs
+pub mod Hellos
+pub mod Written
+pub mod Left
+pub mod Sent
+pub mod Spoken
+pub mod Heard
+pub mod Turned
+pub mod Ends
+pub mod Served
+pub mod Joined
+pub mod Sat
+pub mod JoinTurn
+pub mod Session

@@ -1,0 +1,75 @@
+-- What a session did, in a history that both of its passes know a front of.
+use Rattle.std.specs.Prelude.{◌≡◌, ◌<◌, ◌≤◌, ◌==◌, ◌⊎◌, ℕ, Bool, true, false, All, Contains, List, ◌∷◌, ◌++◌, length, take, slice_get, Option, Some}
+use Rattle.std.specs.Io.KnownBytes.{IsAtEnd}
+use mathlib.Core.List.{IsPrefix}
+use Rattle.line_io.specs.Lines.{HasNoLineEnd}
+use Rattle.line_io.specs.Reader.{bytes_to_come}
+use Rattle.line_io.specs.ReaderState.{ReaderState}
+use Rattle.line_io.specs.Told.{WhereTold}
+use Rattle.campaign_law.specs.declared.entry.Entry.{Entry}
+use Rattle.campaign_law.specs.declared.entry.Entry.TheVariants.{Join, Line, Leave, Taken}
+use Rattle.campaign_law.specs.World.{World}
+use Rattle.campaign_law.specs.Law.{bytes_of}
+use Rattle.campaign_law.specs.Session.{NoneRejoins}
+use Rattle.session.specs.declared.hold.Hold.{Hold}
+use Rattle.session.specs.declared.sitting.Ended.{Ended}
+use Rattle.session.specs.declared.sitting.Ended.TheVariants as ends
+use Rattle.session.specs.declared.input.Stop.TheVariants.{TooLong}
+use Rattle.session.specs.Inputs.{Stops}
+use Rattle.session.specs.Held.{is_held, is_read, is_over, lines_of}
+use Rattle.session.specs.Own.{StandsAt}
+use Rattle.session.specs.Heard.{lines_at, Came, AreFirst, IsByeAt, IsSpentAt, IsUnspent}
+use Rattle.session.specs.Written.{HasLines}
+use Rattle.session.specs.Ends.{is_whole}
+
+-- a Line, a Leave or a Taken of the seat
+abbrev pub is_of_session : ℕ → Entry → Bool
+is_of_session seat (Join s key reader writer) = false
+is_of_session seat (Line s bytes) = s == seat
+is_of_session seat (Leave s drop) = s == seat
+is_of_session seat (Taken s count) = s == seat
+
+-- From the session's Join until its seat is Free each Line, Leave and Taken of the seat is its own, and nobody joins the seat with its numbers again
+pub record IsUndisturbed (w : World) (h : List Entry) (own : List ℕ) (hold : Hold) : Type 0 where
+  pub own_alone : (k : ℕ) (e : Entry) → hold.place < k → is_over w (take k h) hold ≡ false → slice_get h k ≡ Some e → is_of_session hold.seat e ≡ true → Contains own k
+  pub once : NoneRejoins h hold.place hold.seat hold.reader hold.writer
+
+-- what an accepted session may enter behind its Join, where so many lines were written whole
+abbrev pub IsSessions : World → Hold → ℕ → List Entry → Entry → Type 0
+IsSessions w hold count before (Join seat key reader writer) = ⊥
+IsSessions w hold count before (Line seat bytes) = (seat ≡ hold.seat) × (is_read w before hold ≡ true)
+IsSessions w hold count before (Leave seat drop) = (seat ≡ hold.seat) × (is_held w before hold ≡ true)
+IsSessions w hold count before (Taken seat taken) = (seat ≡ hold.seat) × (taken ≤ count) × (is_held w before hold ≡ true)
+
+-- of the session's lines this text was written, and so many of them whole
+pub record IsFront (lines : List (List ℕ)) (count : ℕ) (text : List ℕ) : Type 0 where
+  pub prefix : IsPrefix text (bytes_of lines)
+  pub whole : IsPrefix (bytes_of (take count lines)) text
+
+-- why an accepted session ended so, whose reading half entered at these places
+abbrev pub IsCause : Ended → World → List Entry → Hold → List ℕ → ReaderState → Option (List ℕ) → Type 0
+IsCause ends.Left w h hold readers reader left = ((k : ℕ) × Contains readers k × IsByeAt h hold.seat k) ⊎ IsAtEnd left
+IsCause (ends.Refused refusal) w h hold readers reader left = ⊥
+IsCause ends.TooLong w h hold readers reader left = Stops TooLong reader left
+IsCause ends.Spent w h hold readers reader left = (k : ℕ) × Contains (hold.place ∷ readers) k × IsSpentAt w h hold.seat k
+IsCause ends.ReadFault w h hold readers reader left = Unit {0}
+IsCause ends.WriteFault w h hold readers reader left = Unit {0}
+IsCause ends.Memory w h hold readers reader left = Unit {0}
+
+-- An accepted session, behind its Join, whose passes got these own places. Its input had this text to come, and the reader and the source have the rest
+pub record IsServed (w : World) (h : List Entry) (hold : Hold) (readers writers : List ℕ) (ended : Ended) (text : Option (List ℕ)) (reader : ReaderState) (left before after : Option (List ℕ)) : Type 0 where
+  pub count : ℕ
+  pub output : List ℕ
+  -- no Taken says more than the number of lines that were written whole
+  pub has : HasLines output count before after
+  pub each : All (StandsAt (IsSessions w hold count) h) (readers ++ writers)
+  -- the Lines are the first lines that came, each once and in order
+  pub lines : AreFirst (lines_at h readers) text
+  pub over : is_over w h hold ≡ true
+  pub written : IsUndisturbed w h (readers ++ writers) hold → IsFront (lines_of w h hold) count output
+  pub whole : IsUndisturbed w h (readers ++ writers) hold → is_whole ended ≡ true → output ≡ bytes_of (lines_of w h hold)
+  -- and all that came
+  pub all_read : IsUndisturbed w h (readers ++ writers) hold → is_whole ended ≡ true → WhereTold text (bytes_to_come reader left) (Came (lines_at h readers))
+  pub cause : IsCause ended w h hold readers reader left
+  -- and where it just left, neither its Join nor a line of it was the seat's last
+  pub unspent : ended ≡ ends.Left → All (StandsAt (IsUnspent w hold) h) (hold.place ∷ readers)

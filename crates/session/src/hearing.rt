@@ -1,0 +1,108 @@
+//! The reading half of a session.
+ghost use Rattle.std.specs.Prelude.{◌≡◌, ◌≤◌, true, false};
+ghost use Rattle.line_io.specs.Counts.{CountRose};
+ghost use Rattle.line_io.specs.Reader.{bytes_to_come};
+ghost use Rattle.turn_lock.specs.Pass.{IsPassOf};
+ghost use Rattle.session.specs.Inputs.{IsReaderOf, Stops};
+ghost use Rattle.session.specs.declared.hearing.ReadEnd.TheVariants.{Stopped};
+ghost use Rattle.session.specs.Heard.{HasHeard};
+ghost use Rattle.session.specs.Turned.{Speaks, Leaves};
+
+use crate::Table;
+use crate::hold::Hold;
+use crate::input::{Stop, next_line, read_on};
+use crate::leaving::Leaving;
+use crate::speaking::{Said, Speaking};
+use line_io::{LineReader, Source};
+use names::LineText;
+use std::sync::Wait;
+use turn_lock::{Hall, Pass};
+
+/// How the reading of an input ended.
+#[derive(Clone, Copy, Debug, PartialEq, Eq)]
+pub(crate) enum ReadEnd {
+    /// A bye was entered.
+    Bye,
+    /// The seat's last line was entered.
+    Spent,
+    /// No further line was read.
+    Stopped(Stop),
+}
+
+/// Enters the lines of the input, each in a turn, until the session ends or the input does. Where
+/// the session's passes no longer hold the seat as Joined, it reads on to the end and enters nothing
+/// more; the second part of the answer tells that.
+pub(crate) fn read_half<R: Wait, I: Source>(
+    rt: &R,
+    hall: &Hall<Table>,
+    pass: &mut Pass<Table>,
+    hold: &Hold,
+    reader: &mut LineReader,
+    input: &mut I,
+) -> (ReadEnd, bool)
+    requires hall { IsPassOf hall.now pass.old }
+    requires reader { IsReaderOf reader.old (I.left input.old) }
+    ensures hall { IsPassOf hall.now pass.new }
+    ensures reader { IsReaderOf reader.new (I.left input.new) }
+    ensures heard { HasHeard hall.now.origin hold.now pass.old pass.new result.0 result.1 (bytes_to_come reader.old (I.left input.old)) (bytes_to_come reader.new (I.left input.new)) }
+    ensures stops { (stop : Stop) → result.0 ≡ Stopped stop → Stops stop reader.new (I.left input.new) }
+    ensures count { I.faults_of input.old ≤ I.faults_of input.new }
+    ensures read_fault { result.0 ≡ Stopped Stop.ReadFault → CountRose (I.faults_of input.old) (I.faults_of input.new) }
+{
+    for _ in rt.forever() {
+        let line = match next_line(reader, input) {
+            Ok(line) => line,
+            Err(stop) => {
+                leave(rt, hall, pass, hold);
+                return (ReadEnd::Stopped(stop), false);
+            }
+        };
+        match speak(rt, hall, pass, hold, line) {
+            Said::Goes => {}
+            Said::Bye => return (ReadEnd::Bye, false),
+            Said::Spent => return (ReadEnd::Spent, false),
+            Said::Gone => return (ReadEnd::Stopped(read_on(rt, reader, input)), true),
+            Said::Memory => {
+                leave(rt, hall, pass, hold);
+                return (ReadEnd::Stopped(Stop::Memory), false);
+            }
+        }
+    }
+    unreachable!()
+}
+
+// One turn: the line is entered, where the passes hold the seat as Joined.
+fn speak<R: Wait>(
+    rt: &R,
+    hall: &Hall<Table>,
+    pass: &mut Pass<Table>,
+    hold: &Hold,
+    line: LineText,
+) -> Said
+    requires { IsPassOf hall.now pass.old }
+    ensures hall { IsPassOf hall.now pass.new }
+    ensures turn { Speaks hall.now.origin hold.now line result pass.old pass.new }
+{
+    let mut turn = Speaking {
+        hold: hold.copy(),
+        line: Some(line),
+        entered: false,
+        said: Said::Gone,
+    };
+    hall.act(rt, pass, &mut turn);
+    turn.said
+}
+
+// One turn, after which the seat's lines aren't read any more.
+fn leave<R: Wait>(rt: &R, hall: &Hall<Table>, pass: &mut Pass<Table>, hold: &Hold)
+    requires { IsPassOf hall.now pass.old }
+    ensures hall { IsPassOf hall.now pass.new }
+    ensures turn { Leaves hall.now.origin hold.now pass.old pass.new }
+{
+    let mut turn = Leaving {
+        hold: hold.copy(),
+        drop: false,
+        entered: false,
+    };
+    hall.act(rt, pass, &mut turn);
+}

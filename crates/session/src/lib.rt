@@ -1,0 +1,30 @@
+//! Sessions: one connection that sits at a seat of a campaign, which many share.
+//!
+//! A session reads a hello, joins by the numbers of its two passes, and then runs two halves side by side. The reading half
+//! enters the lines of the input, the writing half writes the lines that the campaign queues for the seat. What a session
+//! did is told of each longer history that begins with the fronts of its passes.
+#![tactic(auto)]
+
+mod exchange;
+mod first_line;
+mod halves;
+mod hearing;
+mod hold;
+mod input;
+mod joining;
+mod leaving;
+mod service;
+mod sitting;
+mod speaking;
+mod writing;
+
+use campaign_core::Campaign;
+pub use service::{Sat, serve_session};
+use sight_sweep::SweepEye;
+pub use sitting::Ended;
+
+/// The campaign that sessions share.
+pub type Table = Campaign<SweepEye>;
+
+#[cfg(test)]
+mod tests;

@@ -1,0 +1,128 @@
+//! The writing half of a session.
+ghost use Rattle.std.specs.Prelude.{◌≡◌, ◌≤◌, Err};
+ghost use Rattle.line_io.specs.Counts.{CountRose};
+ghost use Rattle.turn_lock.specs.Pass.{IsPassOf};
+ghost use Rattle.campaign_law.specs.Law.{IsOpening};
+ghost use Rattle.session.specs.Written.{HasWritten};
+ghost use Rattle.session.specs.Sent.{Sends, Exchanges, Drops};
+
+use crate::Table;
+use crate::exchange::{Exchange, Found};
+use crate::hold::Hold;
+use crate::leaving::Leaving;
+use line_io::{Sink, write_whole};
+use names::LineText;
+use std::sync::Wait;
+use turn_lock::{Hall, Pass};
+
+/// How the writing half ended.
+#[derive(Clone, Copy, Debug, PartialEq, Eq)]
+pub(crate) enum Wrote {
+    /// Its passes no longer held the seat.
+    All,
+    /// Want of memory.
+    Memory,
+    /// The output failed, and counted it.
+    WriteFault,
+}
+
+/// Writes the lines that wait for the session, until its passes no longer hold its seat. One turn says how many
+/// lines were written and finds those that wait then.
+pub(crate) fn write_half<R: Wait, O: Sink>(
+    rt: &R,
+    hall: &Hall<Table>,
+    pass: &mut Pass<Table>,
+    hold: &Hold,
+    output: &mut O,
+) -> Wrote
+    requires hall { IsPassOf hall.now pass.old }
+    requires opening { IsOpening hall.now.origin }
+    ensures hall { IsPassOf hall.now pass.new }
+    ensures written { HasWritten hall.now.origin hold.now pass.old pass.new result (O.written output.old) (O.written output.new) }
+    ensures count { O.faults_of output.old ≤ O.faults_of output.new }
+    ensures write_fault { result ≡ Wrote.WriteFault → CountRose (O.faults_of output.old) (O.faults_of output.new) }
+{
+    hall.wait_past(rt, pass, hold.place);
+    let mut count = 0;
+    let mut news = false;
+    for _ in rt.forever() {
+        let (found, length) = exchange(rt, hall, pass, hold, count, news);
+        let (text, lines) = match found {
+            Found::Gone => return Wrote::All,
+            Found::Memory => {
+                leave(rt, hall, pass, hold);
+                return Wrote::Memory;
+            }
+            Found::Lines { text, lines } => (text, lines),
+        };
+        news = lines > 0;
+        if lines == 0 {
+            hall.wait_past(rt, pass, length);
+            continue;
+        }
+        match send(&text, count, lines, output) {
+            Ok(next) => count = next,
+            Err(stop) => {
+                leave(rt, hall, pass, hold);
+                return stop;
+            }
+        }
+    }
+    unreachable!()
+}
+
+// One turn: how many lines were written, and those that wait then. The length is that of the history. Nobody waits for a
+// Taken, so it wakes nobody.
+fn exchange<R: Wait>(
+    rt: &R,
+    hall: &Hall<Table>,
+    pass: &mut Pass<Table>,
+    hold: &Hold,
+    count: u64,
+    news: bool,
+) -> (Found, u64)
+    requires { IsPassOf hall.now pass.old }
+    ensures hall { IsPassOf hall.now pass.new }
+    ensures turn { Exchanges hall.now.origin hold.now count result.0 pass.old pass.new }
+{
+    let mut turn = Exchange::of(hold.copy(), count, news);
+    hall.act_quietly(rt, pass, &mut turn);
+    let Exchange {
+        hold: _,
+        found,
+        length,
+        count: _,
+        news: _,
+        entered: _,
+    } = turn;
+    (found, length)
+}
+
+// One turn, in which the session leaves the seat and its waiting lines are dropped.
+fn leave<R: Wait>(rt: &R, hall: &Hall<Table>, pass: &mut Pass<Table>, hold: &Hold)
+    requires { IsPassOf hall.now pass.old }
+    ensures hall { IsPassOf hall.now pass.new }
+    ensures turn { Drops hall.now.origin hold.now pass.old pass.new }
+{
+    let mut turn = Leaving {
+        hold: hold.copy(),
+        drop: true,
+        entered: false,
+    };
+    hall.act(rt, pass, &mut turn);
+}
+
+// So many further lines in one piece, and then how many were written in all.
+fn send<O: Sink>(text: &LineText, count: u64, lines: u64, output: &mut O) -> Result<u64, Wrote>
+    ensures sends { Sends result text.now count lines (O.written output.old) (O.written output.new) }
+    ensures count { O.faults_of output.old ≤ O.faults_of output.new }
+    ensures write_fault { result ≡ Err Wrote.WriteFault → CountRose (O.faults_of output.old) (O.faults_of output.new) }
+{
+    let Some(next) = count.checked_add(lines) else {
+        return Err(Wrote::Memory);
+    };
+    match write_whole(output, text.bytes()) {
+        Ok(()) => Ok(next),
+        Err(_) => Err(Wrote::WriteFault),
+    }
+}
