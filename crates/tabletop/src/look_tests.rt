@@ -4,6 +4,7 @@ use campaign_core::{Answer, Campaign, Entry};
 use names::{LineText, SeatNo};
 use sight_sweep::SweepEye;
 use std::alloc::Global;
+use std::process::Abort;
 use std::test::Fail;
 
 // The game master and one player, whose token stands in a cave that a wall cuts in two.
@@ -44,11 +45,11 @@ fn join(
     Ok(())
 }
 
-// A line, and how many looks are to be made at it.
+// A line, and how many looks are made at it at most.
 #[derive(Clone, Copy)]
 struct Asked<'a> {
     seat: u8,
-    line: &'a [u8],
+    line: &'a str,
     refused: bool,
     looks: u64,
 }
@@ -56,75 +57,87 @@ struct Asked<'a> {
 const LINES: [Asked<'static>; 8] = [
     Asked {
         seat: 1,
-        line: br#"{"do":"say","text":"hi"}"#,
+        line: r#"{"do":"say","text":"hi"}"#,
         refused: false,
         looks: 0,
     },
     Asked {
         seat: 0,
-        line: br#"{"do":"show","map":"cave","on":true}"#,
+        line: r#"{"do":"show","map":"cave","on":true}"#,
         refused: false,
         looks: 0,
     },
     Asked {
         seat: 1,
-        line: br#"{"do":"setprop","token":"1:ann","class":"public","name":"hp","value":"10"}"#,
+        line: r#"{"do":"setprop","token":"1:ann","class":"public","name":"hp","value":"10"}"#,
         refused: false,
         looks: 0,
     },
     Asked {
         seat: 0,
-        line: br#"{"do":"expose","seat":1,"map":"cave","rect":[1,0,2,3]}"#,
+        line: r#"{"do":"expose","seat":1,"map":"cave","rect":[1,0,2,3]}"#,
         refused: false,
         looks: 0,
     },
     Asked {
         seat: 1,
-        line: br#"{"do":"move","token":"1:ann","path":[[2,2]]}"#,
+        line: r#"{"do":"move","token":"1:ann","path":[[2,2]]}"#,
         refused: true,
         looks: 0,
     },
     Asked {
         seat: 1,
-        line: br#"{"do":"move","token":"1:ann","path":[[0,1]]}"#,
+        line: r#"{"do":"move","token":"1:ann","path":[[0,1]]}"#,
         refused: false,
         looks: 1,
     },
     Asked {
         seat: 0,
-        line: br#"{"do":"unwall","map":"cave","kind":"vbl","a":[2,0],"b":[2,4]}"#,
+        line: r#"{"do":"unwall","map":"cave","kind":"vbl","a":[2,0],"b":[2,4]}"#,
         refused: false,
         looks: 1,
     },
     Asked {
         seat: 0,
-        line: br#"{"do":"wall","map":"cave","kind":"mbl","a":[2,0],"b":[2,4]}"#,
+        line: r#"{"do":"wall","map":"cave","kind":"mbl","a":[2,0],"b":[2,4]}"#,
         refused: false,
         looks: 0,
     },
 ];
 
-#[test]
-fn looks(rt: HostRuntime) -> Result<(), Fail> {
-    let alloc = rt.alloc();
+fn ask(
+    rt: &impl Abort,
+    alloc: Global,
+    campaign: &mut Campaign<SweepEye>,
+    asked: &Asked<'_>,
+) -> Result<(), Fail> {
+    let before = campaign.looks();
+    let entry = Entry::Line {
+        seat: seat(asked.seat)?,
+        bytes: LineText::copy(alloc, asked.line.as_bytes())?,
+    };
+    let answer = step(campaign, entry)?;
+    assert_eq!(rt; answer.refusal.is_some(), asked.refused, "{}", asked.line);
+    let made = campaign.looks().saturating_sub(before);
+    assert!(rt; made <= asked.looks, "{}", asked.line);
+    Ok(())
+}
+
+// Both seats have joined.
+fn joined(rt: &impl Abort, alloc: Global) -> Result<Campaign<SweepEye>, Fail> {
     let mut campaign = opened(alloc)?;
     assert_eq!(rt; campaign.looks(), 1);
     join(alloc, &mut campaign, 0, b"g")?;
     join(alloc, &mut campaign, 1, b"a")?;
     assert_eq!(rt; campaign.looks(), 1, "a join asks nothing");
+    Ok(campaign)
+}
+
+#[test]
+fn looks(rt: HostRuntime) -> Result<(), Fail> {
+    let mut campaign = joined(&rt, rt.alloc())?;
     for asked in &LINES {
-        let before = campaign.looks();
-        let entry = Entry::Line {
-            seat: seat(asked.seat)?,
-            bytes: LineText::copy(alloc, asked.line)?,
-        };
-        let answer = step(&mut campaign, entry)?;
-        let line = std::str::from_utf8(asked.line).unwrap_or("");
-        assert_eq!(rt; answer.refusal.is_some(), asked.refused, "{line}");
-        assert!(rt;
-            campaign.looks() <= before.saturating_add(asked.looks),
-            "{line}"
-        );
+        ask(&rt, rt.alloc(), &mut campaign, asked)?;
     }
     Ok(())
 }
