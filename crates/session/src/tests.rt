@@ -230,22 +230,23 @@ impl<'a> Sink for Counted<'a> {
 }
 
 // Two sessions, of which the first says bye once the second has a line, and the second once it has two and the first has one.
-fn side_by_side<R: Threads + Wait + Sync + Clock>(
-    rt: &R,
+fn side_by_side<'a, R: Threads + Wait + Sync + Clock>(
+    rt: &'a R,
     alloc: Global,
+    ann: &'a AtomicU64,
+    bob: &'a AtomicU64,
 ) -> Result<(Ended, Ended), Fail> {
     let hall = Hall::open(alloc, opened(alloc)?);
     let (hall, mut usher, pass) = hall.ok().ok_or("memory")?;
     let (pass, second) = hall.split(&mut usher, pass).ok().ok_or("memory")?;
     let (pass, third) = hall.split(&mut usher, pass).ok().ok_or("memory")?;
     let (pass, fourth) = hall.split(&mut usher, pass).ok().ok_or("memory")?;
-    let (ann, bob) = (AtomicU64::new(0), AtomicU64::new(0));
     let mut ann_input = Gated {
         clock: rt,
         hello: b"{\"do\":\"hello\",\"seat\":1,\"key\":\"a\"}\n",
         given: 0,
-        first: &ann,
-        second: &bob,
+        first: ann,
+        second: bob,
         after_first: 0,
         after_second: 1,
         faults: 0,
@@ -254,14 +255,14 @@ fn side_by_side<R: Threads + Wait + Sync + Clock>(
         clock: rt,
         hello: b"{\"do\":\"hello\",\"seat\":2,\"key\":\"b\"}\n",
         given: 0,
-        first: &ann,
-        second: &bob,
+        first: ann,
+        second: bob,
         after_first: 1,
         after_second: 2,
         faults: 0,
     };
-    let mut ann_output = Counted { lines: &ann };
-    let mut bob_output = Counted { lines: &bob };
+    let mut ann_output = Counted { lines: ann };
+    let mut bob_output = Counted { lines: bob };
     let (ann_sat, bob_sat) = join(
         rt,
         || -> Sat
@@ -296,7 +297,8 @@ fn side_by_side<R: Threads + Wait + Sync + Clock>(
 
 #[test]
 fn two_sessions_run_side_by_side(rt: HostRuntime) -> Result<(), Fail> {
-    let (ann, bob) = side_by_side(&rt, rt.alloc())?;
+    let (ann_lines, bob_lines) = (AtomicU64::new(0), AtomicU64::new(0));
+    let (ann, bob) = side_by_side(&rt, rt.alloc(), &ann_lines, &bob_lines)?;
     assert!(rt; ann == Ended::Left);
     assert!(rt; bob == Ended::Left);
     Ok(())
