@@ -1,7 +1,8 @@
--- The tag of a token that is made may be used.
+-- What an accepted command may rely on: the tag of a token that it makes may be used, and its dice can be rolled.
 use Rattle.std.proofs.Common.{◌≡◌, ℕ, List, Some, None, refl, sym, ◌∙◌, ap, subst}
-use Rattle.std.specs.Prelude.{Option}
+use Rattle.std.specs.Prelude.{Option, option_map, slice_get}
 use Rattle.std.specs.Option.{ForSome}
+use Rattle.std.proofs.lemmas.Option.{slice_get-map}
 use Rattle.seats.specs.Book.{Book, counted}
 use Rattle.command_json.specs.declared.command.Command.{Command}
 use Rattle.player_view.specs.Asked.{Asked}
@@ -15,6 +16,7 @@ use Rattle.campaign_law.specs.World.{World, asked_of, seat_at}
 use Rattle.campaign_law.specs.Worlds.{FitsTogether}
 use Rattle.campaign_law.proofs.NewTokens.{may_use_made}
 use Rattle.campaign_core.specs.Allowing.{MayUseAllowed}
+use Rattle.campaign_core.specs.Places.{Place, Standing, world_at}
 
 same_seat : (dice : Option (List ℕ)) (b : Book) → (rolling dice b).seat ≡ b.seat
 same_seat None b = refl
@@ -34,9 +36,21 @@ first_none : (first second : Option Refusal) → then_rule first second ≡ None
 first_none None second h = refl
 first_none (Some r) second h = cc
 
+second_none : (first second : Option Refusal) → then_rule first second ≡ None → second ≡ None
+second_none None second h = h
+second_none (Some r) second h = cc
+
+-- dice break no rule where the command breaks none
+pub rolls_where_allowed : (asked : Asked) (seat : ℕ) (b : Book) (c : Command) → broken_rule asked seat b c ≡ None → roll_rule (dice_in c) ≡ None
+rolls_where_allowed asked seat b c none = second_none (rule_of asked seat b.tags c) (roll_rule (dice_in c)) none
+
 pub may_where_allowed : (asked : Asked) (seat : ℕ) (b : Book) (c : Command) → MayUseAllowed asked seat b → broken_rule asked seat b c ≡ None → MayUseTag b c
 may_where_allowed asked seat b c may none = may c (first_none (rule_of asked seat b.tags c) (roll_rule (dice_in c)) none)
 
 -- in a world that fits together
 pub may_use_allowed : (w : World) (seat : ℕ) (s : Seat) → FitsTogether w → seat_at w seat ≡ Some s → MayUseAllowed (asked_of w seat) seat s.book
 may_use_allowed w seat s fits at c rule = may_use_made w seat s c s.book fits at rule refl refl
+
+-- the seat of a post that was found
+pub seat_found : (s : Standing) (seat : ℕ) (o : Option Place) → o ≡ slice_get s.posts seat → option_map (λ (p : Place). p.seat) o ≡ seat_at (world_at s) seat
+seat_found s seat o is = ap (option_map (λ (p : Place). p.seat)) is ∙ sym (slice_get-map (λ (p : Place). p.seat) s.posts seat)

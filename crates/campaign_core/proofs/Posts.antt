@@ -23,6 +23,9 @@ not_before a n h = grind (arith, nat_tests)
 before_next : (a n : ℕ) → a ≡ n → ltb a (n + 1) ≡ true
 before_next a n h = grind (arith, nat_tests)
 
+none_before : (a : ℕ) → ltb a 0 ≡ false
+none_before a = grind (arith, nat_tests)
+
 same_before : (a n : ℕ) → eqb a n ≡ false → ltb a n ≡ ltb a (n + 1)
 same_before a n h = grind (arith, nat_tests)
 
@@ -74,6 +77,9 @@ own_post seat false o own book v v' post is = refl
 abbrev pub book_left : ℕ → ℕ → Option Book → Option Book
 book_left actor number book = cond (ltb actor number) None book
 
+pub first_left : (actor : ℕ) (book : Option Book) → book ≡ book_left actor 0 book
+first_left actor book = ap (λ b. cond b None book) (sym (none_before actor))
+
 pub own_is : (actor number : ℕ) (acts : Bool) (own left book : Option Book) → eqb actor number ≡ acts → left ≡ book_left actor number book → own ≡ cond acts left None → own ≡ cond acts book None
 own_is actor number true own left book at there is =
     is ∙ there ∙ ap (λ b. cond b None book) (not_before actor number (eqb-true actor number at))
@@ -82,6 +88,10 @@ own_is actor number false own left book at there is = is
 pub still_left : (actor number : ℕ) (acts : Bool) (left after book : Option Book) → eqb actor number ≡ acts → left ≡ book_left actor number book → after ≡ cond acts None left → after ≡ book_left actor (number + 1) book
 still_left actor number true left after book at there is = is ∙ sym (ap (λ b. cond b None book) (before_next actor number (eqb-true actor number at)))
 still_left actor number false left after book at there is = is ∙ there ∙ ap (λ b. cond b None book) (same_before actor number at)
+
+pub empty_items : {A : Type 0} (n : ℕ) (xs : List A) → eqb n 0 ≡ true → n ≡ length xs → xs ≡ []
+empty_items n [] e h = refl
+empty_items n (x ∷ xs) e h = let none : n ≡ 0 = eqb-true n 0 e in absurd (omega (arith, none, h))
 
 -- ---- one after another
 

@@ -1,11 +1,11 @@
 -- A running campaign from entry to entry.
-use Rattle.std.proofs.Common.{◌≡◌, ◌≤◌, ◌<◌, ℕ, ◌+◌, ◌*◌, ◌++◌, Bool, true, false, List, [], ◌∷◌, length, map, zero, suc, Some, None, refl, sym, ◌∙◌, ap, subst, arith}
+use Rattle.std.proofs.Common.{◌≡◌, ◌≤◌, ◌<◌, ℕ, ◌+◌, ◌*◌, ◌++◌, Bool, true, false, cond, List, [], ◌∷◌, length, map, zero, suc, Some, None, refl, sym, ◌∙◌, ap, subst, arith}
 use Rattle.std.specs.Prelude.{Option, slice_get, IfSome}
 use Rattle.std.specs.List.{AllByRecursion}
 use Rattle.std.proofs.lemmas.List.{length-map}
 use Rattle.seats.specs.SeatState.{is_joined}
 use Rattle.view_keep.specs.declared.keep.KeptView.{KeptView}
-use Rattle.view_keep.specs.Kept.{Kept, view_at}
+use Rattle.view_keep.specs.Kept.{Kept, put_at, view_at}
 use Rattle.player_view.specs.View.{view_of}
 use Rattle.command_looks.specs.Fields.{AreKept}
 use Rattle.command_effects.specs.Settle.{IsSettled}
@@ -27,10 +27,11 @@ use Rattle.campaign_core.specs.declared.campaign.Made.TheVariants.{Whole, Alone}
 use Rattle.campaign_core.specs.declared.campaign.Staged.{Staged}
 use Rattle.campaign_core.specs.Leaving.{due}
 use Rattle.campaign_core.specs.Places.{Standing, posted, law}
-use Rattle.campaign_core.specs.Shown.{AreShown}
+use Rattle.campaign_core.specs.Shown.{AreShown, kept_view}
 use Rattle.campaign_core.specs.Sound.{AreSound}
 use Rattle.campaign_core.specs.Running.{IsRunning, IsStaged, IsMade}
 use Rattle.campaign_core.proofs.Leaving.{due_most, replayed_sound}
+use Rattle.campaign_core.proofs.Following.{put_of}
 
 -- ---- an opening
 
@@ -66,6 +67,15 @@ pub shown_now : (origin : World) (h : List Entry) (room : ℕ) (before : Standin
 shown_now origin h room before kept stage r seat joined =
     let shown : AreShown (replay origin h) kept.views = subst (λ (w : World). AreShown w kept.views) (world_now origin h room before kept stage r) r.views in
     shown.each seat joined
+
+-- the view that was put for a seat that is Joined is what it is shown
+pub put_now : (origin : World) (h : List Entry) (room : ℕ) (before : Standing) (kept : Kept) (stage : Option Staged) → IsRunning origin h room before kept stage → (seat : ℕ) (s : Seat)
+    → Some s ≡ seat_at (replay origin h) seat → is_joined s.book.state ≡ true → put_at seat kept.views ≡ Some (view_of (replay origin h).scene seat)
+put_now origin h room before kept stage r seat s at joined =
+    put_of seat kept.views (view_of (replay origin h).scene seat) (shown_now origin h room before kept stage r seat (sym (ap was_joined at) ∙ joined))
+
+pub view_joined : (w : World) (seat : ℕ) (s : Seat) → Some s ≡ seat_at w seat → is_joined s.book.state ≡ true → Some (view_of w.scene seat) ≡ kept_view w seat
+view_joined w seat s at joined = ap (λ b. cond b (Some (view_of w.scene seat)) None) (sym joined ∙ ap was_joined at)
 
 -- ---- staging
 

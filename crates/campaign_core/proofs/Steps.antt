@@ -1,5 +1,5 @@
 -- An outcome differs by the steps of a move in its reply alone.
-use Rattle.std.proofs.Common.{◌≡◌, ℕ, List, Bool, true, false, cond, eqb, Some, None, refl, sym, ◌∙◌, ap}
+use Rattle.std.proofs.Common.{◌≡◌, ℕ, Bool, true, false, cond, eqb, Some, None, refl}
 use Rattle.std.specs.Prelude.{Option, Result, Ok, Err}
 use Rattle.seats.specs.Book.{Book, join_refusal}
 use Rattle.seats.specs.SeatState.{is_joined}
@@ -14,7 +14,7 @@ use Rattle.command_rules.specs.declared.refusal.Refusal.TheVariants.{NoHello}
 use Rattle.campaign_law.specs.declared.entry.Entry.{Entry}
 use Rattle.campaign_law.specs.declared.entry.Entry.TheVariants.{Join, Line, Leave, Taken}
 use Rattle.campaign_law.specs.Seat.{Seat}
-use Rattle.campaign_law.specs.Outcome.{Outcome, accepted, broken_rule, decided, join_outcome, outcome_at, read_outcome, refused_direct}
+use Rattle.campaign_law.specs.Outcome.{accepted, broken_rule, decided, join_outcome, outcome_at, read_outcome, refused_direct}
 use Rattle.campaign_core.specs.Steps.{steps_line, told}
 
 told_accepted : (steps seat : ℕ) (b : Book) (c : Command) → told (steps_line steps (accepted 0 seat b c)) (accepted 0 seat b c) ≡ accepted steps seat b c

@@ -30,8 +30,8 @@ next_seats-requires-clause-shown c = λ seat.
     (subst (λ ps. IsShown c.args.state.now.scene c.args.keep.now.views seat (option_map (λ p. p.seat) (slice_get ps seat))) (sym c.posts.ensures.value)
     (shown_seats c.args.state.now c.args.keep.now.views c.requires.views seat)))
 
-pub glances-requires-clause-fit : goal.glances-requires-clause-fit
-glances-requires-clause-fit c =
+pub glances-glances-requires-clause-fit : goal.glances-glances-requires-clause-fit
+glances-glances-requires-clause-fit c =
     subst (ViewsFit c.args.state.now.scene) (sym (stands (world_at c.args.state.now) c.args.entry.now c.args.keep.now.fields c.args.changed.now c.requires.changed))
     (views_fit (world_at c.args.state.now) c.args.entry.now c.requires.fits c.requires.tables)
 

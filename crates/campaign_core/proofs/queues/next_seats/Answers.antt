@@ -8,7 +8,7 @@ use Rattle.campaign_law.specs.State.{Post, post_by}
 use Rattle.campaign_core.specs.Places.{Place, posted}
 use Rattle.campaign_core.specs.Steps.{with_book}
 use Rattle.campaign_core.specs.Shown.{made_view}
-use Rattle.campaign_core.proofs.Posts.{AreMade, none_made, one_more, all_made, longer, item_at, own_post, own_is, still_left}
+use Rattle.campaign_core.proofs.Posts.{AreMade, none_made, one_more, all_made, longer, item_at, own_post, own_is, first_left, still_left}
 use Rattle.campaign_core.proofs.Shows.{mapped_on}
 use Rattle.campaign_core.proofs.queues.next_seats.Goals as goal
 
@@ -17,7 +17,7 @@ loop-post-init c =
     let h : ℕ → Place → Option View = λ seat p. made_view c.args.glances.now.same (eqb c.args.actor seat) c.args.outcome.now c.args.glances.now.after.now seat p.seat in
     record {
       place = refl;
-      book = refl;
+      book = first_left c.args.actor c.args.book;
       count = ap length c.new.ensures.items;
       made = subst (λ ns. AreMade (λ seat post. post_by seat (eqb c.args.actor seat) (with_book c.args.outcome.now c.args.book) (view_of c.args.glances.now.before.now seat) (view_of c.args.glances.now.after.now seat) post) ns 0 (map posted c.args.posts.now))
           (sym c.new.ensures.items) (none_made _ _);

@@ -17,14 +17,14 @@ use Rattle.campaign_core.proofs.campaign.Campaign.commit.Goals as goal
 
 -- ---- a Leave alone
 
-pub leave-requires-clause-settled : goal.leave-requires-clause-settled
-leave-requires-clause-settled g c = running_settled _ _ _ _ _ _ c.self.invariant
+pub leave-answer-requires-clause-settled : goal.leave-answer-requires-clause-settled
+leave-answer-requires-clause-settled g c = running_settled _ _ _ _ _ _ c.self.invariant
 
-pub leave-requires-clause-sound : goal.leave-requires-clause-sound
-leave-requires-clause-sound g c = running_sound _ _ _ _ _ _ c.self.invariant
+pub leave-answer-requires-clause-sound : goal.leave-answer-requires-clause-sound
+leave-answer-requires-clause-sound g c = running_sound _ _ _ _ _ _ c.self.invariant
 
-pub leave-requires-clause-moves : goal.leave-requires-clause-moves
-leave-requires-clause-moves g c = made_is _ c.self.inside.state c.self.inside.keep c.self.inside.staged c.in-Some.staged Alone c.in-Some.ensures.value c.in-Alone.is c.self.invariant.staged
+pub leave-answer-requires-clause-moves : goal.leave-answer-requires-clause-moves
+leave-answer-requires-clause-moves g c = made_is _ c.self.inside.state c.self.inside.keep c.self.inside.staged c.in-Some.staged Alone c.in-Some.ensures.value c.in-Alone.is c.self.invariant.staged
 
 pub push_reserved-requires : goal.push_reserved-requires
 push_reserved-requires g c =
@@ -68,23 +68,23 @@ returns-in-Alone-clause-sent g c = λ p. sent_is_machine _ _ p c.self.invariant.
 
 -- ---- all that an entry makes
 
-pub act-requires-clause-fields : goal.act-requires-clause-fields
-act-requires-clause-fields g c = c.self.invariant.fields
+pub act-answer-requires-clause-fields : goal.act-answer-requires-clause-fields
+act-answer-requires-clause-fields g c = c.self.invariant.fields
 
-pub act-requires-clause-count : goal.act-requires-clause-count
-act-requires-clause-count g c = c.self.invariant.count
+pub act-answer-requires-clause-count : goal.act-answer-requires-clause-count
+act-answer-requires-clause-count g c = c.self.invariant.count
 
-pub act-requires-clause-most : goal.act-requires-clause-most
-act-requires-clause-most g c = c.self.invariant.most
+pub act-answer-requires-clause-most : goal.act-answer-requires-clause-most
+act-answer-requires-clause-most g c = c.self.invariant.most
 
-pub act-requires-clause-room : goal.act-requires-clause-room
-act-requires-clause-room g c =
+pub act-answer-requires-clause-room : goal.act-answer-requires-clause-room
+act-answer-requires-clause-room g c =
     let whole : IsWhole _ c.self.inside.state c.self.inside.keep c.in-Some.staged.entry c.in-Whole.prepared =
     made_is _ c.self.inside.state c.self.inside.keep c.self.inside.staged c.in-Some.staged (Whole c.in-Whole.prepared) c.in-Some.ensures.value c.in-Whole.is c.self.invariant.staged in
     whole.room
 
-pub act-requires-clause-prepared : goal.act-requires-clause-prepared
-act-requires-clause-prepared g c =
+pub act-answer-requires-clause-prepared : goal.act-answer-requires-clause-prepared
+act-answer-requires-clause-prepared g c =
     let whole : IsWhole _ c.self.inside.state c.self.inside.keep c.in-Some.staged.entry c.in-Whole.prepared =
     made_is _ c.self.inside.state c.self.inside.keep c.self.inside.staged c.in-Some.staged (Whole c.in-Whole.prepared) c.in-Some.ensures.value c.in-Whole.is c.self.invariant.staged in
     whole.prepared

@@ -1,6 +1,6 @@
-use Rattle.std.proofs.Common.{rules, ◌≡◌, ◌≤◌, ◌+◌, ◌∙◌, ap, sym, subst, true, false, arith, ℕ, length}
+use Rattle.std.proofs.Common.{rules, ◌≡◌, ◌≤◌, ◌+◌, ◌-◌, ◌∙◌, Some, vec_len, vec_capacity, ap, sym, subst, refl, true, false, arith, ℕ, length}
 use Rattle.std.proofs.lemmas.List.{length-map}
-use Rattle.std.specs.Prelude.{IsOk}
+use Rattle.std.specs.Prelude.{IsOk, Option}
 use Rattle.command_looks.specs.Touched.{looks_of}
 use Rattle.campaign_law.specs.World.{World, outcome_of, replay}
 use Rattle.campaign_law.specs.Worlds.{FitsTogether}
@@ -8,10 +8,14 @@ use Rattle.campaign_law.specs.Session.{changes_state}
 use Rattle.campaign_law.specs.Law.{Course, world_of}
 use Rattle.campaign_law.specs.State.{State, world_in}
 use Rattle.campaign_law.proofs.Simulation.{sent_is_machine}
-use Rattle.campaign_core.specs.Places.{law, posted, world_at}
+use Rattle.campaign_core.specs.Places.{law, posted, world_at, HaveRoom}
+use Rattle.campaign_core.specs.declared.campaign.Made.TheVariants.{Whole}
+use Rattle.campaign_core.specs.declared.campaign.Staged.{Staged}
 use Rattle.campaign_core.specs.Prepared.{IsPrepared}
+use Rattle.campaign_core.specs.Running.{IsRunning}
 use Rattle.campaign_core.specs.Shown.{AreShown}
 use Rattle.campaign_core.proofs.Laws.{world_law}
+use Rattle.campaign_core.proofs.Nexts.{on_ok}
 use Rattle.campaign_core.proofs.Running.{running_fits, running_tables, running_settled, running_sound, world_now, restaged}
 use Rattle.campaign_core.proofs.campaign.Campaign.prepare.Goals as goal
 
@@ -109,12 +113,26 @@ returns-clause-looks g c =
 pub returns-clause-sent : goal.returns-clause-sent
 returns-clause-sent g c = λ p. sent_is_machine _ _ p c.self.invariant.opening
 
-pub invariant_of-self-5 : goal.invariant_of-self-5
-invariant_of-self-5 g c =
-    restaged (world_in (law c.self.inside.origin)) c.self.inside.history.items _ _ c.self.inside.state c.make_room.new.self c.self.inside.keep c.self.inside.staged _ c.self.invariant
-    c.make_room.ensures.state c.make_room.ensures.count (search rules)
+-- a Leave stages itself alone
+pub invariant_of-self : goal.invariant_of-self
+invariant_of-self g c =
+    restaged (world_in (law c.self.inside.origin)) c.self.inside.history.items _ _ c.self.inside.state c.self.inside.state c.self.inside.keep c.self.inside.staged _ c.self.invariant
+    refl refl (omega arith)
+    (sym (ap (λ (w : World). changes_state w c.args.entry) (world_law c.self.inside.state)) ∙ sym c.is_changed_by.ensures ∙ c.if-is_changed_by.true)
+
+-- all that another entry makes, and room for it
+pub invariant_of-self-2 : goal.invariant_of-self-2
+invariant_of-self-2 g c =
+    let places = vec_capacity c.reserve.new.self - vec_len c.reserve.new.self in
+    let stage : Option Staged = Some (record { entry = c.args.entry; made = Whole c.in-Ok.prepared }) in
+    let len = c.reserve.ensures.len in
+    let capacity = c.reserve.ensures.capacity in
+    let reserved : vec_len c.reserve.new.self + 67 ≤ vec_capacity c.reserve.new.self = search rules in
+    subst (λ h. IsRunning (world_in (law c.self.inside.origin)) h places c.make_room.new.self c.self.inside.keep stage) (sym c.reserve.ensures.items)
+    (restaged (world_in (law c.self.inside.origin)) c.self.inside.history.items _ places c.self.inside.state c.make_room.new.self c.self.inside.keep c.self.inside.staged stage c.self.invariant
+    c.make_room.ensures.state c.make_room.ensures.count (omega (arith, len, capacity))
     (record {
-      enough = search rules;
-      room = search rules;
+      enough = omega (arith, reserved);
+      room = subst (λ ns. HaveRoom ns c.make_room.new.self.posts) c.deref.ensures.value (on_ok c.make_room.result _ (sym c.is_err.ensures.value ∙ c.if-is_err.false) c.make_room.ensures.room);
       prepared = subst (λ (s : State). IsPrepared s c.self.inside.keep c.args.entry c.in-Ok.prepared) (sym c.make_room.ensures.state) c.in-Ok.ensures.prepared;
-    })
+    }))

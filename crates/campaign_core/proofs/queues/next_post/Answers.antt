@@ -1,0 +1,17 @@
+use Rattle.std.proofs.Common.{◌≡◌, ◌+◌, ◌∙◌, sym, ap, refl, length, [], Some}
+use Rattle.player_view.specs.View.{view_of}
+use Rattle.campaign_law.specs.World.{queued_lines}
+use Rattle.campaign_core.specs.Places.{Place, posted}
+use Rattle.campaign_core.proofs.Posts.{some_own, none_own, empty_items}
+use Rattle.campaign_core.proofs.queues.next_post.Goals as goal
+
+pub returns-then-is_empty : goal.returns-then-is_empty
+returns-then-is_empty c =
+    none_own c.args.seat c.args.acts c.args.outcome.now c.args.book _ _ (posted c.args.post.now) c.requires.sound c.if-not-acts.true
+    (sym c.in_ok-lines.ensures ∙ empty_items _ c.in_ok-lines.lines.items (sym c.is_empty.ensures ∙ c.if-is_empty.true) c.in_ok-lines.lines.ok.0)
+
+pub returns : goal.returns
+returns c =
+    let queued : c.in-Some.queued ≡ c.args.post.now.seat.queued + length c.in_ok-lines.lines.items =
+    c.in-Some.ensures.1 ∙ (λ i. (c.post.view_is i).seat.queued + (c.len.ensures ∙ c.in_ok-lines.lines.ok.0) i) in
+    some_own c.args.seat c.args.acts c.args.outcome.now c.args.book _ _ (posted c.args.post.now) (record { book = c.args.book; queued = c.in-Some.queued; taken = c.changed_taken.result; lines = c.in_ok-lines.lines }) refl c.requires.own queued c.changed_taken.ensures c.in_ok-lines.ensures
