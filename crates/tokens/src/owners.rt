@@ -31,9 +31,10 @@ impl Owners {
         Owners { seats: 0 }
     }
 
-    /// Whether the seat is an owner.
+    /// Whether the seat is an owner. Only seats are owners: no bit past the last seat's is 1.
     pub fn has(self, seat: SeatNo) -> bool
-        ensures { result ≡ has_owner self seat }
+        ensures value { result ≡ has_owner self seat }
+        ensures seats { self < 2 ^ 33 }
     {
         self.seats >> seat.number() & 1 == 1
     }
