@@ -11,7 +11,7 @@ use Rattle.command_effects.specs.Settle.{settled as settled_scene}
 use Rattle.campaign_law.specs.declared.entry.Entry.{Entry}
 use Rattle.campaign_law.specs.Seat.{Seat}
 use Rattle.campaign_law.specs.Outcome.{seat_of}
-use Rattle.campaign_law.specs.World.{World, seat_at, asked_of, steps_of, outcome_of, scene_after, mapped_from, step, replay}
+use Rattle.campaign_law.specs.World.{World, seat_at, asked_of, steps_of, outcome_of, made_by, scene_after, mapped_from, step, replay}
 use Rattle.campaign_law.specs.Written.{is_written_key, are_written_keys, are_written_tokens, IsWritten}
 use Rattle.campaign_law.specs.Worlds.{opened_of, opening_world}
 use Rattle.campaign_law.proofs.Allowed.{outcome_none}
@@ -33,15 +33,15 @@ keys_after w e h =
     ap are_written_keys (books_are w e)
     ∙ keys_kept (book_after w e) 0 w.seats (λ i s at. let from_start : 0 + i ≡ i = omega arith in ap (λ n. (book_after w e n s).key) from_start ∙ (after_follows w e i s at).key) h
 
-tokens_after : (w : World) (e : Entry) (o : Option Command) → (outcome_of w e).done ≡ o → are_written_tokens w.scene.tokens ≡ true → are_written_tokens (scene_by (steps_of w e) (seat_of e) w.scene o).tokens ≡ true
+tokens_after : (w : World) (e : Entry) (o : Option Command) → (outcome_of w e).done ≡ o → are_written_tokens w.scene.tokens ≡ true → are_written_tokens (scene_by (steps_of w e) (outcome_of w e).intents (seat_of e) w.scene o).tokens ≡ true
 unfolding scene_by
 tokens_after w e None is h = h
-tokens_after w e (Some c) is h = written_after (steps_of w e) (seat_of e) w.scene c (outcome_none (asked_of w (seat_of e)) (steps_of w e) (seat_at w (seat_of e)) e c is).broke.form h
+tokens_after w e (Some c) is h = written_after (steps_of w e) (outcome_of w e).intents (seat_of e) w.scene c (outcome_none (asked_of w (seat_of e)) (steps_of w e) (seat_at w (seat_of e)) e c is).broke.form h
 
 written_step : (w : World) (e : Entry) → IsWritten (opened_of w) → IsWritten (opened_of (step w e))
 unfolding scene_after
 written_step w e is = record {
-  tokens = ap are_written_tokens (same_tokens w e (scene_by (steps_of w e) (seat_of e) w.scene (outcome_of w e).done)) ∙ tokens_after w e (outcome_of w e).done refl is.tokens;
+  tokens = ap are_written_tokens (same_tokens w e (made_by w e)) ∙ tokens_after w e (outcome_of w e).done refl is.tokens;
   keys = keys_after w e is.keys;
 }
 
