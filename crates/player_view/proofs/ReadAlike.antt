@@ -1,9 +1,11 @@
 -- A seat's macros can read of its view what they can read of the scene.
-use Rattle.std.proofs.Common.{◌≡◌, ℕ, Bool, true, false, cond, ◌||◌, List, [], ◌∷◌, ◌++◌, Some, None, refl}
+use Rattle.std.proofs.Common.{◌≡◌, ℕ, Bool, true, false, cond, ◌||◌, List, [], ◌∷◌, ◌++◌, Some, None, refl, ap, ◌∙◌}
 use Rattle.std.specs.Prelude.{map, flat_map, is_some}
 use Rattle.std.specs.List.{filter}
 use Rattle.names.specs.declared.kinds.PropClass.TheVariants.{Public, Own, Secret}
 use Rattle.tokens.specs.declared.token.Token.{Token}
+use Rattle.views.specs.declared.view.View.{View}
+use Rattle.readable.specs.Table.{Table}
 use Rattle.world.specs.Scene.{Scene}
 use Rattle.player_view.specs.Sight.{owns}
 use Rattle.player_view.specs.Shown.{is_shown}
@@ -49,3 +51,6 @@ unfolding view_of
 readable_alike seats s q =
     (λ i. table_of seats (flat_map-map-filter read_in (token_view s q) (has_token s q) (read_of s q) (read_same s q) s.tokens i)
     (flat_map-map-filter yours_in (token_view s q) (has_token s q) (yours_of s q) (yours_same s q) s.tokens i))
+
+pub table_alike : (seats : ℕ) (v : View) (table : Table) (s : Scene) (q : ℕ) → table ≡ readable_by_view seats v → v ≡ view_of s q → table ≡ readable_of seats s q
+table_alike seats v table s q e is = e ∙ ap (readable_by_view seats) is ∙ readable_alike seats s q

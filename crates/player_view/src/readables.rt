@@ -1,9 +1,11 @@
 //! What a seat's macros can read, by the seat's view.
 
-ghost use Rattle.std.specs.Prelude.{◌≡◌, ◌≤◌, ◌∷◌, ◌++◌, [], IfOk, OnOk, flat_map};
+ghost use Rattle.std.specs.Prelude.{◌≡◌, ℕ, ◌≤◌, ◌∷◌, ◌++◌, [], IfOk, OnOk, flat_map};
 ghost use Rattle.names.specs.declared.kinds.PropClass.TheVariants.{Public, Own, Secret};
 ghost use Rattle.readable.specs.Table.{with_value};
-ghost use Rattle.player_view.specs.Readables.{keyed, props_in, secret_in, read_in, yours_in, table_of, readable_by_view, with_values, with_token};
+ghost use Rattle.player_view.specs.Readables.{keyed, props_in, secret_in, read_in, yours_in, table_of, readable_by_view, readable_of, with_values, with_token};
+ghost use Rattle.player_view.specs.View.{view_of};
+ghost use Rattle.world.specs.Scene.{Scene};
 
 use names::{Memory, PropClass, Tag, Text, TokenId};
 use readable::Readable;
@@ -75,14 +77,23 @@ fn put_token(table: &mut Readable, token: &TokenView) -> Result<(), Memory>
     put_mine(table, token)
 }
 
-/// What the macros of a seat that is shown this view can read, and the tokens that they may change.
 #[tactic(auto, using(crate::proofs::ReadTables::token_next))]
-pub fn readable_in(alloc: Global, view: &View, seats: u8) -> Result<Readable, Memory>
-    ensures value { IfOk result (λ table. table ≡ readable_by_view seats view.now) }
+fn table_by(alloc: Global, view: &View, seats: u8) -> Result<Readable, Memory>
+    ensures { IfOk result (λ table. table ≡ readable_by_view seats view.now) }
 {
     let mut table = Readable::new(alloc, seats);
     for token in view.tokens.items() {
         put_token(&mut table, token)?;
     }
     Ok(table)
+}
+
+/// What the macros of a seat that is shown this view can read, and the tokens that they may change, in a campaign of so many
+/// seats. Whatever scene shows the seat this view, it is what they can read of the scene.
+#[tactic(auto, using(crate::proofs::ReadAlike::table_alike))]
+pub fn readable_in(alloc: Global, view: &View, seats: u8) -> Result<Readable, Memory>
+    ensures value { IfOk result (λ table. table ≡ readable_by_view seats view.now) }
+    ensures alike { (s : Scene) (q : ℕ) → view.now ≡ view_of s q → IfOk result (λ table. table ≡ readable_of seats s q) }
+{
+    table_by(alloc, view, seats)
 }
