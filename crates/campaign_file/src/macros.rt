@@ -6,8 +6,7 @@ ghost use Rattle.macro_parse.specs.Answers.{macro_of};
 ghost use Rattle.campaign_json.specs.Reading.{Fails, under, each_member};
 ghost use Rattle.campaign_file.specs.Macros.{macros as macros_lem, spelled, unfilled, with_read};
 
-use campaign_json::fields;
-use campaign_json::{FileFault, Rule, broken, kinds};
+use campaign_json::{FileFault, Rule, broken, fields, kinds};
 use macro_parse::{MacroParseFault, read_macro};
 use names::Text;
 use seats::{BookFault, SeatBook};

@@ -6,6 +6,6 @@ pub mod GmCommands
 pub mod Players
 pub mod NewTags
 pub mod NewTexts
-pub mod Intents
+pub mod IntentLemmas
 pub mod KeptScenes
 pub mod Following

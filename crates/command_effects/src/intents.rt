@@ -44,6 +44,7 @@ fn set_intent(alloc: Global, scene: &mut Scene, intent: &Intent) -> Result<(), M
 }
 
 /// Sets the property, unless it breaks a rule.
+#[tactic(auto, using(crate::proofs::IntentLemmas::may_try))]
 fn try_intent(
     alloc: Global,
     scene: &mut Scene,
@@ -63,6 +64,7 @@ fn try_intent(
 
 /// Sets the properties that a run of the seat means to set, in order, each by the rules of a property that the seat sets by a
 /// command. `Memory` for want of memory.
+#[tactic(auto, using(crate::proofs::IntentLemmas::set_more, crate::proofs::IntentLemmas::set_stops, crate::proofs::IntentLemmas::set_ends))]
 pub fn set_intents(
     alloc: Global,
     scene: &Scene,

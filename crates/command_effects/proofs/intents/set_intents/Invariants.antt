@@ -1,4 +1,4 @@
-use Rattle.command_effects.proofs.Intents.{IsSetTo}
+use Rattle.command_effects.proofs.IntentLemmas.{IsSetTo}
 use Rattle.command_effects.proofs.intents.set_intents.Given as goal
 
 abbrev pub invariant-loop-intent : goal.invariant-loop-intent
