@@ -68,15 +68,12 @@ then_follows b c d f g = record { seat = g.seat ∙ f.seat; key = g.key ∙ f.ke
 done_follows : (c : Command) (b : Book) → Follows b (book_done c b)
 done_follows c b = by (is_bye c)
   where
-    rolled : Book
-    rolled = rolling (dice_in c) b
-
-    set : Book
-    set = setting_text (new_text_in c) rolled
-
-    by : (t : Bool) → Follows b (cond t (left b) (using_tag (tag_made c) set))
+    by : (t : Bool) → Follows b (cond t (left b) (using_tag (tag_made c) (setting_text (new_text_in c) (rolling (dice_in c) b))))
     by true = record { seat = refl; key = refl; tags = λ tag h. h }
-    by false = then_follows b rolled _ (rolling_follows (dice_in c) b) (then_follows rolled set _ (setting_follows (new_text_in c) rolled) (using_follows (tag_made c) set))
+    by false =
+        let rolled : Book = rolling (dice_in c) b in
+        let set : Book = setting_text (new_text_in c) rolled in
+        then_follows b rolled _ (rolling_follows (dice_in c) b) (then_follows rolled set _ (setting_follows (new_text_in c) rolled) (using_follows (tag_made c) set))
 
 last_used : (tags : List (List ℕ)) (tag : List ℕ) → tag_used (tags ++ tag ∷ []) tag ≡ true
 last_used [] tag = rw (same_name tag) refl
@@ -93,14 +90,12 @@ made_used (Token made map place name size layer) tag b h = let e : made ≡ tag 
 made_used c tag b h = cc
 
 accepted_keeps : (steps seat : ℕ) (b : Book) (c : Command) (run : Called) → KeepsBook b (accepted_with steps seat b c run)
-accepted_keeps steps seat b c run = record {
-  book = then_follows b (counted b) _ (counted_follows b) (then_follows (counted b) drawn _ (drawing_follows run (counted b)) (done_follows c drawn));
-  made = λ d tag is made. let e : c ≡ d = cc in made_used c tag drawn (ap tag_made e ∙ made);
-  done = λ d is. (book_done c drawn, refl);
-}
-  where
-    drawn : Book
-    drawn = drawing run (counted b)
+accepted_keeps steps seat b c run =
+    let drawn : Book = drawing run (counted b) in record {
+      book = then_follows b (counted b) _ (counted_follows b) (then_follows (counted b) drawn _ (drawing_follows run (counted b)) (done_follows c drawn));
+      made = λ d tag is made. let e : c ≡ d = cc in made_used c tag drawn (ap tag_made e ∙ made);
+      done = λ d is. (book_done c drawn, refl);
+    }
 
 decided_keeps : (asked : Asked) (steps seat : ℕ) (b : Book) (c : Command) (r : Option Refusal) → KeepsBook b (decided asked steps seat b c r)
 decided_keeps asked steps seat b c None = accepted_keeps steps seat b c (called_by asked seat b c)

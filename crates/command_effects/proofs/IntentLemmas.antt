@@ -58,16 +58,16 @@ other_than t a b x y = by (id_eq a b) refl
 
 -- whether it is the token that is asked for, once the property of the one of that id is set
 module _ (s : Scene) (seat : ℕ) (i : Intent) (id : TokenId) where
-  wanted : Token → Bool
+  abbrev wanted : Token → Bool
   wanted t = has_id id t && acts_on s seat t
 
-  set : Token → Token
+  abbrev set : Token → Token
   set t = with_prop i.class i.name i.value t
 
-  answer : Option Token → Option Mine
+  abbrev answer : Option Token → Option Mine
   answer found = option_map mine_of found
 
-  answer_set : Option Token → Option Mine
+  abbrev answer_set : Option Token → Option Mine
   answer_set found = cond (id_eq i.id id) (option_map (mine_with i.class i.name i.value) (answer found)) (answer found)
 
   at_the_token : (t : Token) (rest rest_set : Option Token) → has_id i.id t ≡ true → answer rest_set ≡ answer_set rest → (b : Bool) → wanted t ≡ b → answer (cond b (Some (set t)) rest_set) ≡ answer_set (cond b (Some t) rest)

@@ -94,6 +94,7 @@ pub fn setting_rule(
 // ---- runs
 
 /// Runs a macro over a stream.
+#[tactic(auto, using(crate::proofs::RunLemmas::answered, crate::proofs::RunLemmas::stopped))]
 fn run_read(
     alloc: Global,
     macro_text: &Macro,
@@ -130,6 +131,7 @@ fn run_read(
 }
 
 /// Reads a macro's text and runs it over a stream.
+#[tactic(auto, using(crate::proofs::RunLemmas::spelt, crate::proofs::RunLemmas::misspelt))]
 fn run_text(
     alloc: Global,
     text: &Text,
@@ -154,7 +156,7 @@ fn run_text(
 
 /// What the run that a command of the book's seat asks for comes to, where its macros can read this table. The book stays as
 /// it is. `Memory` for want of memory.
-#[tactic(auto, unfolding(crate::specs::MacroRules::called))]
+#[tactic(auto, using(crate::proofs::RunLemmas::kept, crate::proofs::RunLemmas::lost), unfolding(crate::specs::MacroRules::called))]
 pub fn run_called(
     alloc: Global,
     readable: &Readable,
