@@ -13,7 +13,7 @@ use crate::calls::{Called, MacroRun};
 use crate::refusal::Refusal;
 use chat::To;
 use command_json::Command;
-use macro_eval::{MacroStop, Readable, run};
+use macro_eval::{MacroStop, Outcome, Readable, run};
 use macro_parse::{Macro, MacroParseFault, read_macro};
 use names::{Memory, SeatNo, Tag, Text, Texts};
 use seat_random::SeatStream;
@@ -93,6 +93,17 @@ pub fn setting_rule(
 
 // ---- runs
 
+fn ran(outcome: Outcome, stream: SeatStream) -> Called
+    ensures { result ≡ Called.Ran (record { texts = outcome.texts; intents = outcome.intents; stream = stream }) }
+{
+    let Outcome { texts, intents } = outcome;
+    Called::Ran(MacroRun {
+        texts,
+        intents,
+        stream,
+    })
+}
+
 /// Runs a macro over a stream.
 #[tactic(auto, using(crate::proofs::RunLemmas::answered, crate::proofs::RunLemmas::stopped))]
 fn run_read(
@@ -116,11 +127,7 @@ fn run_read(
         to,
         &mut stream,
     ) {
-        Ok(outcome) => Ok(Called::Ran(MacroRun {
-            texts: outcome.texts,
-            intents: outcome.intents,
-            stream,
-        })),
+        Ok(outcome) => Ok(ran(outcome, stream)),
         Err(MacroStop::Budget) => Ok(Called::Stopped(Refusal::MacroBudget)),
         Err(MacroStop::Fault { kind, at }) => {
             Ok(Called::Stopped(Refusal::MacroFault { kind, at }))
