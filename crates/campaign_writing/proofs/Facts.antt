@@ -96,10 +96,10 @@ low_cell : (o : Option Extent) (cell : Cell) (side : ℕ) → ((size : Extent) �
 low_cell None cell side sized on low = absurd cc
 low_cell (Some size) cell side sized on low =
     let is = sized size refl in
-    both _ _ (part cell.x side size.w (and_first _ _ on) is.w_high) (part cell.y side size.h (and_second (nat_le (cell.x + side) size.w) _ on) is.h_high)
+    both _ _ (part cell.x side size.w low (and_first _ _ on) is.w_high) (part cell.y side size.h low (and_second (nat_le (cell.x + side) size.w) _ on) is.h_high)
   where
-    part : (x side most : ℕ) → nat_le (x + side) most ≡ true → most ≤ 96 → nat_le x 95 ≡ true
-    part x side most h high = grind (arith, nat_tests, low)
+    part : (x side most : ℕ) → 1 ≤ side → nat_le (x + side) most ≡ true → most ≤ 96 → nat_le x 95 ≡ true
+    part x side most some h high = grind (arith, nat_tests)
 
 at_least : (n : ℕ) → nat_le 1 n ≡ true → 1 ≤ n
 at_least n h = grind (arith, nat_tests)

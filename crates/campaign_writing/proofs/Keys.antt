@@ -11,6 +11,11 @@ use Rattle.maps.specs.Maps.{Grid}
 use Rattle.maps.proofs.NameLemmas.{same_name}
 use Rattle.campaign_writing.proofs.Laid.{set_on, laid}
 
+-- each map's name differs from those of all later ones
+abbrev pub NamesDiffer : List Grid → Type 0
+NamesDiffer [] = Unit {0}
+NamesDiffer (m ∷ maps) = AllByRecursion (λ other. bytes_eq m.name other.name ≡ false) maps × NamesDiffer maps
+
 -- what is found under a key among some sets; no cells, where nothing is
 module _ (all : List Exposure) where
   abbrev pub looked : ℕ → Grid → Cells
@@ -84,11 +89,6 @@ module _ (all : List Exposure) where
       by : (b : Bool) → (b && false) ≡ false
       by true = refl
       by false = refl
-
-  -- each map's name differs from those of all later ones
-  abbrev pub NamesDiffer : List Grid → Type 0
-  NamesDiffer [] = Unit {0}
-  NamesDiffer (m ∷ maps) = AllByRecursion (λ other. bytes_eq m.name other.name ≡ false) maps × NamesDiffer maps
 
   row_names : (m : Grid) (name : List ℕ) → bytes_eq m.name name ≡ false → (k n : ℕ) → AllByRecursion (λ e. bytes_eq e.map name ≡ false) (map (set_on looked m) (range_with_len k n))
   row_names m name h k zero = tt

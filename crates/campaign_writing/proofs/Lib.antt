@@ -16,3 +16,6 @@ pub mod Campaigns
 pub mod Shape
 pub mod Keys
 pub mod Members
+pub mod Exposed
+pub mod OwnerLists
+pub mod TokenMembers

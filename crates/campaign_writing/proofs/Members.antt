@@ -1,6 +1,7 @@
 -- Free keys that are put in one after the other, in their order.
-use Rattle.std.proofs.Common.{◌≡◌, ℕ, zero, suc, ◌+◌, List, [], ◌∷◌, ◌++◌, length, map, Some, refl, sym, ap, ◌∙◌, arith, true, false, Bool, cond}
-use Rattle.std.specs.Prelude.{take, drop, slice_get, slice_cmp, nat_cmp}
+use Rattle.std.proofs.Common.{◌≡◌, ℕ, zero, suc, ◌+◌, List, [], ◌∷◌, ◌++◌, length, map, Some, refl, sym, ap, ◌∙◌, arith, true, false, Bool, cond, ◌==◌}
+use Rattle.std.specs.Prelude.{take, drop, slice_get}
+use Rattle.std.proofs.lemmas.Bool.Decides.{nat_tests}
 use Rattle.std.proofs.lemmas.List.{append-nil}
 use Rattle.std.specs.List.{AllByRecursion, filter}
 use Rattle.std.specs.Cmp.Lexicographic.{nat_list_cmp_total}
@@ -101,3 +102,11 @@ module _ (s : Scene) (seat n : ℕ) (m : Grid) (list : List Data) (before : Memb
       by [] is e = absurd (some (ap length is))
       by (run ∷ rest) is e =
           new ∙ (λ i. put m.name (array (items_of (is i))) (was i)) ∙ put_behind runs_tree m.name (run ∷ rest) (entries_of s seat (take n s.maps)) less ∙ ap (named runs_tree) e
+
+-- ---- lists that are empty, or not
+
+pub is_none : (b : Bool) (n k : ℕ) → b ≡ (n == 0) → b ≡ true → n ≡ k → k ≡ 0
+is_none b n k is empty same = grind (arith, nat_tests)
+
+pub is_some : (b : Bool) (n k : ℕ) → b ≡ (n == 0) → b ≡ false → n ≡ k → k ≡ 0 → ⊥
+is_some b n k is full same none = grind (arith, nat_tests)

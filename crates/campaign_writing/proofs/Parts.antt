@@ -142,19 +142,22 @@ taken_one_more view f n xs x vs ws v new at e is =
     let next : suc n ≡ n + 1 = omega arith in
     ap (map view) new ∙ map_append_one view vs v ∙ (λ i. e i ++ is i ∷ []) ∙ sym (map_append_one f (take n xs) x) ∙ ap (map f) (sym (take_next n xs x at)) ∙ ap (λ k. map f (take k xs)) next
 
+-- ---- what is told of each element
+
+told_last : {A : Type 0} (P : A → Type 0) (ys : List A) (x : A) → AllByRecursion P ys → P x → AllByRecursion P (ys ++ x ∷ [])
+told_last P [] x h is = (is, tt)
+told_last P (y ∷ ys) x h is = (h.0, told_last P ys x h.1 is)
+
 -- what holds of the first elements, and of the next one, holds of one more
 pub told_one_more : {A : Type 0} (P : A → Type 0) (n : ℕ) (xs : List A) (x : A) → slice_get xs n ≡ Some x → AllByRecursion P (take n xs) → P x → AllByRecursion P (take (n + 1) xs)
 told_one_more P n xs x at h is =
     let next : suc n ≡ n + 1 = omega arith in
-    subst (λ k. AllByRecursion P (take k xs)) next (subst (AllByRecursion P) (sym (take_next n xs x at)) (more (take n xs) h))
-  where
-    more : (ys : List _) → AllByRecursion P ys → AllByRecursion P (ys ++ x ∷ [])
-    more [] h = (is, tt)
-    more (y ∷ ys) h = (h.0, more ys h.1)
+    subst (λ k. AllByRecursion P (take k xs)) next (subst (AllByRecursion P) (sym (take_next n xs x at)) (told_last P (take n xs) x h is))
 
-pub told_all : {A : Type 0} (P : A → Type 0) (n : ℕ) (xs : List A) → n ≡ length xs → AllByRecursion P (take n xs) → AllByRecursion P xs
-told_all P n xs count h = subst (AllByRecursion P) (ap (λ k. take k xs) count ∙ take_whole xs) h
-  where
-    take_whole : (ys : List _) → take (length ys) ys ≡ ys
-    take_whole [] = refl
-    take_whole (y ∷ ys) = ap (λ l. y ∷ l) (take_whole ys)
+take_length : {A : Type 0} (ys : List A) → take (length ys) ys ≡ ys
+take_length [] = refl
+take_length (y ∷ ys) = ap (λ l. y ∷ l) (take_length ys)
+
+-- as many as there are
+pub whole_taken : {A : Type 0} (n : ℕ) (xs : List A) → n ≡ length xs → take n xs ≡ xs
+whole_taken n xs count = ap (λ k. take k xs) count ∙ take_length xs

@@ -11,7 +11,8 @@ use Rattle.cells.specs.declared.cell.Run.{Run}
 use Rattle.cells.specs.declared.cell.Rect.{Rect}
 use Rattle.cells.proofs.SetLaws.{cells_where_same, has-cells_where}
 use Rattle.cells.proofs.MaximalLemmas.{runs_of-maximal}
-use Rattle.fog_book.specs.Rects.{is_in, with_rect}
+use Rattle.cells.specs.Rects.{is_in}
+use Rattle.fog_book.specs.Rects.{with_rect}
 use Rattle.fog_book.specs.Exposures.{with_change, changed_at, is_of}
 use Rattle.fog_book.specs.declared.exposure.Exposure.{Exposure}
 use Rattle.serde_json.specs.View.{items_of}

@@ -19,7 +19,7 @@ use Rattle.campaign_json.specs.Kinds as kinds
 use Rattle.campaign_writing.specs.Kept.{IsTag}
 use Rattle.campaign_writing.proofs.Writable.{IsBookOf}
 use Rattle.campaign_writing.specs.Trees.{whole, list}
-use Rattle.campaign_writing.specs.Canonical.{seat_tree, reopened_book}
+use Rattle.campaign_writing.specs.Canonical.{macros_tree, seat_tree, reopened_book}
 use Rattle.campaign_scene.specs.Fog.{fog}
 use Rattle.campaign_file.specs.Seats as read
 use Rattle.campaign_writing.proofs.Parts.{field_reads, each_reads, list_reads, whole_reads, text_reads}
@@ -91,6 +91,9 @@ module _ (b : Book) (are : AllByRecursion IsTag b.tags) (few : length b.tags ≤
 drawn_fits : (n : ℕ) → n < 2 ^ 62 → (nat_le 0 n && nat_le n (2 ^ 62 - 1)) ≡ true
 drawn_fits n lt = grind (arith, nat_tests)
 
+none_read : (macros : List (List ℕ × List ℕ)) → macros ≡ [] → kinds.empty_object (macros_tree macros) ≡ Ok tt
+none_read macros none = ap (λ m. kinds.empty_object (macros_tree m)) none
+
 pub seat_reads : (whole_scene before after : Scene) (b : Book) → IsBookOf b → fog b.seat before (seat_tree whole_scene b) ≡ Ok after → read.seat b.seat before (seat_tree whole_scene b) ≡ Ok (reopened_book b, after)
 unfolding read.seat seat_tree
 seat_reads whole_scene before after b is exposed =
@@ -99,6 +102,6 @@ seat_reads whole_scene before after b is exposed =
       field_reads (codes "seed") kinds.seed (seat_tree whole_scene b) (string (encode_lower b.seed)) b.seed refl (seed_reads b.seed is.seed is.bytes),
       field_reads (codes "drawn") (kinds.whole 0 (drawn_limit - 1)) (seat_tree whole_scene b) (whole b.drawn) b.drawn refl (whole_reads 0 (drawn_limit - 1) b.drawn (omega arith) (drawn_fits b.drawn is.drawn)),
       tags_read b is.tags is.few is.distinct (seat_tree whole_scene b) refl,
-      is.macros,
+      field_reads (codes "macros") kinds.empty_object (seat_tree whole_scene b) (macros_tree b.macros) tt refl (none_read b.macros is.macros),
       exposed,
     ) (ap (λ macros. Ok (record b { lines = 0; state = Free; macros = macros }, after)) (sym is.macros))

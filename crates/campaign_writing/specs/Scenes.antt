@@ -13,9 +13,9 @@ use Rattle.tokens.specs.Owners.{seats_of}
 use Rattle.tokens.specs.Properties.{Property}
 use Rattle.tokens.specs.declared.token.Token.{Token}
 use Rattle.topology.specs.declared.wall.Wall.{Wall}
-use Rattle.serde_json.specs.Data.{Data, boolean, string, object, no_members, member}
+use Rattle.serde_json.specs.Data.{Data, boolean, string, object, Members, no_members, member}
 use Rattle.world.specs.Scene.{Scene}
-use Rattle.campaign_writing.specs.Trees.{whole, wholes, list, name_or_null, named}
+use Rattle.campaign_writing.specs.Trees.{whole, wholes, list, name_or_null, named, with_member}
 
 -- ---- types
 
@@ -85,6 +85,23 @@ token_tree t = object
     (member (codes "sight") (name_or_null t.sight)
     (member (codes "size") (whole t.size)
     (member (codes "visible") (boolean t.visible) no_members)))))))))))))
+
+-- its members as they are put in, one after the other
+unfoldable pub token_members : Token → Members
+token_members t =
+    with_member (codes "visible") (boolean t.visible)
+    (with_member (codes "size") (whole t.size)
+    (with_member (codes "sight") (name_or_null t.sight)
+    (with_member (codes "secret") (properties_tree t.secret)
+    (with_member (codes "props") (properties_tree t.public)
+    (with_member (codes "owners") (owners_tree t.owners)
+    (with_member (codes "own") (properties_tree t.own)
+    (with_member (codes "name") (string t.name)
+    (with_member (codes "map") (string t.map)
+    (with_member (codes "light") (name_or_null t.light)
+    (with_member (codes "layer") (string (layer_word t.layer))
+    (with_member (codes "id") (string (id_text t.id))
+    (with_member (codes "cell") (wholes (t.cell.x ∷ t.cell.y ∷ [])) no_members))))))))))))
 
 abbrev pub tokens_tree : List Token → Data
 tokens_tree tokens = list (map token_tree tokens)

@@ -19,6 +19,7 @@ use std::alloc::{AllocError, Global};
 use world::{Scene, World};
 
 /// The campaign text of a scene and its seats' books as a JSON value, or want of memory.
+#[tactic(auto, unfolding(crate::specs::Canonical::campaign_tree))]
 pub fn campaign_value(alloc: Global, scene: &Scene, books: &[SeatBook]) -> Result<Value, AllocError>
     ensures tree { IfOk result (λ v. view v ≡ campaign_tree (record { scene = scene.now; books = books.now })) }
     ensures kept { IsWorld (record { scene = scene.now; books = books.now }) → OnOk result (IsKept (record { scene = scene.now; books = books.now })) }

@@ -8,7 +8,7 @@ ghost use Rattle.campaign_writing.specs.Canonical.{macros_tree, seat_tree, seats
 ghost use Rattle.campaign_writing.specs.Kept.{AreKeptMacros, AreKeptTags, IsKeptBook};
 
 use crate::fog_values::fog_value;
-use crate::values::{name, put_named};
+use crate::values::{name, put_named, text_value};
 use seats::SeatBook;
 use serde_json::{Map, Value, json};
 use std::alloc::{AllocError, Global};
@@ -42,8 +42,7 @@ fn macros(alloc: Global, book: &SeatBook) -> Result<Value, AllocError>
     let mut members = Map::new(alloc);
     for place in 0..book.macro_count() {
         let (tag, text) = book.macro_at(place);
-        let value = json!(in alloc; text.text())?;
-        put_named(&mut members, alloc, tag, value)?;
+        put_named(&mut members, alloc, tag, text_value(alloc, text)?)?;
     }
     Ok(Value::Object(members))
 }

@@ -1,10 +1,10 @@
 //! Tokens as values of the campaign text.
 ghost use Rattle.std.specs.Prelude.{◌≡◌, ◌<◌, ◌^◌, IfOk, OnOk};
-ghost use Rattle.serde_json.specs.View.{view};
+ghost use Rattle.serde_json.specs.View.{view, members_view};
 ghost use Rattle.campaign_writing.specs.Kept.{AreKeptTokens, AreProperties, IsKeptToken, IsTag};
-ghost use Rattle.campaign_writing.specs.Scenes.{owners_tree, property_tree, properties_tree, token_tree, tokens_tree};
+ghost use Rattle.campaign_writing.specs.Scenes.{owners_tree, property_tree, properties_tree, token_members as token_members_lem, token_tree, tokens_tree};
 
-use crate::values::{id, name, name_or_null, put_member};
+use crate::values::{id, name, name_or_null, put_member, text_value};
 use names::{SeatNo, Tag, Text};
 use serde_json::{Map, Value, json};
 use std::alloc::{AllocError, Global};
@@ -48,9 +48,10 @@ fn owners(alloc: Global, owners: Owners) -> Result<Value, AllocError>
     Ok(Value::Array(list))
 }
 
-/// A token.
-fn token_value(alloc: Global, token: &Token) -> Result<Value, AllocError>
-    ensures tree { IfOk result (λ v. view v ≡ token_tree token.now) }
+/// The members of a token.
+#[tactic(auto, unfolding(crate::specs::Scenes::token_members))]
+fn token_members(alloc: Global, token: &Token) -> Result<Map<String, Value>, AllocError>
+    ensures tree { IfOk result (λ members. members_view members.entries ≡ token_members_lem token.now) }
     ensures kept { OnOk result (IsKeptToken token.now) }
 {
     let mut members = Map::new(alloc);
@@ -59,37 +60,29 @@ fn token_value(alloc: Global, token: &Token) -> Result<Value, AllocError>
     put_member(&mut members, alloc, "id", id(alloc, token.id)?)?;
     let layer = json!(in alloc; token.layer.word())?;
     put_member(&mut members, alloc, "layer", layer)?;
-    put_member(
-        &mut members,
-        alloc,
-        "light",
-        name_or_null(alloc, token.light)?,
-    )?;
+    let light = name_or_null(alloc, token.light)?;
+    put_member(&mut members, alloc, "light", light)?;
     put_member(&mut members, alloc, "map", name(alloc, token.map)?)?;
-    let called = json!(in alloc; token.name.text())?;
-    put_member(&mut members, alloc, "name", called)?;
+    put_member(&mut members, alloc, "name", text_value(alloc, &token.name)?)?;
     put_member(&mut members, alloc, "own", properties(alloc, &token.own)?)?;
     put_member(&mut members, alloc, "owners", owners(alloc, token.owners)?)?;
-    put_member(
-        &mut members,
-        alloc,
-        "props",
-        properties(alloc, &token.public)?,
-    )?;
-    put_member(
-        &mut members,
-        alloc,
-        "secret",
-        properties(alloc, &token.secret)?,
-    )?;
-    put_member(
-        &mut members,
-        alloc,
-        "sight",
-        name_or_null(alloc, token.sight)?,
-    )?;
+    let public = properties(alloc, &token.public)?;
+    put_member(&mut members, alloc, "props", public)?;
+    let secret = properties(alloc, &token.secret)?;
+    put_member(&mut members, alloc, "secret", secret)?;
+    let sight = name_or_null(alloc, token.sight)?;
+    put_member(&mut members, alloc, "sight", sight)?;
     put_member(&mut members, alloc, "size", Value::from(token.size))?;
     put_member(&mut members, alloc, "visible", Value::Bool(token.visible))?;
+    Ok(members)
+}
+
+/// A token.
+fn token_value(alloc: Global, token: &Token) -> Result<Value, AllocError>
+    ensures tree { IfOk result (λ v. view v ≡ token_tree token.now) }
+    ensures kept { OnOk result (IsKeptToken token.now) }
+{
+    let members = token_members(alloc, token)?;
     Ok(Value::Object(members))
 }
 

@@ -6,7 +6,7 @@ ghost use Rattle.names.specs.TokenId.{id_text, IsTokenId};
 ghost use Rattle.campaign_writing.specs.Kept.{IsName, IsTag};
 ghost use Rattle.campaign_writing.specs.Trees.{name_or_null as name_or_null_tree, with_member};
 
-use names::{Tag, TokenId};
+use names::{Tag, Text, TokenId};
 use serde_json::{Map, Value, json};
 use std::alloc::{AllocError, Global};
 
@@ -31,13 +31,21 @@ pub(crate) fn name_or_null(alloc: Global, named: Option<Tag>) -> Result<Value, A
     }
 }
 
+/// A text.
+pub(crate) fn text_value(alloc: Global, text: &Text) -> Result<Value, AllocError>
+    ensures { IfOk result (λ v. view v ≡ string text.now) }
+{
+    json!(in alloc; text.text())
+}
+
 /// The id's text.
 pub(crate) fn id(alloc: Global, id: TokenId) -> Result<Value, AllocError>
     ensures tree { IfOk result (λ v. view v ≡ string (id_text id)) }
     ensures valid { IsTokenId id }
 {
     // The parts tell what an id has.
-    let _parts = (id.maker.number(), id.tag.bytes());
+    let _maker = id.maker.number();
+    let _tag = id.tag.bytes();
     match id.text(alloc) {
         Ok(text) => Ok(Value::String(text.into_string())),
         Err(_) => Err(AllocError),
