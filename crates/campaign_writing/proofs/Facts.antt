@@ -27,9 +27,9 @@ use Rattle.tokens.specs.declared.token.Token.{Token}
 use Rattle.world.specs.Rules.{belongs, fits, fits_on, is_player, size_of, IsSetOf}
 use Rattle.world.specs.Scene.{Scene}
 use Rattle.world.specs.World.{World, is_used}
-use Rattle.campaign_writing.specs.Written.{IsWritten, HasNoMacros, is_written_key, is_written_token}
+use Rattle.campaign_writing.specs.Written.{IsWritten, is_written_key, is_written_macro, is_written_token}
 use Rattle.campaign_writing.specs.Kept.{AreNamed, IsKept, IsKeptBook, IsKeptMap, IsKeptToken}
-use Rattle.campaign_writing.proofs.Writable.{AreInOrder, AreWallsOn, IsBookOf, IsLight, IsMapWith, IsSight, IsTokenOf, IsWallOn, IsWritable}
+use Rattle.campaign_writing.proofs.Writable.{AreInOrder, AreWallsOn, IsBookOf, IsLight, IsMacro, IsMapWith, IsSight, IsTokenOf, IsWallOn, IsWritable}
 use Rattle.campaign_writing.proofs.Laid.{laid, laid_alike}
 use Rattle.campaign_writing.proofs.Orders.{lesser_keys}
 use Rattle.campaign_writing.proofs.Maps.{all_differ, less_differs}
@@ -133,11 +133,26 @@ tokens_each books s (t ∷ tokens) maps kept stand used written = (
 
 -- ---- seats
 
-books_each : (books : List Book) → AllByRecursion IsKeptBook books → list_all (λ book. is_written_key book.key) books ≡ true → AllByRecursion (λ book. book.macros ≡ []) books → AllByRecursion IsBookOf books
-books_each [] kept keys none = tt
-books_each (b ∷ books) kept keys none = (
-  record { key = and_first _ _ keys; seed = kept.0.seed; bytes = kept.0.bytes; drawn = kept.0.drawn; tags = kept.0.tags.each; few = kept.0.tags.few; distinct = kept.0.tags.distinct; macros = none.0 },
-  books_each books kept.1 (and_second (is_written_key b.key) _ keys) none.1,
+macros_each : (macros : List (List ℕ × List ℕ)) → AreNamed macros → list_all (λ m. is_written_macro m.1) macros ≡ true → AllByRecursion IsMacro macros
+macros_each [] names written = tt
+macros_each (m ∷ macros) names written = ((names.0, and_first _ _ written), macros_each macros names.1 (and_second (is_written_macro m.1) _ written))
+
+books_each : (books : List Book) → AllByRecursion IsKeptBook books → list_all (λ book. is_written_key book.key) books ≡ true → list_all (λ book. list_all (λ m. is_written_macro m.1) book.macros) books ≡ true → AllByRecursion IsBookOf books
+books_each [] kept keys macros = tt
+books_each (b ∷ books) kept keys macros = (
+  record {
+    key = and_first _ _ keys;
+    seed = kept.0.seed;
+    bytes = kept.0.bytes;
+    drawn = kept.0.drawn;
+    tags = kept.0.tags.each;
+    few = kept.0.tags.few;
+    distinct = kept.0.tags.distinct;
+    macros = macros_each b.macros kept.0.macros.names (and_first _ _ macros);
+    few_macros = kept.0.macros.table.few;
+    macros_ordered = kept.0.macros.table.in_order;
+  },
+  books_each books kept.1 (and_second (is_written_key b.key) _ keys) (and_second (list_all (λ m. is_written_macro m.1) b.macros) _ macros),
 )
 
 -- ---- what is exposed
@@ -189,8 +204,8 @@ module _ (w : World) (is : IsKept w) where
       keys.laid_out s.fog.sets s.fog.players s.maps is.scene.fog.in_order (names_differ s.maps maps_ordered)
       ∙ laid_alike s.fog.players found cells s.maps one_alike
 
-  pub writable : IsWritten w → HasNoMacros w → IsWritable w
-  writable written none = record {
+  pub writable : IsWritten w → IsWritable w
+  writable written = record {
     world = is.world;
     lights = light_each s.lights is.lights.names (recursion_from_All _ (values_of s.lights) is.lights.table.radii);
     few_lights = is.lights.table.table.few;
@@ -201,7 +216,7 @@ module _ (w : World) (is : IsKept w) where
     maps = maps_each s.maps is.maps.each;
     few_maps = is.maps.table.few;
     maps_ordered = maps_ordered;
-    books = books_each w.books is.books written.keys (recursion_from_All _ w.books none);
+    books = books_each w.books is.books written.keys written.macros;
     tokens = tokens_each w.books s s.tokens is.maps.each is.tokens.each is.scene.tokens is.world.tags written.tokens;
     tokens_ordered = is.tokens.ordered;
     cells = cells;

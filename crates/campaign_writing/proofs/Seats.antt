@@ -1,13 +1,15 @@
 -- Seats that were written are read.
-use Rattle.std.proofs.Common.{◌≡◌, ℕ, zero, suc, ◌-◌, ◌/◌, ◌%◌, ◌≤◌, ◌<◌, List, [], ◌∷◌, ◌++◌, length, get_or, map, Some, Ok, refl, sym, ap, arith, true, false, Bool, ◌&&◌, nat_le, subst}
-use Rattle.std.specs.Prelude.{codes, ◌^◌, slice_index}
+use Rattle.std.proofs.Common.{◌≡◌, ℕ, zero, suc, ◌-◌, ◌/◌, ◌%◌, ◌≤◌, ◌<◌, List, [], ◌∷◌, ◌++◌, length, get_or, map, Some, Result, Ok, Err, refl, sym, ap, arith, true, false, Bool, ◌&&◌, nat_le, subst}
+use Rattle.std.specs.Prelude.{codes, ◌^◌, slice_index, is_ok}
 use Rattle.std.specs.List.{AllByRecursion, IsDistinct, list_all}
 use Rattle.std.specs.Str.{bytes_eq}
+use Rattle.std.specs.Cmp.Lexicographic.{nat_list_cmp_total}
+use Rattle.std.specs.FinMap.Entries.{is_sorted}
+use Rattle.names.specs.Tag.{tag_cmp}
 use Rattle.std.proofs.lemmas.Bool.Decides.{nat_tests}
 use Rattle.std.proofs.Math.Nat.{mod-lt, div-lt_iff_lt-mul}
 use Rattle.hex.specs.Hex.{encode_lower, encode_with, lower_digits, IsBytes}
 use Rattle.hex.proofs.HexLemmas.{decode_sized-encode_lower, length-encode_with}
-use Rattle.seats.specs.declared.seat_state.SeatState.TheVariants.{Free}
 use Rattle.seats.specs.Book.{Book, drawn_limit, fresh_book, most_tags, tag_used}
 use Rattle.maps.proofs.NameLemmas.{and_first, and_second, both}
 use Rattle.serde_json.specs.Data.{Data, string}
@@ -17,14 +19,19 @@ use Rattle.world.specs.Scene.{Scene}
 use Rattle.campaign_json.specs.Reading.{under}
 use Rattle.campaign_json.specs.Kinds as kinds
 use Rattle.campaign_writing.specs.Kept.{IsTag}
-use Rattle.campaign_writing.proofs.Writable.{IsBookOf}
-use Rattle.campaign_writing.specs.Trees.{whole, list}
+use Rattle.campaign_writing.proofs.Writable.{IsBookOf, IsMacro}
+use Rattle.campaign_writing.specs.Trees.{whole, list, named}
 use Rattle.campaign_writing.specs.Canonical.{macros_tree, seat_tree, reopened_book}
 use Rattle.campaign_scene.specs.Fog.{fog}
+use Rattle.macro_grammar.specs.Tree.{Piece}
+use Rattle.macro_parse.specs.declared.texts.MacroParseFault.{MacroParseFault}
+use Rattle.macro_parse.specs.Answers.{macro_of}
+use Rattle.type_table.specs.Types.{lacks_room}
+use Rattle.campaign_file.specs.Macros.{macros, spelled, with_read}
 use Rattle.campaign_file.specs.Seats as read
-use Rattle.campaign_writing.proofs.Parts.{field_reads, each_reads, list_reads, whole_reads, text_reads}
-use Rattle.campaign_writing.proofs.Orders.{between, fewer, room_left}
-use Rattle.campaign_writing.proofs.Types.{tag_is}
+use Rattle.campaign_writing.proofs.Parts.{field_reads, each_reads, list_reads, members_read, members_reads, whole_reads, text_reads}
+use Rattle.campaign_writing.proofs.Orders.{between, fewer, lesser_entries, put_last, room_left}
+use Rattle.campaign_writing.proofs.Types.{has_room, tag_is}
 
 -- ---- seeds
 
@@ -86,13 +93,36 @@ module _ (b : Book) (are : AllByRecursion IsTag b.tags) (few : length b.tags ≤
       rw (field_reads (codes "tags") (kinds.list 0 (most_tags b.seat)) d (list (map string b.tags)) (items_of (map string b.tags)) at (list_reads 0 (most_tags b.seat) string b.tags (omega arith) few))
       (ap (under (codes "tags")) (each_reads tagged b.tags (λ place. read.used_tag) string tag_reads))
 
+-- ---- macros
+
+spelled_so : (r : Result (List Piece) MacroParseFault) → is_ok r ≡ true → spelled r ≡ Ok tt
+spelled_so (Ok pieces) h = refl
+spelled_so (Err fault) h = absurd cc
+
+module _ (b : Book) (are : AllByRecursion IsMacro b.macros) (few : length b.macros ≤ 32) (sorted : is_sorted tag_cmp b.macros ≡ true) where
+  abbrev filled : List (List ℕ × List ℕ) → Book
+  filled done = record (fresh_book b.seat b.key b.seed b.drawn) { tags = b.tags; macros = done }
+
+  macro_reads : (done : List (List ℕ × List ℕ)) (x : List ℕ × List ℕ) (left : List (List ℕ × List ℕ)) → done ++ x ∷ left ≡ b.macros → with_read x.0 (filled done) (string x.1) ≡ Ok (filled (done ++ x ∷ []))
+  unfolding with_read
+  macro_reads done x left e =
+      let is = between IsMacro done x left b.macros e are in
+      let short : nat_le (length x.1) 2000 ≡ true = and_first _ _ is.1 in
+      let fits : (nat_le 0 (length x.1) && nat_le (length x.1) 2000) ≡ true = grind (arith, nat_tests, short) in
+      let room : lacks_room x.0 done ≡ false = has_room _ (length done) (fewer done x left b.macros 32 e few) in
+      rw (tag_is x.0 is.0, text_reads 0 2000 x.1 fits, spelled_so (macro_of x.1) (and_second (nat_le (length x.1) 2000) _ is.1), room)
+      (ap (λ macros. Ok (filled macros)) (put_last tag_cmp nat_list_cmp_total x done (lesser_entries tag_cmp done x left b.macros e sorted)))
+
+  pub macros_read : (d : Data) → get (codes "macros") d ≡ Some (macros_tree b.macros) → macros (filled []) d ≡ Ok (filled b.macros)
+  unfolding macros
+  macros_read d at =
+      rw (field_reads (codes "macros") (kinds.members 32) d (macros_tree b.macros) (named string b.macros) at (members_reads 32 string b.macros few))
+      (ap (under (codes "macros")) (members_read filled b.macros with_read string macro_reads))
+
 -- ---- whole seats
 
 drawn_fits : (n : ℕ) → n < 2 ^ 62 → (nat_le 0 n && nat_le n (2 ^ 62 - 1)) ≡ true
 drawn_fits n lt = grind (arith, nat_tests)
-
-none_read : (macros : List (List ℕ × List ℕ)) → macros ≡ [] → kinds.empty_object (macros_tree macros) ≡ Ok tt
-none_read macros none = ap (λ m. kinds.empty_object (macros_tree m)) none
 
 pub seat_reads : (whole_scene before after : Scene) (b : Book) → IsBookOf b → fog b.seat before (seat_tree whole_scene b) ≡ Ok after → read.seat b.seat before (seat_tree whole_scene b) ≡ Ok (reopened_book b, after)
 unfolding read.seat seat_tree
@@ -102,6 +132,6 @@ seat_reads whole_scene before after b is exposed =
       field_reads (codes "seed") kinds.seed (seat_tree whole_scene b) (string (encode_lower b.seed)) b.seed refl (seed_reads b.seed is.seed is.bytes),
       field_reads (codes "drawn") (kinds.whole 0 (drawn_limit - 1)) (seat_tree whole_scene b) (whole b.drawn) b.drawn refl (whole_reads 0 (drawn_limit - 1) b.drawn (omega arith) (drawn_fits b.drawn is.drawn)),
       tags_read b is.tags is.few is.distinct (seat_tree whole_scene b) refl,
-      field_reads (codes "macros") kinds.empty_object (seat_tree whole_scene b) (macros_tree b.macros) tt refl (none_read b.macros is.macros),
+      macros_read b is.macros is.few_macros is.macros_ordered (seat_tree whole_scene b) refl,
       exposed,
-    ) (ap (λ macros. Ok (record b { lines = 0; state = Free; macros = macros }, after)) (sym is.macros))
+    ) refl

@@ -25,7 +25,7 @@ pub tag_is : (bytes : List ℕ) → is_tag bytes ≡ true → tag_of bytes ≡ S
 unfolding tag_of
 tag_is bytes h = rw h
 
-has_room : (known : Bool) (n : ℕ) → n < 32 → (not known && nat_le 32 n) ≡ false
+pub has_room : (known : Bool) (n : ℕ) → n < 32 → (not known && nat_le 32 n) ≡ false
 has_room true n lt = refl
 has_room false n lt = room_left n 32 lt
 

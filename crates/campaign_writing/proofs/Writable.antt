@@ -22,6 +22,7 @@ use Rattle.world.specs.Rules.{belongs}
 use Rattle.world.specs.Scene.{Scene}
 use Rattle.world.specs.World.{World, IsWorld, is_used}
 use Rattle.campaign_writing.specs.Kept.{IsName, IsTag, AreProperties}
+use Rattle.campaign_writing.specs.Written.{is_written_macro}
 use Rattle.campaign_writing.proofs.Laid.{laid}
 
 -- ---- types
@@ -79,6 +80,10 @@ pub record IsTokenOf (books : List Book) (s : Scene) (t : Token) : Type 0 where
 
 -- ---- seats
 
+-- a tag, with a text of a macro
+abbrev pub IsMacro : List ℕ × List ℕ → Type 0
+IsMacro m = IsTag m.0 × (is_written_macro m.1 ≡ true)
+
 -- what the campaign text takes of a book
 pub record IsBookOf (b : Book) : Type 0 where
   pub key : (nat_le 1 (length b.key) && nat_le (length b.key) 64) ≡ true
@@ -88,7 +93,9 @@ pub record IsBookOf (b : Book) : Type 0 where
   pub tags : AllByRecursion IsTag b.tags
   pub few : length b.tags ≤ most_tags b.seat
   pub distinct : IsDistinct bytes_eq b.tags
-  pub macros : b.macros ≡ []
+  pub macros : AllByRecursion IsMacro b.macros
+  pub few_macros : length b.macros ≤ 32
+  pub macros_ordered : is_sorted tag_cmp b.macros ≡ true
 
 -- ---- worlds
 

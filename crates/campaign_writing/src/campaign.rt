@@ -4,7 +4,7 @@ ghost use Rattle.serde_json.specs.View.{view};
 ghost use Rattle.campaign_file.specs.Campaign.{campaign_of};
 ghost use Rattle.campaign_writing.specs.Canonical.{campaign_tree, canonical, reopened};
 ghost use Rattle.campaign_writing.specs.Kept.{IsKept};
-ghost use Rattle.campaign_writing.specs.Written.{HasNoMacros, IsWritten};
+ghost use Rattle.campaign_writing.specs.Written.{IsWritten};
 ghost use Rattle.world.specs.World.{IsWorld};
 
 use crate::map_values::maps_value;
@@ -41,11 +41,11 @@ pub fn campaign_value(alloc: Global, scene: &Scene, books: &[SeatBook]) -> Resul
 
 /// The canonical campaign text of a world, in one line without its end. `Memory` is want of memory.
 ///
-/// It is read back as the same world, in which no line was counted and all seats are Free, where keys, names and sizes
-/// are those that the campaign text takes, and no seat has a macro.
+/// It is read back as the same world, in which no line was counted and all seats are Free, where keys, macros, names and
+/// sizes are those that the campaign text takes.
 pub fn write_campaign(alloc: Global, world: &World) -> Result<LineText, Memory>
     ensures text { IfOk result (λ line. line ≡ canonical world.now) }
-    ensures reads_back { IsWritten world.now → HasNoMacros world.now → IfOk result (λ line. campaign_of line ≡ Ok (reopened world.now)) }
+    ensures reads_back { IsWritten world.now → IfOk result (λ line. campaign_of line ≡ Ok (reopened world.now)) }
 {
     match campaign_value(alloc, world.scene(), world.seats()) {
         Ok(value) => compact_line(alloc, &value),

@@ -72,19 +72,19 @@ pub record Made : Type 0 where
   pub command : Data
   pub course : Course
 
--- the draw so many places ahead, of m numbers from 0 on
-abbrev pub ahead : Course → ℕ → ℕ → ℕ
-ahead c places m = draw c.number (c.next + places) m
+-- the next draw, of m numbers from 0 on
+abbrev pub drawn : Course → ℕ → ℕ
+drawn c m = draw c.number c.next m
 
--- so many draws were used
-abbrev pub used : ℕ → Course → Course
-used count c = record c { next = c.next + count }
+-- one more draw was made
+abbrev pub after : Course → Course
+after c = record c { next = c.next + 1 }
 
 -- the game master's command of a kind
 abbrev pub gm_line : Course → ℕ → Made
 gm_line c kind =
-    if kind == 0 then record { seat = 0; command = place (8 + ahead c 0 32) (ahead c 1 96) (ahead c 2 96); course = used 3 c }
-    else if kind == 1 then record { seat = 0; command = wall (ahead c 0 191) (ahead c 1 191); course = used 2 c }
+    if kind == 0 then record { seat = 0; command = place (8 + drawn c 32) (drawn (after c) 96) (drawn (after (after c)) 96); course = after (after (after c)) }
+    else if kind == 1 then record { seat = 0; command = wall (drawn c 191) (drawn (after c) 191); course = after (after c) }
     else if kind == 2 then record { seat = 0; command = say; course = c }
     else record { seat = 0; command = roll (codes "2d6") (codes "gm"); course = c }
 
@@ -96,11 +96,15 @@ cell_at c k = slice_index_or c.cells k (record { x = 0; y = 0 })
 abbrev pub moved : Course → ℕ → ℕ → Cell → Made
 moved c seat k cell = record { seat = seat; command = move k cell; course = record c { cells = slice_set c.cells k cell } }
 
--- a player moves one of its two tokens
+-- the number of one of the two tokens of a player
+abbrev pub one_of_two : ℕ → ℕ → ℕ
+one_of_two seat drawn = (seat - 1) + 4 * drawn
+
+-- a player moves one of its two tokens by a step
 abbrev pub move_line : Course → ℕ → Made
 move_line c seat =
-    let k = (seat - 1) + 4 * ahead c 0 2 in
-    moved (used 3 c) seat k (step_from (cell_at c k) (ahead c 1 3) (ahead c 2 3))
+    let k = one_of_two seat (drawn c 2) in
+    moved (after (after (after c))) seat k (step_from (cell_at c k) (drawn (after c) 3) (drawn (after (after c)) 3))
 
 -- a player's command of a kind
 abbrev pub player_line : Course → ℕ → ℕ → Made
@@ -114,7 +118,7 @@ line_of c seat kind = if seat == 0 then gm_line c kind else player_line c seat k
 
 -- a line: its first two draws are its seat and its kind
 unfoldable pub line_after : Course → Made
-line_after c = line_of (used 2 c) (ahead c 0 5) (ahead c 1 4)
+line_after c = line_of (after (after c)) (drawn c 5) (drawn (after c) 4)
 
 -- so many lines
 unfoldable pub lines_after : Course → ℕ → List ℕ

@@ -26,7 +26,8 @@ pub(crate) fn tag_of(alloc: Global, number: u32) -> Result<Tag, Memory>
 
 /// The game master uses the tags of all tokens.
 fn use_tags(book: &mut SeatBook, alloc: Global) -> Result<(), Memory>
-    requires { book.old.tags ≡ [] }
+    requires tags { book.old.tags ≡ [] }
+    requires seat { book.old.seat ≡ 0 }
     ensures { OnOk result (book.new ≡ record book.old { tags = map tag_at (range_with_len 0 40) }) }
 {
     for number in 0..TOKENS {
