@@ -26,7 +26,7 @@ import time
 
 PROGRAM, YARDSTICK, WORK = sys.argv[1:4]
 ROUNDS = 3
-LINES = 300
+LINES = 2000
 
 
 def processor_time(command, script):
@@ -51,8 +51,8 @@ def make(seed, lines):
     return os.path.join(folder, "campaign.json"), os.path.join(folder, "script.txt")
 
 
-def line(seat, **fields):
-    return f"{seat} {json.dumps(fields, separators=(',', ':'))}\n"
+def line(sender, **fields):
+    return f"{sender} {json.dumps(fields, separators=(',', ':'))}\n"
 
 
 def there_and_back(seat, token, cell, count):

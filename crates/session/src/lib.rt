@@ -25,6 +25,3 @@ pub use sitting::Ended;
 
 /// The campaign that sessions share.
 pub type Table = Campaign<SweepEye>;
-
-#[cfg(test)]
-mod tests;
