@@ -47,7 +47,7 @@ pub fn session_laws()
 /// The laws of the worlds of a replay. A world that fits together opens to one that does, and so does each world after it: 1 to 33
 /// seats, numbered by their places, of which all but the first are its scene's players, and each token's maker used its
 /// tag. So a token that an accepted command makes is new. The parts of each scene fit together and its tables stay in order.
-/// Names, sizes and keys stay as a campaign text takes them.
+/// Names, sizes, keys and the texts of macros stay as a campaign text takes them.
 pub fn worlds_fit()
     ensures opens { OpeningWorldFits }
     ensures always { WorldsFit }

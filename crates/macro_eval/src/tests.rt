@@ -130,7 +130,7 @@ fn what_is_to_be_set_stands_in_order(rt: HostRuntime) -> Result<(), Fail> {
     };
     assert!(rt; outcome.texts.list.len() == 3);
     assert_eq!(rt; outcome.texts.list[1].text(), "4x10");
-    let intents = outcome.intents.list.as_slice();
+    let intents = outcome.intents.intents();
     assert!(rt; intents.len() == 2);
     assert!(rt; intents[0].class == PropClass::Own && intents[0].name == Tag::read(b"mp")?);
     assert_eq!(rt; intents[0].value.text(), "4");
