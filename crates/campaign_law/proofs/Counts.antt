@@ -30,12 +30,12 @@ use Rattle.campaign_law.specs.World.{queued_reply}
 pub record InLimit (b : Book) : Type 0 where
   pub most : b.lines ≤ line_limit
   -- the last line closes the seat
-  pub left : is_joined b.state ≡ true → b.lines < line_limit
+  pub more : is_joined b.state ≡ true → b.lines < line_limit
 
 -- no further line is counted, and the seat is Joined only where it was
 pub record KeepsLines (b c : Book) : Type 0 where
   pub lines : c.lines ≡ b.lines
-  pub joined : is_joined c.state ≡ true → is_joined b.state ≡ true
+  pub seated : is_joined c.state ≡ true → is_joined b.state ≡ true
 
 -- no reply is queued, no message is sent, the full line isn't due, and no command is done
 pub record IsQuiet (o : Outcome) : Type 0 where
@@ -52,10 +52,10 @@ pub data Counts (b : Book) (o : Outcome) : Type 0 where
 -- ---- books
 
 same_lines : (b : Book) → KeepsLines b b
-same_lines b = record { lines = refl; joined = λ j. j }
+same_lines b = record { lines = refl; seated = λ j. j }
 
 then_lines : (b c d : Book) → KeepsLines b c → KeepsLines c d → KeepsLines b d
-then_lines b c d f g = record { lines = g.lines ∙ f.lines; joined = λ j. f.joined (g.joined j) }
+then_lines b c d f g = record { lines = g.lines ∙ f.lines; seated = λ j. f.seated (g.seated j) }
 
 not_closed : (state : SeatState) → is_joined (closed state) ≡ true → ⊥
 not_closed Free j = cc
@@ -63,22 +63,22 @@ not_closed (Joined reader writer) j = cc
 not_closed (Closing reader writer) j = cc
 
 left_lines : (b : Book) → KeepsLines b (left b)
-left_lines b = record { lines = refl; joined = λ j. absurd (not_closed b.state j) }
+left_lines b = record { lines = refl; seated = λ j. absurd (not_closed b.state j) }
 
 freed_lines : (b : Book) → KeepsLines b (freed b)
-freed_lines b = record { lines = refl; joined = λ j. cc }
+freed_lines b = record { lines = refl; seated = λ j. cc }
 
 using_lines : (tag : Option (List ℕ)) (b : Book) → KeepsLines b (using_tag tag b)
 using_lines None b = same_lines b
-using_lines (Some tag) b = record { lines = refl; joined = λ j. j }
+using_lines (Some tag) b = record { lines = refl; seated = λ j. j }
 
 rolling_lines : (dice : Option (List ℕ)) (b : Book) → KeepsLines b (rolling dice b)
 rolling_lines None b = same_lines b
-rolling_lines (Some dice) b = record { lines = refl; joined = λ j. j }
+rolling_lines (Some dice) b = record { lines = refl; seated = λ j. j }
 
 text_lines : (name : List ℕ) (text : Option (List ℕ)) (b : Book) → KeepsLines b (with_text name text b)
-text_lines name None b = record { lines = refl; joined = λ j. j }
-text_lines name (Some text) b = record { lines = refl; joined = λ j. j }
+text_lines name None b = record { lines = refl; seated = λ j. j }
+text_lines name (Some text) b = record { lines = refl; seated = λ j. j }
 
 setting_lines : (new : Option NewText) (b : Book) → KeepsLines b (setting_text new b)
 setting_lines None b = same_lines b
@@ -87,7 +87,7 @@ setting_lines (Some new) b = text_lines new.name new.text b
 drawing_lines : (run : Called) (b : Book) → KeepsLines b (drawing run b)
 drawing_lines calls.NoRun b = same_lines b
 drawing_lines (calls.Stopped refusal) b = same_lines b
-drawing_lines (calls.Ran run) b = record { lines = refl; joined = λ j. j }
+drawing_lines (calls.Ran run) b = record { lines = refl; seated = λ j. j }
 
 done_lines : (c : Command) (b : Book) → KeepsLines b (book_done c b)
 done_lines c b = by (is_bye c)
@@ -101,16 +101,16 @@ done_lines c b = by (is_bye c)
 
 -- the last line closes the seat
 counted_limit : (b : Book) → b.lines < line_limit → InLimit (counted b)
-counted_limit b few = record { most = omega (arith, few); left = λ j. by (eqb (b.lines + 1) line_limit) refl j }
+counted_limit b few = record { most = omega (arith, few); more = λ j. by (eqb (b.lines + 1) line_limit) refl j }
   where
     by : (last : Bool) → eqb (b.lines + 1) line_limit ≡ last → is_joined (cond last (closed b.state) b.state) ≡ true → b.lines + 1 < line_limit
     by true is j = absurd (not_closed b.state j)
-    by false is j = grind (arith, nat_tests)
+    by false is j = grind (arith, nat_tests, few, is)
 
 pub limit_kept : (b c : Book) → InLimit b → KeepsLines b c → InLimit c
 limit_kept b c limit keeps = record {
-  most = let e = keeps.lines in let m = limit.most in omega (arith, e, m);
-  left = λ j. let e = keeps.lines in let m = limit.left (keeps.joined j) in omega (arith, e, m);
+  most = (let e = keeps.lines in let m = limit.most in omega (arith, e, m));
+  more = λ j. (let e = keeps.lines in let m = limit.more (keeps.seated j) in omega (arith, e, m));
 }
 
 -- ---- outcomes
@@ -131,7 +131,7 @@ read_counts asked steps seat b (Err fault) few = counts_line b (counted b) (read
 read_counts asked steps seat b (Ok c) few = decided_counts asked steps seat b c (broken_rule asked seat b c) few
 
 line_counts : (asked : Asked) (steps seat : ℕ) (b : Book) (r : Result Command LineFault) (j : Bool) → is_joined b.state ≡ j → InLimit b → Counts b (cond j (read_outcome asked steps seat b r) (refused_direct 0 NoHello))
-line_counts asked steps seat b r true is limit = read_counts asked steps seat b r (limit.left is)
+line_counts asked steps seat b r true is limit = read_counts asked steps seat b r (limit.more is)
 line_counts asked steps seat b r false is limit = still (record { reply = refl; messages = refl; full = refl; done = refl }) tt
 
 -- a Join that isn't refused finds lines left
@@ -139,7 +139,7 @@ lines_left : (b : Book) (key : List ℕ) → InLimit b → join_refusal b key �
 lines_left b key limit none =
     let unspent : eqb b.lines line_limit ≡ false = by_key (bytes_eq b.key key) (is_free b.state) (eqb b.lines line_limit) none in
     let most = limit.most in
-    grind (arith, nat_tests)
+    grind (arith, nat_tests, unspent, most)
   where
     by_key : (same free spent : Bool) → cond (not same) (Some BadKey) (cond (not free) (Some SeatTaken) (cond spent (Some Spent) None)) ≡ None → spent ≡ false
     by_key false free spent h = cc

@@ -26,6 +26,10 @@ use Rattle.campaign_law.specs.World.{addressed, is_to, messages_to}
 abbrev reaching : ℕ → List Message → ℕ
 reaching seat messages = length (addressed seat messages)
 
+reaching-none : (seat : ℕ) → reaching seat [] ≡ 0
+unfolding addressed
+reaching-none seat = refl
+
 reaching-append : (seat : ℕ) (xs ys : List Message) → reaching seat (xs ++ ys) ≡ reaching seat xs + reaching seat ys
 unfolding addressed
 reaching-append seat [] ys = refl
@@ -52,24 +56,25 @@ unfolding addressed
 text_elsewhere seat from to k [] other = refl
 text_elsewhere seat from to k (c ∷ text) other = ap (λ b. length (map (λ (message : Message). message.line) (cond b (text_message from to k (c ∷ text)) []))) other
 
+none_reaches : (seat : ℕ) → reaching seat [] ≤ 1
+none_reaches seat = let none = reaching-none seat in omega (arith, none)
+
 text_here : (seat from : ℕ) (to : To) (k : ℕ) (text : List ℕ) → reaching seat (text_message from to k text) ≤ 1
-unfolding addressed
-text_here seat from to k [] = omega arith
+text_here seat from to k [] = none_reaches seat
 text_here seat from to k (c ∷ text) = reaching-one seat _
 
 texts_behind : (seat from : ℕ) (to : To) (k : ℕ) (texts : List (List ℕ)) → seat < k → reaching seat (text_messages from to k texts) ≡ 0
-unfolding addressed
-texts_behind seat from to k [] before = refl
+texts_behind seat from to k [] before = reaching-none seat
 texts_behind seat from to k (text ∷ texts) before =
-    let other : eqb seat k ≡ false = grind (arith, nat_tests) in
-    let all = reaching-append seat (text_message from to k text) (text_messages from to (k + 1) texts) in
+    let other : eqb seat k ≡ false = grind (arith, nat_tests, before) in
+    let all : reaching seat (text_messages from to k (text ∷ texts)) ≡ reaching seat (text_message from to k text) + reaching seat (text_messages from to (k + 1) texts) =
+    reaching-append seat (text_message from to k text) (text_messages from to (k + 1) texts) in
     let first = text_elsewhere seat from to k text other in
     let rest = texts_behind seat from to (k + 1) texts (omega arith) in
     omega (arith, all, first, rest)
 
 texts_few : (seat from : ℕ) (to : To) (k : ℕ) (texts : List (List ℕ)) → reaching seat (text_messages from to k texts) ≤ 1
-unfolding addressed
-texts_few seat from to k [] = omega arith
+texts_few seat from to k [] = none_reaches seat
 texts_few seat from to k (text ∷ texts) = by (eqb seat k) refl
   where
     all : reaching seat (text_messages from to k (text ∷ texts)) ≡ reaching seat (text_message from to k text) + reaching seat (text_messages from to (k + 1) texts)
@@ -77,7 +82,7 @@ texts_few seat from to k (text ∷ texts) = by (eqb seat k) refl
 
     by : (b : Bool) → eqb seat k ≡ b → reaching seat (text_messages from to k (text ∷ texts)) ≤ 1
     by true own =
-        let behind : seat < k + 1 = grind (arith, nat_tests) in
+        let behind : seat < k + 1 = grind (arith, nat_tests, own) in
         let first = text_here seat from to k text in
         let rest = texts_behind seat from to (k + 1) texts behind in
         omega (arith, all, first, rest)
@@ -87,8 +92,7 @@ texts_few seat from to k (text ∷ texts) = by (eqb seat k) refl
         omega (arith, all, first, rest)
 
 run_few : (seat from : ℕ) (call : Option Call) (texts : List (List ℕ)) → reaching seat (run_messages from call texts) ≤ 1
-unfolding addressed
-run_few seat from None texts = omega arith
+run_few seat from None texts = none_reaches seat
 run_few seat from (Some call) texts = texts_few seat from call.to 0 texts
 
 -- ---- outcomes
@@ -98,14 +102,6 @@ pub record SendsFew (o : Outcome) : Type 0 where
   pub reply : length o.reply ≤ 1
   pub messages : (seat : ℕ) → length (messages_to seat o) ≤ 1
 
-none_reaches : (seat : ℕ) → reaching seat [] ≤ 1
-unfolding addressed
-none_reaches seat = omega arith
-
-words_few : (seat from : ℕ) (words : Option (To × List ℕ)) → reaching seat (message_by from words) ≤ 1
-words_few seat from None = none_reaches seat
-words_few seat from (Some words) = reaching-one seat _
-
 -- a command says something by its own words, or runs a macro
 says_or_runs : (b : Book) (c : Command) → (said b c ≡ None) ⊎ (call_in c ≡ None)
 says_or_runs b (Macro name args to) = inl refl
@@ -113,15 +109,7 @@ says_or_runs b c = inr refl
 
 said_few : (seat from : ℕ) (words : Option (To × List ℕ)) (call : Option Call) (texts : List (List ℕ)) → (words ≡ None) ⊎ (call ≡ None) → reaching seat (message_by from words ++ run_messages from call texts) ≤ 1
 said_few seat from None call texts either = run_few seat from call texts
-said_few seat from (Some words) None texts either =
-    let all = reaching-append seat (message_by from (Some words)) [] in
-    let first = words_few seat from (Some words) in
-    let rest : reaching seat [] ≡ 0 = none_there in
-    omega (arith, all, first, rest)
-  where
-    none_there : reaching seat [] ≡ 0
-    unfolding addressed
-    none_there = refl
+said_few seat from (Some words) None texts either = reaching-one seat _
 said_few seat from (Some words) (Some call) texts (inl no) = cc
 said_few seat from (Some words) (Some call) texts (inr no) = cc
 

@@ -78,7 +78,7 @@ let_go_limit : (s : Seat) → InLimit s.book → InLimit (let_go s).book
 let_go_limit s limit = by (is_let_go s)
   where
     by : (b : Bool) → InLimit (cond b (freed_seat s) s).book
-    by true = record { most = limit.most; left = λ j. cc }
+    by true = record { most = limit.most; more = λ j. cc }
     by false = limit
 
 -- of all seats together
@@ -131,12 +131,12 @@ module _ (w : World) (e : Entry) (limits : AreInLimit w) where
   changed_lines : (b : Book) (o : Outcome) → Counts b o → InLimit b → (b.lines ≤ (unwrap_or o.book b).lines) × InLimit (unwrap_or o.book b)
   changed_lines b o (counts next is more limit) old =
       let same : unwrap_or o.book b ≡ next = ap (λ x. unwrap_or x b) is in
-      (let lines = ap (λ (c : Book). c.lines) same in omega (arith, lines, more), subst InLimit (sym same) limit)
+      ((let lines = ap (λ (c : Book). c.lines) same in omega (arith, lines, more)), subst InLimit (sym same) limit)
   changed_lines b o (still quiet kept) old = by o.book kept
     where
       by : (x : Option Book) → IfSome x (KeepsLines b) → (b.lines ≤ (unwrap_or x b).lines) × InLimit (unwrap_or x b)
       by None kept = (omega arith, old)
-      by (Some c) kept = (let same = kept.lines in omega (arith, same), limit_kept b c old kept)
+      by (Some c) kept = ((let same = kept.lines in omega (arith, same)), limit_kept b c old kept)
 
   -- before its lines are queued
   turned : (p : ℕ) (s : Seat) → seat_at w p ≡ Some s → let c = changed (outcome_of w e) (eqb (seat_of e) p) s in (s.book.lines ≤ c.book.lines) × InLimit c.book
@@ -146,8 +146,11 @@ module _ (w : World) (e : Entry) (limits : AreInLimit w) where
       by false other = (omega arith, limits p s at)
       by true own = changed_lines s.book (outcome_of w e) (own_counts s (ap (seat_at w) (eqb-true (seat_of e) p own) ∙ at)) (limits p s at)
 
-  grown_by : ℕ → Seat → Seat
-  grown_by p s = let c : Seat = changed (outcome_of w e) (eqb (seat_of e) p) s in record c { queued = c.queued + length (queued_lines p (eqb (seat_of e) p) (Some s) (outcome_of w e) (view_of w.scene p) (view_of (scene_after w e) p)) }
+  abbrev queued_by : ℕ → Seat → ℕ
+  queued_by p s = length (queued_lines p (eqb (seat_of e) p) (Some s) (outcome_of w e) (view_of w.scene p) (view_of (scene_after w e) p))
+
+  abbrev grown_by : ℕ → Seat → Seat
+  grown_by p s = let c : Seat = changed (outcome_of w e) (eqb (seat_of e) p) s in record c { queued = c.queued + queued_by p s }
 
   after_more : (p : ℕ) (s : Seat) → seat_at w p ≡ Some s → s.book.lines ≤ (seat_after w e p s).book.lines
   after_more p s at = let same = let_go_lines (grown_by p s) in let more = (turned p s at).0 in omega (arith, same, more)
@@ -181,7 +184,7 @@ module _ (w : World) (e : Entry) (limits : AreInLimit w) where
       here = let same = let_go_lines (grown_by (seat_of e) s) in omega (arith, same, own, more)
 
   -- an entry that says nothing queues nothing
-  quiet_queues : (p : ℕ) (s : Seat) → IsSettled w.scene → IsQuiet (outcome_of w e) → length (queued_lines p (eqb (seat_of e) p) (Some s) (outcome_of w e) (view_of w.scene p) (view_of (scene_after w e) p)) ≡ 0
+  quiet_queues : (p : ℕ) (s : Seat) → IsSettled w.scene → IsQuiet (outcome_of w e) → queued_by p s ≡ 0
   quiet_queues p s steady quiet =
       ap (λ (scene : Scene). length (queued_lines p (eqb (seat_of e) p) (Some s) (outcome_of w e) (view_of w.scene p) (view_of scene p))) (scene_stays w e steady quiet.done)
       ∙ ap length (queued_quiet p (eqb (seat_of e) p) s (outcome_of w e) w.scene quiet.messages quiet.full)
@@ -192,16 +195,13 @@ module _ (w : World) (e : Entry) (limits : AreInLimit w) where
       by false = refl
 
   -- each line that is counted queues three lines for a seat at most
-  queues_by_count : (p : ℕ) (s : Seat) → IsSettled w.scene → length (queued_lines p (eqb (seat_of e) p) (Some s) (outcome_of w e) (view_of w.scene p) (view_of (scene_after w e) p)) + 3 * lines_in w.seats ≤ 3 * lines_in (step w e).seats
+  queues_by_count : (p : ℕ) (s : Seat) → IsSettled w.scene → queued_by p s + 3 * lines_in w.seats ≤ 3 * lines_in (step w e).seats
   queues_by_count p s steady = by (seat_at w (seat_of e)) refl
     where
-      queued : ℕ
-      queued = length (queued_lines p (eqb (seat_of e) p) (Some s) (outcome_of w e) (view_of w.scene p) (view_of (scene_after w e) p))
-
-      by_quiet : IsQuiet (outcome_of w e) → queued + 3 * lines_in w.seats ≤ 3 * lines_in (step w e).seats
+      by_quiet : IsQuiet (outcome_of w e) → queued_by p s + 3 * lines_in w.seats ≤ 3 * lines_in (step w e).seats
       by_quiet quiet = let none = quiet_queues p s steady quiet in let more = all_more in omega (arith, none, more)
 
-      by_count : (t : Seat) → seat_at w (seat_of e) ≡ Some t → Counts t.book (outcome_of w e) → queued + 3 * lines_in w.seats ≤ 3 * lines_in (step w e).seats
+      by_count : (t : Seat) → seat_at w (seat_of e) ≡ Some t → Counts t.book (outcome_of w e) → queued_by p s + 3 * lines_in w.seats ≤ 3 * lines_in (step w e).seats
       by_count t at (still quiet kept) = by_quiet quiet
       by_count t at (counts next is more limit) =
           let lines : (unwrap_or (outcome_of w e).book t.book).lines ≡ t.book.lines + 1 = ap (λ x. (unwrap_or x t.book).lines) is ∙ more in
@@ -209,12 +209,12 @@ module _ (w : World) (e : Entry) (limits : AreInLimit w) where
           let few = lines_few p (eqb (seat_of e) p) (Some s) (outcome_of w e) (view_of w.scene p) (view_of (scene_after w e) p) (outcome_few (asked_of w (seat_of e)) (steps_of w e) (seat_at w (seat_of e)) e) in
           omega (arith, one, few)
 
-      by : (before : Option Seat) → seat_at w (seat_of e) ≡ before → queued + 3 * lines_in w.seats ≤ 3 * lines_in (step w e).seats
+      by : (before : Option Seat) → seat_at w (seat_of e) ≡ before → queued_by p s + 3 * lines_in w.seats ≤ 3 * lines_in (step w e).seats
       by None at = by_quiet (subst (λ (b : Option Seat). IsQuiet (outcome_at (asked_of w (seat_of e)) (steps_of w e) b e)) (sym at) (absent_quiet (asked_of w (seat_of e)) (steps_of w e) e))
       by (Some t) at = by_count t at (own_counts t at)
 
   pub queued_after : (p : ℕ) → IsSettled w.scene → IfSome (seat_at w p) (λ s. s.queued ≤ 3 * lines_in w.seats) → IfSome (seat_at (step w e) p) (λ s. s.queued ≤ 3 * lines_in (step w e).seats)
-  queued_after p steady h = subst (λ after. IfSome after (λ s. s.queued ≤ 3 * lines_in (step w e).seats)) (sym (seat_at-after w e p)) (by (seat_at w p) h)
+  queued_after p steady h = subst (λ (after : Option Seat). IfSome after (λ s. s.queued ≤ 3 * lines_in (step w e).seats)) (sym (seat_at-after w e p)) (by (seat_at w p) h)
     where
       same_queued : (acts : Bool) (s : Seat) → (changed (outcome_of w e) acts s).queued ≡ s.queued
       same_queued true s = refl
@@ -251,10 +251,10 @@ within_always w (e ∷ h) p limits steady is = within_always (step w e) h p (lim
 -- ---- a world that opens
 
 fresh_limit : (s : Seat) → IsFreshSeat s → InLimit s.book
-fresh_limit s fresh = let none = fresh.book.lines in record { most = omega (arith, none); left = λ j. let z : true ≡ false = sym j ∙ ap is_joined fresh.book.state in cc }
+fresh_limit s fresh = let none = fresh.book.lines in record { most = omega (arith, none); more = λ j. (let z : true ≡ false = sym j ∙ ap is_joined fresh.book.state in cc) }
 
 opening_limits : (w : World) → IsOpening w → AreInLimit w
-opening_limits w opening p s at = fresh_limit s (subst (λ before. IfSome before IsFreshSeat) at (fresh_at w.seats p opening.seats))
+opening_limits w opening p s at = fresh_limit s (subst (λ (before : Option Seat). IfSome before IsFreshSeat) at (fresh_at w.seats p opening.seats))
 
 opening_within : (w : World) (p : ℕ) → IsOpening w → IsWithin w p
 opening_within w p opening = by (seat_at w p) (fresh_at w.seats p opening.seats)
@@ -269,7 +269,7 @@ mapped_length (s ∷ seats) = ap suc (mapped_length seats)
 
 pub queued_is_bounded : QueuedIsBounded
 queued_is_bounded w h p s opening fits at =
-    let within : s.queued ≤ 3 * lines_in (replay w h).seats = subst (λ before. IfSome before (λ t. t.queued ≤ 3 * lines_in (replay w h).seats)) at (within_always w h p (opening_limits w opening) opening.scene (opening_within w p opening)) in
+    let within : s.queued ≤ 3 * lines_in (replay w h).seats = subst (λ (before : Option Seat). IfSome before (λ t. t.queued ≤ 3 * lines_in (replay w h).seats)) at (within_always w h p (opening_limits w opening) opening.scene (opening_within w p opening)) in
     let lines = lines_limited (replay w h).seats (limits_always w h (opening_limits w opening)) in
     let same = length-replay w h in
     let count = mapped_length w.seats in
