@@ -1,0 +1,25 @@
+//! Sessions over memory, one after another, and by threads, side by side.
+ghost use Rattle.std.specs.Prelude.{IfOk};
+ghost use Rattle.campaign_law.specs.Law.{IsOpening};
+
+mod guests;
+mod side_by_side;
+
+use crate::Table;
+use campaign_core::Campaign;
+use sight_sweep::SweepEye;
+use std::alloc::Global;
+use std::test::Fail;
+
+// The game master and two players, with the keys g, a and b.
+const THREE_SEATS: &[u8] =
+    br#"{"format":1,"lights":{},"maps":[],"seats":[{"drawn":0,"fog":{},"key":"g","macros":{},"seed":"0000000000000000000000000000000000000000000000000000000000000000","tags":[]},{"drawn":0,"fog":{},"key":"a","macros":{},"seed":"0000000000000000000000000000000000000000000000000000000000000000","tags":[]},{"drawn":0,"fog":{},"key":"b","macros":{},"seed":"0000000000000000000000000000000000000000000000000000000000000000","tags":[]}],"sights":{},"tokens":[]}"#;
+
+fn opened(alloc: Global) -> Result<Table, Fail>
+    ensures { IfOk result (λ table. IsOpening table.origin) }
+{
+    match Campaign::open(alloc, THREE_SEATS, SweepEye::new(alloc)) {
+        Ok(table) => Ok(table),
+        Err(_) => Err(Fail::from("no campaign")),
+    }
+}
