@@ -3,7 +3,7 @@ ghost use Rattle.std.specs.Prelude.{IfOk};
 ghost use Rattle.turn_lock.specs.Pass.{IsPassOf};
 ghost use Rattle.campaign_law.specs.Law.{IsOpening};
 
-use crate::tests::opened;
+use crate::tests::{opened, two_of};
 use crate::{Ended, Sat, Table, serve_session};
 use line_io::{MemSink, MemSource};
 use names::LineText;
@@ -113,20 +113,21 @@ fn seated<R: Threads + Wait + Sync>(
 
 #[test]
 fn sessions_of_one_hall_follow_one_another(rt: HostRuntime) -> Result<(), Fail> {
-    let hall = Hall::open(rt.alloc(), opened(rt.alloc())?);
-    let (hall, mut usher, first) = hall.ok().ok_or("memory")?;
-    let (mut reader, mut writer) = hall.split(&mut usher, first).ok().ok_or("memory")?;
+    let Ok((hall, mut usher, first)) = Hall::open(rt.alloc(), opened(rt.alloc())?) else {
+        return Err(Fail::from("memory"));
+    };
+    let (mut reader, mut writer) = two_of(&hall, &mut usher, first)?;
     for guest in GUESTS {
         let (sat, output) = seated(&rt, rt.alloc(), &hall, reader, writer, guest)?;
+        assert!(rt; sat.ended == guest.ended);
+        assert!(rt; output.bytes() == guest.output.as_bytes());
         let Sat {
             reader: first,
             writer: second,
-            ended,
+            ended: _,
         } = sat;
         reader = first;
         writer = second;
-        assert!(rt; ended == guest.ended);
-        assert!(rt; output.bytes() == guest.output.as_bytes());
     }
     Ok(())
 }

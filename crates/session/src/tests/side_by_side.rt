@@ -3,7 +3,7 @@ ghost use Rattle.std.specs.Prelude.{◌≤◌, length, IfOk};
 ghost use Rattle.turn_lock.specs.Pass.{IsPassOf};
 ghost use Rattle.campaign_law.specs.Law.{IsOpening};
 
-use crate::tests::opened;
+use crate::tests::{opened, two_of};
 use crate::{Ended, Table, serve_session};
 use line_io::{Failed, Sink, Source};
 use std::alloc::Global;
@@ -140,15 +140,18 @@ struct Passes {
 
 // A hall for two sessions.
 fn two_sessions(alloc: Global) -> Result<(Hall<Table>, Passes, Passes), Fail>
-    ensures { IfOk result (λ made. IsOpening made.0.origin × IsPassOf made.0 made.1.reader × IsPassOf made.0 made.1.writer × IsPassOf made.0 made.2.reader × IsPassOf made.0 made.2.writer) }
+    ensures opening { IfOk result (λ made. IsOpening made.0.origin) }
+    ensures anns { IfOk result (λ made. IsPassOf made.0 made.1.reader × IsPassOf made.0 made.1.writer) }
+    ensures bobs { IfOk result (λ made. IsPassOf made.0 made.2.reader × IsPassOf made.0 made.2.writer) }
 {
-    let hall = Hall::open(alloc, opened(alloc)?);
-    let (hall, mut usher, first) = hall.ok().ok_or("memory")?;
-    let (first, second) = hall.split(&mut usher, first).ok().ok_or("memory")?;
-    let (first, third) = hall.split(&mut usher, first).ok().ok_or("memory")?;
-    let (reader, fourth) = hall.split(&mut usher, first).ok().ok_or("memory")?;
+    let Ok((hall, mut usher, first)) = Hall::open(alloc, opened(alloc)?) else {
+        return Err(Fail::from("memory"));
+    };
+    let (first, second) = two_of(&hall, &mut usher, first)?;
+    let (first, third) = two_of(&hall, &mut usher, first)?;
+    let (first, fourth) = two_of(&hall, &mut usher, first)?;
     let anns = Passes {
-        reader,
+        reader: first,
         writer: second,
     };
     let bobs = Passes {
