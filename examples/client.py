@@ -15,6 +15,7 @@ from __future__ import annotations
 import argparse
 import contextlib
 import getpass
+import itertools
 import json
 import os
 import pathlib
@@ -32,10 +33,9 @@ Cell = tuple[int, int]
 Object = dict[str, Any]
 Props = list[list[str]]
 
-LONGEST_LINE = 4096
-LINES_IN_A_RUN = 16384
+LONGEST_LINE, LINES_IN_A_RUN = 4096, 16384
 GAME_MASTER = 0
-LAYERS = ("background", "object", "hidden", "token")  # as they are drawn, the last on top
+LAYERS = ("background", "object", "hidden", "token")  # as drawn, the last on top
 
 
 class Unreadable(Exception):
@@ -186,11 +186,9 @@ class View:
 
 # ---- what is said in words
 REFUSALS = {  # where the name alone doesn't say it
-    "BadJson": "that isn't JSON",
     "GmOnly": "only the game master may do that",
     "BadField": "a field is missing, of another kind, out of its range or unknown",
     "NotYours": "you have no such token to act on",
-    "MapNotShown": "you aren't shown such a map",
     "BadPath": "each step goes to a neighbouring cell, the first from where the token stands",
     "BadKey": "that key doesn't open that seat",
     "SeatTaken": "somebody sits there",
@@ -357,7 +355,7 @@ class Seat:
         self.typed: deque[bytes] = deque()
         self.waits: Object | None = None  # the command that was sent and isn't answered yet
         self.chosen = self.looked_at = self.ended = None  # type: str | None
-        self.status = 0
+        self.status = 0  # what the program ends with
 
     def end(self, sentence: str, status: int) -> None:
         if self.ended is None:
@@ -505,18 +503,20 @@ def columns_of(char: str) -> int:
     return 0 if unicodedata.combining(char) else 2 if unicodedata.east_asian_width(char) in "WF" else 1
 
 
+def fitting(text: str, width: int) -> int:
+    """How many characters at the front of the text take at most so many columns."""
+    return sum(taken <= width for taken in itertools.accumulate(map(columns_of, text)))
+
+
 def folded(text: str, width: int) -> list[str]:
-    """The text as lines of at most so many columns; what isn't printable is written out."""
+    """The text as lines of at most so many columns, broken at spaces; what isn't printable is written out."""
     lines = []
-    for line in text.split("\n"):
-        lines.append("")
-        taken = 0
-        for char in printable(line):
-            taken += columns_of(char)
-            if taken > width:
-                lines.append("  ")
-                taken = 2 + columns_of(char)
-            lines[-1] += char
+    for rest in map(printable, text.split("\n")):
+        while (fits := fitting(rest, max(width, 10))) < len(rest):
+            fits = rest.rfind(" ", 3, fits + 1) if " " in rest[3 : fits + 1] else fits
+            lines.append(rest[:fits])
+            rest = "  " + rest[fits:].lstrip(" ")
+        lines.append(rest)
     return lines
 
 
@@ -703,7 +703,7 @@ class Screen:
         self.window.erase()
         height, width = self.window.getmaxyx()
         for row, column, text, how in compose(seat, self.notes, self.text, (height, width), self.pan):
-            text = text[:1] if how is How.REMEMBERED and self.can_dim else folded(text, max(1, width - 1 - column))[0]
+            text = text[:1] if how is How.REMEMBERED and self.can_dim else text[: fitting(text, width - 1 - column)]
             with contextlib.suppress(self.curses.error):  # outside of a small window
                 self.window.addstr(row, column, text, self.looks.get(how, self.curses.A_NORMAL))
         self.window.refresh()

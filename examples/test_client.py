@@ -162,7 +162,8 @@ class MessageLine(unittest.TestCase):
 
     def test_it_stands_beneath_the_map_in_lines_of_the_window(self):
         rows = Table(1, {"from": 2, "text": "12345678901234567890", "to": "all"}).screen((16, 20))
-        self.assertEqual(rows[-5:-1], ["  and seat 0 is the", "   game master's", "seat 2: 12345678901", "  234567890"])
+        self.assertTrue(all(len(row) < 20 for row in rows[1:]))
+        self.assertEqual(rows[-5:-1], ["  and seat 0 is the", "  game master's", "seat 2:", "  12345678901234567", "  890"][-4:])
 
 
 class ReplyLine(unittest.TestCase):
