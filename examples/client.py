@@ -564,7 +564,7 @@ def first_shown(focus: int, room: int, size: int) -> int:
 
 
 def map_spans(seat: Seat, name: str, height: int, width: int, pan: Cell) -> list[Span]:
-    """The map from row 1 on, around the chosen token or else around the cell that the arrow keys went to."""
+    """The map beneath the title, around the chosen token or else around the cell that the arrow keys went to."""
     grid, chosen = seat.view.maps[name], seat.chosen_token()
     focus = seat.view.tokens[chosen].cell if chosen and seat.view.tokens[chosen].map == name else pan
     across, down = max(1, (width - 3) // 2), max(1, height - 1)
