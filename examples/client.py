@@ -687,11 +687,11 @@ class Screen:
 
     def __init__(self, curses: Any, window: Any) -> None:
         self.curses, self.window = curses, window
-        self.notes: list[str] = []
+        self.text, self.notes = "", []  # type: str, list[str]
         self.say = self.notes.append
-        self.text = ""
         self.pan: Cell = (0, 0)
-        curses.use_default_colors()
+        with contextlib.suppress(curses.error):  # a terminal without colours
+            curses.use_default_colors()
         window.keypad(True)
         window.nodelay(True)
         self.can_dim = bool(curses.tigetstr("dim"))
