@@ -111,7 +111,7 @@ token_of books s t maps is stands used written =
     record {
       id = is.id;
       used = used;
-      name = both _ _ (and_first _ _ written) (and_first _ _ high);
+      name = both (nat_le 1 (length t.name)) (nat_le (length t.name) 40) (and_first (nat_le 1 (length t.name)) (nat_le (length t.name) 40 && (nat_le 1 t.size && nat_le t.size 4)) written) (and_first (nat_le (length t.name) 40) (nat_le 1 t.size && nat_le t.size 4) high);
       map = is.map;
       side = side;
       place = low_cell (size_of t.map s.maps) t.cell t.size (λ size e. found_size t.map s.maps size maps e) (and_first _ _ stands) (at_least t.size (and_first _ _ side));
