@@ -1,7 +1,7 @@
 -- A campaign that was written is read.
-use Rattle.std.proofs.Common.{◌≡◌, ℕ, zero, suc, ◌+◌, ◌≤◌, ◌<◌, List, [], ◌∷◌, ◌++◌, length, map, Some, None, Ok, refl, sym, ap, ◌∙◌, arith, true, false, Bool, ◌&&◌, cond, nat_le, subst}
+use Rattle.std.proofs.Common.{◌≡◌, ℕ, zero, suc, ◌+◌, ◌≤◌, List, [], ◌∷◌, ◌++◌, length, map, Some, None, Ok, refl, sym, ap, ◌∙◌, arith, true, false, Bool, ◌&&◌, cond, nat_le, subst}
 use Rattle.std.specs.Prelude.{codes, nat_lt}
-use Rattle.std.specs.List.{AllByRecursion, filter, range_with_len}
+use Rattle.std.specs.List.{AllByRecursion, filter}
 use Rattle.std.proofs.lemmas.Bool.Decides.{nat_tests}
 use Rattle.names.specs.Tag.{is_tag, tag_cmp}
 use Rattle.cells.specs.Cells.{Cells, IsSize, cells_where}
@@ -20,7 +20,7 @@ use Rattle.campaign_json.specs.Reading.{under}
 use Rattle.campaign_json.specs.Kinds as kinds
 use Rattle.campaign_writing.proofs.Writable.{IsMapWith, IsTokenOf, IsBookOf, IsWritable}
 use Rattle.campaign_writing.specs.Trees.{list, named}
-use Rattle.campaign_writing.proofs.Laid.{set_on, laid, row_alike, laid_alike}
+use Rattle.campaign_writing.proofs.Laid.{laid, row_alike, laid_alike}
 use Rattle.campaign_writing.specs.Scenes.{fog_tree, runs_tree, runs_in, runs_at, some_runs}
 use Rattle.campaign_writing.specs.Canonical.{campaign_tree, seat_tree, reopened, reopened_book}
 use Rattle.campaign_scene.specs.Fog.{fog, fog_of_player, no_fog}

@@ -1,11 +1,11 @@
 -- The sets that are asked for are there.
-use Rattle.std.proofs.Common.{◌≡◌, ℕ, zero, suc, ◌≤◌, List, [], ◌∷◌, ◌++◌, ◌+◌, map, Some, None, refl, sym, subst, ap, ◌∙◌, arith, true, false, Bool, ◌&&◌, cond, nat_eq, nat_le}
+use Rattle.std.proofs.Common.{◌≡◌, ℕ, zero, suc, ◌≤◌, List, [], ◌∷◌, ◌++◌, ◌+◌, map, Some, None, refl, sym, subst, ap, ◌∙◌, arith, true, false, Bool, ◌&&◌, cond, nat_eq}
 use Rattle.std.specs.Prelude.{is_some, slice_get, option_map, find, IsSome}
-use Rattle.std.specs.List.{AllByRecursion, filter, range_with_len, flat_map}
+use Rattle.std.specs.List.{AllByRecursion, filter, range_with_len}
 use Rattle.std.specs.Str.{bytes_eq}
 use Rattle.std.proofs.lemmas.Bool.Decides.{nat_tests}
 use Rattle.fog_book.specs.declared.exposure.Exposure.{Exposure}
-use Rattle.fog_book.specs.Exposures.{Fog, cells_at, exposed_of, is_of, key_of, keys_on}
+use Rattle.fog_book.specs.Exposures.{cells_at, exposed_of, is_of, key_of, keys_on}
 use Rattle.maps.specs.Maps.{Grid, has_map, map_of, has_name}
 use Rattle.maps.proofs.NameLemmas.{same_name}
 use Rattle.serde_json.specs.Data.{object, no_members}

@@ -1,5 +1,5 @@
 -- A world that its types keep, with keys, names and sizes that the campaign text takes, is one that it takes.
-use Rattle.std.proofs.Common.{◌≡◌, ℕ, zero, suc, ◌+◌, ◌*◌, ◌≤◌, ◌<◌, List, [], ◌∷◌, ◌++◌, length, map, Option, Some, None, refl, sym, ap, ◌∙◌, arith, true, false, Bool, ◌&&◌, nat_le, subst}
+use Rattle.std.proofs.Common.{◌≡◌, ℕ, suc, ◌+◌, ◌*◌, ◌≤◌, List, [], ◌∷◌, ◌++◌, length, map, Option, Some, None, refl, sym, ap, ◌∙◌, arith, true, false, Bool, ◌&&◌, nat_le, subst}
 use Rattle.std.specs.Prelude.{IsTrue, AllPairs, unwrap_or, option_map, if◌then◌else◌}
 use Rattle.std.specs.List.{AllByRecursion, list_all}
 use Rattle.std.specs.Map.{values_of}
@@ -10,7 +10,7 @@ use Rattle.std.proofs.lemmas.List.Elements.{recursion_from_All}
 use Rattle.std.proofs.lemmas.Bool.Decides.{nat_tests}
 use Rattle.names.specs.Tag.{tag_cmp}
 use Rattle.lattice.specs.Coordinates.{Coordinates}
-use Rattle.cells.specs.Cells.{Extent, Cells, IsSize, has, cells_where, IsToldByCells}
+use Rattle.cells.specs.Cells.{Extent, Cells, IsSize, has, cells_where}
 use Rattle.cells.specs.declared.cell.Cell.{Cell}
 use Rattle.cells.proofs.SetLaws.{IsToldByCells-cells_where}
 use Rattle.fog_book.specs.Exposures.{cells_at}
@@ -24,7 +24,7 @@ use Rattle.maps.specs.Maps.{Grid, has_name, map_of}
 use Rattle.maps.proofs.NameLemmas.{and_first, and_second, both}
 use Rattle.seats.specs.Book.{Book}
 use Rattle.tokens.specs.declared.token.Token.{Token}
-use Rattle.world.specs.Rules.{belongs, fits, fits_on, is_player, size_of, IsSetOf}
+use Rattle.world.specs.Rules.{belongs, fits_on, is_player, size_of, IsSetOf}
 use Rattle.world.specs.Scene.{Scene}
 use Rattle.world.specs.World.{World, is_used}
 use Rattle.campaign_writing.specs.Written.{IsWritten, are_written_keys, are_written_macros, are_written_texts, are_written_tokens, is_written_key, is_written_text, is_written_token}

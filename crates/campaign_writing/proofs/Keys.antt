@@ -1,5 +1,5 @@
 -- Sets whose keys lie in the order of maps are the sets that are looked up there.
-use Rattle.std.proofs.Common.{◌≡◌, ℕ, zero, suc, ◌+◌, ◌≤◌, List, [], ◌∷◌, ◌++◌, map, Some, refl, sym, ap, ◌∙◌, true, false, Bool, ◌&&◌, cond, arith}
+use Rattle.std.proofs.Common.{◌≡◌, ℕ, zero, suc, ◌+◌, ◌≤◌, List, [], ◌∷◌, ◌++◌, map, Some, refl, sym, ap, ◌∙◌, true, false, Bool, ◌&&◌, arith}
 use Rattle.std.specs.Prelude.{unwrap_or, nat_eq}
 use Rattle.std.specs.List.{AllByRecursion, flat_map, range_with_len}
 use Rattle.std.specs.Str.{bytes_eq}

@@ -1,6 +1,6 @@
 -- A world that was read is one that the campaign text takes.
-use Rattle.std.proofs.Common.{◌≡◌, ℕ, ◌+◌, List, [], ◌∷◌, ◌++◌, length, Some, None, Result, Ok, Err, Bool, true, false, cond, ◌&&◌, nat_le, decimal, refl, sym, ap, ◌∙◌, subst, ℤ, pos, negsuc}
-use Rattle.std.specs.Prelude.{Option, IfOk, ◌-◌, not, codes, is_ok, is_none}
+use Rattle.std.proofs.Common.{◌≡◌, ℕ, ◌+◌, List, [], ◌∷◌, ◌++◌, length, Some, None, Result, Ok, Err, Bool, true, false, cond, ◌&&◌, nat_le, decimal, refl, ap, ◌∙◌, subst, ℤ, pos, negsuc}
+use Rattle.std.specs.Prelude.{IfOk, ◌-◌, not, codes, is_ok, is_none}
 use Rattle.std.specs.List.{list_all}
 use Rattle.std.specs.declared.cmp.Ordering.{Ordering}
 use Rattle.std.specs.declared.cmp.Ordering.TheVariants.{Less, Equal, Greater}
@@ -33,7 +33,6 @@ use Rattle.world.specs.Scene.{Scene, bare}
 use Rattle.world.specs.World.{World}
 use Rattle.world.specs.Rules.{is_player, size_of}
 use Rattle.world.proofs.TokenRules.{all_put}
-use Rattle.campaign_json.specs.declared.faults.Rule.{Rule}
 use Rattle.campaign_json.specs.declared.faults.Rule.TheVariants.{Json, Missing, Kind, Range, Form, Twice, Cross}
 use Rattle.campaign_json.specs.declared.faults.BadCampaign.{BadCampaign}
 use Rattle.campaign_json.specs.Reading.{needed, asked, under, field, item_at, each, each_member, escaped}
@@ -115,7 +114,7 @@ sight_so : (key : List ℕ) (s : Scene) (d : Data) → Fits s → IfOk (types.si
 unfolding types.sight
 sight_so key s d is =
     pass Fits (needed Form (tag_of key)) _ (λ name. pass Fits (kinds.exactly 3 d) _ (λ three. pass Fits (item_at 0 (kinds.whole 0 40) d) _ (λ range. pass Fits (item_at 1 (kinds.whole 0 40) d) _
-      (λ night. pass Fits (item_at 2 (kinds.whole 1 4) d) _ (λ mult. pass Fits (asked Range (is_none (sight_fault s.sights name range night mult))) _ (λ room. is))))))
+    (λ night. pass Fits (item_at 2 (kinds.whole 1 4) d) _ (λ mult. pass Fits (asked Range (is_none (sight_fault s.sights name range night mult))) _ (λ room. is))))))
 
 lights_so : (s : Scene) (d : Data) → Fits s → IfOk (types.lights s d) Fits
 unfolding types.lights
@@ -141,13 +140,13 @@ walled_so : (name : List ℕ) (kind : WallKind) (first second : ℤ × ℤ) (s :
 unfolding maps.walled_at
 walled_so name kind first second s is =
     pass Fits (needed Cross (map_of name s.maps)) _ (λ grid. pass Fits (needed Cross (maps.point_on grid.walls.extent first.0 first.1)) _
-      (λ a. pass Fits (needed Cross (maps.point_on grid.walls.extent second.0 second.1)) _ (λ b. pass Fits (maps.unbroken (wall_fault grid.walls kind a b)) _ (λ fits. is))))
+    (λ a. pass Fits (needed Cross (maps.point_on grid.walls.extent second.0 second.1)) _ (λ b. pass Fits (maps.unbroken (wall_fault grid.walls kind a b)) _ (λ fits. is))))
 
 wall_so : (name : List ℕ) (kind : WallKind) (s : Scene) (d : Data) → Fits s → IfOk (maps.wall name kind s d) Fits
 unfolding maps.wall
 wall_so name kind s d is =
     pass Fits (kinds.exactly 4 d) _ (λ four. pass Fits (item_at 0 kinds.integer d) _ (λ ax. pass Fits (item_at 1 kinds.integer d) _ (λ ay. pass Fits (item_at 2 kinds.integer d) _
-      (λ bx. pass Fits (item_at 3 kinds.integer d) _ (λ by. walled_so name kind (ax, ay) (bx, by) s is)))))
+    (λ bx. pass Fits (item_at 3 kinds.integer d) _ (λ by. walled_so name kind (ax, ay) (bx, by) s is)))))
 
 walls_so : (name : List ℕ) (kind : WallKind) (s : Scene) (d : Data) → Fits s → IfOk (maps.walls name kind s d) Fits
 unfolding maps.walls
@@ -158,15 +157,15 @@ unfolding maps.blank_map
 blank_so s d is =
     let New : Scene × (List ℕ × Extent) → Type 0 = λ new. Fits new.0 in
     pass New (kinds.object d) _ (λ members. pass New (field (codes "name") (maps.new_name s) d) _ (λ name. pass New (field (codes "w") (kinds.whole 1 96) d) _
-      (λ w. pass New (field (codes "h") (kinds.whole 1 96) d) _ (λ h. pass New (field (codes "mode") kinds.mode d) _ (λ mode. pass New (field (codes "shown") kinds.boolean d) _ (λ shown. is))))))
+    (λ w. pass New (field (codes "h") (kinds.whole 1 96) d) _ (λ h. pass New (field (codes "mode") kinds.mode d) _ (λ mode. pass New (field (codes "shown") kinds.boolean d) _ (λ shown. is))))))
 
 map_so : (s : Scene) (d : Data) → Fits s → IfOk (maps.map s d) Fits
 unfolding maps.map
 map_so s d is =
     go (λ new. Fits new.0) Fits (maps.blank_map s d) _ (blank_so s d is)
     (λ new so. go Fits Fits (maps.rows new.1.0 new.1.1 new.0 d) _ (rows_so new.1.0 new.1.1 new.0 d so)
-      (λ laid so. go Fits Fits (maps.walls new.1.0 Vbl laid d) _ (walls_so new.1.0 Vbl laid d so)
-        (λ veiled so. go Fits Fits (maps.walls new.1.0 Mbl veiled d) _ (walls_so new.1.0 Mbl veiled d so) (λ walled so. pass Fits (kinds.only maps.map_keys d) _ (λ no_others. so)))))
+    (λ laid so. go Fits Fits (maps.walls new.1.0 Vbl laid d) _ (walls_so new.1.0 Vbl laid d so)
+    (λ veiled so. go Fits Fits (maps.walls new.1.0 Mbl veiled d) _ (walls_so new.1.0 Mbl veiled d so) (λ walled so. pass Fits (kinds.only maps.map_keys d) _ (λ no_others. so)))))
 
 maps_so : (s : Scene) (d : Data) → Fits s → IfOk (maps.maps s d) Fits
 unfolding maps.maps
@@ -233,8 +232,8 @@ macro_so : (key : List ℕ) (b : Book) (d : Data) → IsBook b → IfOk (macros.
 unfolding macros.with_read
 macro_so key b d is =
     pass IsBook (needed Form (tag_of key)) _ (λ name. go (λ text. InBounds 0 2000 (length text)) IsBook (kinds.text 0 2000 d) _ (text_so 0 2000 d)
-      (λ words short. go (λ done. is_ok (macro_of words) ≡ true) IsBook (macros.spelled (macro_of words)) _ (spelled_so words (macro_of words) refl)
-        (λ pieces spelled. pass IsBook (asked Range (is_none (macro_fault b.macros name))) _ (λ room. (is.0, all_put_in name words b.macros (and_from _ _ (and_second (nat_le 0 (length words)) _ short) spelled) is.1)))))
+    (λ words short. go (λ done. is_ok (macro_of words) ≡ true) IsBook (macros.spelled (macro_of words)) _ (spelled_so words (macro_of words) refl)
+    (λ pieces spelled. pass IsBook (asked Range (is_none (macro_fault b.macros name))) _ (λ room. (is.0, all_put_in name words b.macros (and_from _ _ (and_second (nat_le 0 (length words)) _ short) spelled) is.1)))))
 
 macros_so : (b : Book) (d : Data) → IsBook b → IfOk (macros.macros b d) IsBook
 unfolding macros.macros
@@ -247,9 +246,9 @@ seat_so : (place : ℕ) (s : Scene) (d : Data) → Fits s → IfOk (seats.seat p
 unfolding seats.seat
 seat_so place s d is =
     pass IsSeat (kinds.object d) _ (λ members. go (λ key. is_written_key key ≡ true) IsSeat (field (codes "key") (kinds.text 1 64) d) _ (field_so (λ key. is_written_key key ≡ true) (codes "key") (kinds.text 1 64) d (text_so 1 64))
-      (λ key good. pass IsSeat (field (codes "seed") kinds.seed d) _ (λ seed. pass IsSeat (field (codes "drawn") (kinds.whole 0 (drawn_limit - 1)) d) _ (λ drawn. go IsBook IsSeat (seats.tags (fresh_book place key seed drawn) d) _ (tags_so (fresh_book place key seed drawn) d (good, refl))
-        (λ book so. go IsBook IsSeat (macros.macros book d) _ (macros_so book d so)
-          (λ filled full. go Fits IsSeat (fogs.fog place s d) _ (fog_so place s d is) (λ exposed stays. pass IsSeat (kinds.only seats.seat_keys d) _ (λ no_others. (full, stays)))))))))
+    (λ key good. pass IsSeat (field (codes "seed") kinds.seed d) _ (λ seed. pass IsSeat (field (codes "drawn") (kinds.whole 0 (drawn_limit - 1)) d) _ (λ drawn. go IsBook IsSeat (seats.tags (fresh_book place key seed drawn) d) _ (tags_so (fresh_book place key seed drawn) d (good, refl))
+    (λ book so. go IsBook IsSeat (macros.macros book d) _ (macros_so book d so)
+    (λ filled full. go Fits IsSeat (fogs.fog place s d) _ (fog_so place s d is) (λ exposed stays. pass IsSeat (kinds.only seats.seat_keys d) _ (λ no_others. (full, stays)))))))))
 
 record AreSeats (w : World) : Type 0 where
   tokens : Fits w.scene
@@ -285,14 +284,14 @@ bare_so : (books : List Book) (s : Scene) (d : Data) → IfOk (tokens.bare_token
 unfolding tokens.bare_token
 bare_so books s d =
     pass IsToken (kinds.object d) _ (λ members. pass IsToken (field (codes "id") (tokens.new_id books s) d) _ (λ id. go (λ name. InBounds 1 40 (length name)) IsToken (field (codes "name") (kinds.text 1 40) d) _ (field_so (λ name. InBounds 1 40 (length name)) (codes "name") (kinds.text 1 40) d (text_so 1 40))
-      (λ name long. pass IsToken (field (codes "map") (tokens.map_name s) d) _ (λ map. go (InBounds 1 4) IsToken (field (codes "size") (kinds.whole 1 4) d) _ (field_so (InBounds 1 4) (codes "size") (kinds.whole 1 4) d (whole_so 1 4))
-        (λ size wide. pass IsToken (field (codes "cell") (tokens.cell map.1 size) d) _ (λ cell. bounds name size long wide))))))
+    (λ name long. pass IsToken (field (codes "map") (tokens.map_name s) d) _ (λ map. go (InBounds 1 4) IsToken (field (codes "size") (kinds.whole 1 4) d) _ (field_so (InBounds 1 4) (codes "size") (kinds.whole 1 4) d (whole_so 1 4))
+    (λ size wide. pass IsToken (field (codes "cell") (tokens.cell map.1 size) d) _ (λ cell. bounds name size long wide))))))
 
 marked_so : (s : Scene) (t : Token) (d : Data) → IsToken t → IfOk (tokens.marked s t d) IsToken
 unfolding tokens.marked
 marked_so s t d is =
     pass IsToken (field (codes "layer") kinds.layer d) _ (λ layer. pass IsToken (tokens.owners s.fog.players d) _ (λ owners. pass IsToken (field (codes "visible") kinds.boolean d) _
-      (λ visible. pass IsToken (field (codes "sight") (tokens.type_name s.sights) d) _ (λ sight. pass IsToken (field (codes "light") (tokens.type_name s.lights) d) _ (λ light. is)))))
+    (λ visible. pass IsToken (field (codes "sight") (tokens.type_name s.sights) d) _ (λ sight. pass IsToken (field (codes "light") (tokens.type_name s.lights) d) _ (λ light. is)))))
 
 described_so : (t : Token) (d : Data) → IsToken t → IfOk (tokens.described t d) IsToken
 unfolding tokens.described
@@ -303,7 +302,7 @@ unfolding tokens.token
 token_so books s d is =
     go IsToken Fits (tokens.bare_token books s d) _ (bare_so books s d)
     (λ bare so. go IsToken Fits (tokens.marked s bare d) _ (marked_so s bare d so)
-      (λ marked so. go IsToken Fits (tokens.described marked d) _ (described_so marked d so) (λ whole so. pass Fits (kinds.only tokens.token_keys d) _ (λ no_others. all_put (λ t. is_written_token t.name t.size) whole s.tokens so is))))
+    (λ marked so. go IsToken Fits (tokens.described marked d) _ (described_so marked d so) (λ whole so. pass Fits (kinds.only tokens.token_keys d) _ (λ no_others. all_put (λ t. is_written_token t.name t.size) whole s.tokens so is))))
 
 tokens_so : (books : List Book) (s : Scene) (d : Data) → Fits s → IfOk (tokens.tokens books s d) Fits
 unfolding tokens.tokens
@@ -315,11 +314,11 @@ campaign_so : (d : Data) → IfOk (campaign d) IsWritten
 unfolding campaign
 campaign_so d =
     pass IsWritten (kinds.object d) _ (λ members. pass IsWritten (field (codes "format") (kinds.whole 1 1) d) _ (λ format. go Fits IsWritten (types.lights (bare (players_in d)) d) _ (lights_so (bare (players_in d)) d refl)
-      (λ lit so. go Fits IsWritten (types.sights lit d) _ (sights_so lit d so)
-        (λ sighted so. go Fits IsWritten (maps.maps sighted d) _ (maps_so sighted d so)
-          (λ mapped so. go AreSeats IsWritten (seats.seats mapped d) _ (seats_so mapped d so)
-            (λ world are. go Fits IsWritten (tokens.tokens world.books world.scene d) _ (tokens_so world.books world.scene d are.tokens)
-              (λ full so. pass IsWritten (kinds.only campaign_keys d) _ (λ no_others. record { tokens = so; keys = are.keys; macros = are.macros }))))))))
+    (λ lit so. go Fits IsWritten (types.sights lit d) _ (sights_so lit d so)
+    (λ sighted so. go Fits IsWritten (maps.maps sighted d) _ (maps_so sighted d so)
+    (λ mapped so. go AreSeats IsWritten (seats.seats mapped d) _ (seats_so mapped d so)
+    (λ world are. go Fits IsWritten (tokens.tokens world.books world.scene d) _ (tokens_so world.books world.scene d are.tokens)
+    (λ full so. pass IsWritten (kinds.only campaign_keys d) _ (λ no_others. record { tokens = so; keys = are.keys; macros = are.macros }))))))))
 
 pub read_written : (text : List ℕ) (w : World) → campaign_of text ≡ Ok w → IsWritten w
 unfolding campaign_of

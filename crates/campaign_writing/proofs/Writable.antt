@@ -1,7 +1,6 @@
 -- What the campaign text takes of a world: what its types keep, and its keys, names and sizes.
-use Rattle.std.specs.Prelude.{◌≡◌, ◌≤◌, ◌<◌, ◌^◌, ℕ, ◌&&◌, nat_le, true, List, [], ◌∷◌, length, map, Option, Some, None}
+use Rattle.std.specs.Prelude.{◌≡◌, ◌≤◌, ◌<◌, ◌^◌, ℕ, ◌&&◌, nat_le, true, List, [], ◌∷◌, length, map}
 use Rattle.std.specs.List.{AllByRecursion, IsDistinct}
-use Rattle.std.specs.Map.{keys_of}
 use Rattle.std.specs.Str.{bytes_eq}
 use Rattle.std.specs.FinMap.Entries.{is_sorted}
 use Rattle.hex.specs.Hex.{IsBytes}
@@ -16,7 +15,6 @@ use Rattle.topology.specs.WallLists.{on_map_test}
 use Rattle.topology.specs.declared.wall.Wall.{Wall}
 use Rattle.maps.specs.Maps.{Grid, IsMap}
 use Rattle.seats.specs.Book.{Book, drawn_limit, most_tags}
-use Rattle.tokens.specs.Properties.{Property, value_limit}
 use Rattle.tokens.specs.declared.token.Token.{Token}
 use Rattle.world.specs.Rules.{belongs}
 use Rattle.world.specs.Scene.{Scene}

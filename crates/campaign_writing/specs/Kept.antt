@@ -17,7 +17,6 @@ use Rattle.tokens.specs.Tokens.{in_order}
 use Rattle.tokens.specs.declared.token.Token.{Token}
 use Rattle.type_table.specs.Types.{AreTypes}
 use Rattle.world.specs.Rules.{IsScene}
-use Rattle.world.specs.Scene.{Scene}
 use Rattle.world.specs.World.{World, IsWorld}
 
 abbrev pub IsTag : List ℕ → Type 0

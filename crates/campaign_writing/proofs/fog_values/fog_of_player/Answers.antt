@@ -1,6 +1,5 @@
 use Rattle.std.proofs.Common.{◌≡◌, ℕ, List, map, Some, ap, sym, ◌∙◌, subst, arith, length, true}
 use Rattle.std.specs.Prelude.{IsSome, slice_get, vec_len}
-use Rattle.cells.specs.Cells.{Cells}
 use Rattle.fog_book.specs.Exposures.{Fog, exposed_of}
 use Rattle.maps.specs.Maps.{Grid, in_order}
 use Rattle.serde_json.specs.Data.{array, object}
