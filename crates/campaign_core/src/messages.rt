@@ -1,0 +1,136 @@
+//! What a command says to the seats.
+ghost use Rattle.std.specs.Prelude.{◌≡◌, ◌≤◌, ◌++◌, ◌∷◌, [], Some, None, IfOk, OnOk, length};
+ghost use Rattle.campaign_law.specs.Messages.{message_by as message_by_lem, text_message, text_messages, run_messages, texts_in};
+ghost use Rattle.campaign_law.specs.Outcome.{dice_in, roll_rule as roll_rule_lem, rolling, said};
+ghost use Rattle.command_rules.specs.MacroRules.{call_in};
+
+use crate::rolls::roll_dice;
+use chat::{To, message_line};
+use command_json::Command;
+use command_rules::Called;
+use names::{LineText, Memory, SeatNo, Text};
+use seats::SeatBook;
+use std::alloc::Global;
+use std::marker::Model;
+
+/// A line to the seats that an address reaches.
+#[derive(Drop)]
+pub(crate) struct Message {
+    pub(crate) from: SeatNo,
+    pub(crate) to: To,
+    pub(crate) line: LineText,
+}
+
+impl Model for Message {
+    ghost use Rattle.campaign_law.specs.Messages.{Message};
+
+    ghost Value = { Message };
+
+    ghost view = { λ m. record { from = m.from; to = m.to; line = m.line } };
+}
+
+fn add_message(messages: &mut Vec<Message>, message: Message) -> Result<(), Memory>
+    ensures { OnOk result (messages.new.items ≡ messages.old.items ++ message ∷ []) }
+{
+    match messages.push(message) {
+        Ok(()) => Ok(()),
+        Err(_) => Err(Memory),
+    }
+}
+
+// ---- the words of a command
+
+/// The one message, to these seats.
+fn message_to(alloc: Global, seat: SeatNo, to: To, text: &str) -> Result<Vec<Message>, Memory>
+    ensures { IfOk result (λ v. v.items ≡ message_by_lem seat (Some (to, text.now))) }
+{
+    let mut messages = Vec::new(alloc);
+    let line = message_line(alloc, seat, to, text)?;
+    add_message(&mut messages, Message { from: seat, to, line })?;
+    Ok(messages)
+}
+
+/// What the command says by its own words. The dice of a roll are drawn from the seat's own stream.
+pub(crate) fn message_by(
+    alloc: Global,
+    seat: SeatNo,
+    command: &Command,
+    book: &mut SeatBook,
+) -> Result<Vec<Message>, Memory>
+    requires { roll_rule_lem (dice_in command.now) ≡ None }
+    ensures messages { IfOk result (λ v. v.items ≡ message_by_lem seat (said book.old command.now)) }
+    ensures book { OnOk result (book.new ≡ rolling (dice_in command.now) book.old) }
+{
+    match command {
+        Command::Say { text, to } => message_to(alloc, seat, *to, text.text()),
+        Command::Roll { dice, to } => {
+            let text = roll_dice(alloc, dice, book)?;
+            message_to(alloc, seat, *to, text.text())
+        }
+        _ => Ok(Vec::new(alloc)),
+    }
+}
+
+// ---- the texts of a run
+
+/// The seat gets its text, if that isn't empty. What it is shown is the address of the command.
+#[tactic(auto, using(crate::proofs::Texts::silent, crate::proofs::Texts::spoken))]
+fn add_text(
+    messages: &mut Vec<Message>,
+    alloc: Global,
+    from: SeatNo,
+    to: To,
+    seat: SeatNo,
+    text: &Text,
+) -> Result<(), Memory>
+    ensures { OnOk result (messages.new.items ≡ messages.old.items ++ text_message from to seat text.now) }
+{
+    if text.text().is_empty() {
+        return Ok(());
+    }
+    let line = message_line(alloc, from, to, text.text())?;
+    let to = To::Seat(seat);
+    add_message(messages, Message { from, to, line })
+}
+
+/// Each seat gets its text.
+fn add_texts(
+    messages: &mut Vec<Message>,
+    alloc: Global,
+    from: SeatNo,
+    to: To,
+    texts: &[Text],
+) -> Result<(), Memory>
+    requires { length texts.now ≤ 33 }
+    ensures { OnOk result (messages.new.items ≡ messages.old.items ++ text_messages from to 0 texts.now) }
+{
+    let mut number: u8 = 0;
+    for text in texts {
+        let Some(seat) = SeatNo::new(number) else {
+            unreachable!();
+        };
+        add_text(messages, alloc, from, to, seat, text)?;
+        number += 1;
+    }
+    Ok(())
+}
+
+/// Adds what the run says that the command asks for, a message to each seat that gets a text.
+pub(crate) fn add_run(
+    messages: &mut Vec<Message>,
+    alloc: Global,
+    from: SeatNo,
+    command: &Command,
+    run: &Called,
+) -> Result<(), Memory>
+    requires { length (texts_in run.now) ≤ 33 }
+    ensures { OnOk result (messages.new.items ≡ messages.old.items ++ run_messages from (call_in command.now) (texts_in run.now)) }
+{
+    let Command::Macro { to, .. } = command else {
+        return Ok(());
+    };
+    let Called::Ran(run) = run else {
+        return Ok(());
+    };
+    add_texts(messages, alloc, from, *to, run.texts.texts())
+}
