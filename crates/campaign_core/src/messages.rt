@@ -3,9 +3,12 @@ ghost use Rattle.std.specs.Prelude.{◌≡◌, ◌≤◌, ◌++◌, ◌∷◌, [
 ghost use Rattle.campaign_law.specs.Messages.{message_by as message_by_lem, text_message, text_messages, run_messages, texts_in};
 ghost use Rattle.campaign_law.specs.Outcome.{dice_in, roll_rule as roll_rule_lem, rolling, said};
 ghost use Rattle.command_rules.specs.MacroRules.{call_in};
+ghost use Rattle.command_effects.specs.MacroEffects.{drawing};
+ghost use Rattle.campaign_core.specs.Rulings.{IsRunFor};
 
 use crate::rolls::roll_dice;
 use chat::{To, message_line};
+use command_effects::draw;
 use command_json::Command;
 use command_rules::Called;
 use names::{LineText, Memory, SeatNo, Text};
@@ -51,7 +54,7 @@ fn message_to(alloc: Global, seat: SeatNo, to: To, text: &str) -> Result<Vec<Mes
 }
 
 /// What the command says by its own words. The dice of a roll are drawn from the seat's own stream.
-pub(crate) fn message_by(
+fn message_by(
     alloc: Global,
     seat: SeatNo,
     command: &Command,
@@ -94,6 +97,7 @@ fn add_text(
 }
 
 /// Each seat gets its text.
+#[tactic(auto, using(crate::proofs::Texts::text_next, crate::proofs::Texts::texts_end))]
 fn add_texts(
     messages: &mut Vec<Message>,
     alloc: Global,
@@ -116,7 +120,7 @@ fn add_texts(
 }
 
 /// Adds what the run says that the command asks for, a message to each seat that gets a text.
-pub(crate) fn add_run(
+fn add_run(
     messages: &mut Vec<Message>,
     alloc: Global,
     from: SeatNo,
@@ -133,4 +137,38 @@ pub(crate) fn add_run(
         return Ok(());
     };
     add_texts(messages, alloc, from, *to, run.texts.texts())
+}
+
+// ---- all that a command says
+
+/// The words of a run are no longer in the book.
+fn draw_run(run: &Called, book: &mut SeatBook)
+    ensures { book.new ≡ drawing run.now book.old }
+{
+    match run {
+        Called::Ran(run) => draw(book, &run.stream),
+        Called::NoRun | Called::Stopped(_) => {}
+    }
+}
+
+/// What an accepted command of the book's seat says, and what the run says that it asks for. The words of both are drawn from
+/// the book.
+#[tactic(auto, using(crate::proofs::Texts::said_still))]
+pub(crate) fn messages_of(
+    alloc: Global,
+    seat: SeatNo,
+    command: &Command,
+    run: &Called,
+    book: &mut SeatBook,
+) -> Result<Vec<Message>, Memory>
+    requires dice { roll_rule_lem (dice_in command.now) ≡ None }
+    requires run { IsRunFor command.now run.now }
+    requires texts { length (texts_in run.now) ≤ 33 }
+    ensures messages { IfOk result (λ v. v.items ≡ message_by_lem seat (said book.old command.now) ++ run_messages seat (call_in command.now) (texts_in run.now)) }
+    ensures book { OnOk result (book.new ≡ rolling (dice_in command.now) (drawing run.now book.old)) }
+{
+    draw_run(run, book);
+    let mut messages = message_by(alloc, seat, command, book)?;
+    add_run(&mut messages, alloc, seat, command, run)?;
+    Ok(messages)
 }

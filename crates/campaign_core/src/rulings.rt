@@ -65,9 +65,9 @@ fn called_by(
     requires shown { view_at seat keep.now.views ≡ Some (view_of state.now.scene seat) }
     ensures { IfOk result (λ c. c ≡ called_by_lem (asked_of (world_at state.now) seat) seat book.now command.now) }
 {
-    if !matches!(command, Command::Macro { .. }) {
+    let Command::Macro { .. } = command else {
         return Ok(Called::NoRun);
-    }
+    };
     let readable = readable_in(alloc, keep.view(seat), state.seats())?;
     run_called(alloc, &readable, seat, book, command)
 }
