@@ -49,7 +49,14 @@ fn message_to(alloc: Global, seat: SeatNo, to: To, text: &str) -> Result<Vec<Mes
 {
     let mut messages = Vec::new(alloc);
     let line = message_line(alloc, seat, to, text)?;
-    add_message(&mut messages, Message { from: seat, to, line })?;
+    add_message(
+        &mut messages,
+        Message {
+            from: seat,
+            to,
+            line,
+        },
+    )?;
     Ok(messages)
 }
 

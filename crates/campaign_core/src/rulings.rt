@@ -74,12 +74,7 @@ fn called_by(
 
 /// What the rules make of a run: it doesn't stop, and may set what it means to set.
 #[tactic(auto, unfolding(player_view::specs::Asked::asked_of))]
-fn judge_run(
-    alloc: Global,
-    state: &State,
-    seat: SeatNo,
-    called: Called,
-) -> Result<Ruling, Memory>
+fn judge_run(alloc: Global, state: &State, seat: SeatNo, called: Called) -> Result<Ruling, Memory>
     ensures { IfOk result (IsRuling (run_rule seat (asked_of (world_at state.now) seat).mine called) called) }
 {
     match called {
