@@ -255,7 +255,7 @@ fn add_maps(alloc: Global, text: &mut String) -> Result<(), Fail> {
 fn macros(alloc: Global) -> Result<String, Fail> {
     let mut text = String::from_str(
         alloc,
-        r#"{"budget":"[r,count(1000): 1+1+1+1+1+1]","fault":"[r: arg(0)]","full":"[r: setprop(\"1:t0\", \"new\", 0)]","over":"[r: 9223372036854775807 + 1]","#,
+        r#"{"budget":"[r,count(1000): 1+1+1+1+1+1]","fault":"[r: arg(0)]","full":"[r: setprop(\"1:t0\", \"new\", 0)]","over":"[r: 999999999 * 999999999 * 999999999]","#,
     )?;
     add_numbered(alloc, &mut text, 28, r#""m"#, r#"":"""#)?;
     text.push_str("}")?;
