@@ -21,7 +21,7 @@ use Rattle.campaign_law.specs.Worlds.{FitsTogether}
 use Rattle.campaign_law.proofs.NewTokens.{may_use_made}
 use Rattle.campaign_core.specs.Allowing.{MayUseAllowed}
 use Rattle.campaign_core.specs.Places.{Place, Standing, world_at}
-use Rattle.campaign_core.proofs.Rulings.{first_none, second_none}
+use Rattle.campaign_core.proofs.Judging.{first_none, second_none}
 
 same_seat : (dice : Option (List ℕ)) (b : Book) → (rolling dice b).seat ≡ b.seat
 same_seat None b = refl
@@ -64,22 +64,22 @@ may_still c b next stays may =
     (subst (λ n. ForSome (tag_made c) (MayUse n b.tags)) (sym stays.seat) may)
 
 -- the book once the line is counted and the words of a run and of dice are drawn
-abbrev pub drawn : Called → Command → Book → Book
-drawn run c b = rolling (dice_in c) (drawing run (counted b))
+abbrev pub once_drawn : Called → Command → Book → Book
+once_drawn run c b = rolling (dice_in c) (drawing run (counted b))
 
 -- the tag may also be used then
-pub may_drawn : (run : Called) (c : Command) (b : Book) → MayUseTag b c → MayUseTag (drawn run c b) c
+pub may_drawn : (run : Called) (c : Command) (b : Book) → MayUseTag b c → MayUseTag (once_drawn run c b) c
 may_drawn run c b may =
     let counts : MayUseTag (counted b) c = may in
     let draws : MayUseTag (drawing run (counted b)) c = may_still c (counted b) (drawing run (counted b)) (drawn_stays run (counted b)) counts in
-    may_still c (drawing run (counted b)) (drawn run c b) (record { seat = same_seat (dice_in c) (drawing run (counted b)); tags = same_tags (dice_in c) (drawing run (counted b)) }) draws
+    may_still c (drawing run (counted b)) (once_drawn run c b) (record { seat = same_seat (dice_in c) (drawing run (counted b)); tags = same_tags (dice_in c) (drawing run (counted b)) }) draws
 
 -- and once the text is set that the command sets
 pub may_set : (new : Option NewText) (c : Command) (b : Book) → MayUseTag b c → MayUseTag (setting_text new b) c
 may_set new c b may = may_still c b (setting_text new b) (set_stays new b) may
 
 -- no macro is set before
-pub macros_drawn : (run : Called) (c : Command) (b : Book) → (drawn run c b).macros ≡ b.macros
+pub macros_drawn : (run : Called) (c : Command) (b : Book) → (once_drawn run c b).macros ≡ b.macros
 macros_drawn run c b = same_macros (dice_in c) (drawing run (counted b)) ∙ drawn_macros run (counted b)
 
 -- ---- where the command breaks no rule

@@ -84,36 +84,36 @@ fn message_by(
 // ---- the texts of a run
 
 /// The seat gets its text, if that isn't empty. What it is shown is the address of the command.
-#[tactic(auto, using(crate::proofs::Texts::silent, crate::proofs::Texts::spoken))]
+#[tactic(auto, using(crate::proofs::Saying::silent, crate::proofs::Saying::spoken))]
 fn add_text(
     messages: &mut Vec<Message>,
     alloc: Global,
     from: SeatNo,
-    to: To,
+    to: &To,
     seat: SeatNo,
     text: &Text,
 ) -> Result<(), Memory>
-    ensures { OnOk result (messages.new.items ≡ messages.old.items ++ text_message from to seat text.now) }
+    ensures { OnOk result (messages.new.items ≡ messages.old.items ++ text_message from to.now seat text.now) }
 {
     if text.text().is_empty() {
         return Ok(());
     }
-    let line = message_line(alloc, from, to, text.text())?;
+    let line = message_line(alloc, from, *to, text.text())?;
     let to = To::Seat(seat);
     add_message(messages, Message { from, to, line })
 }
 
 /// Each seat gets its text.
-#[tactic(auto, using(crate::proofs::Texts::text_next, crate::proofs::Texts::texts_end))]
+#[tactic(auto, using(crate::proofs::Saying::text_next, crate::proofs::Saying::texts_end))]
 fn add_texts(
     messages: &mut Vec<Message>,
     alloc: Global,
     from: SeatNo,
-    to: To,
+    to: &To,
     texts: &[Text],
 ) -> Result<(), Memory>
     requires { length texts.now ≤ 33 }
-    ensures { OnOk result (messages.new.items ≡ messages.old.items ++ text_messages from to 0 texts.now) }
+    ensures { OnOk result (messages.new.items ≡ messages.old.items ++ text_messages from to.now 0 texts.now) }
 {
     let mut number: u8 = 0;
     for text in texts {
@@ -143,7 +143,7 @@ fn add_run(
     let Called::Ran(run) = run else {
         return Ok(());
     };
-    add_texts(messages, alloc, from, *to, run.texts.texts())
+    add_texts(messages, alloc, from, to, run.texts.texts())
 }
 
 // ---- all that a command says
@@ -160,7 +160,7 @@ fn draw_run(run: &Called, book: &mut SeatBook)
 
 /// What an accepted command of the book's seat says, and what the run says that it asks for. The words of both are drawn from
 /// the book.
-#[tactic(auto, using(crate::proofs::Texts::said_still))]
+#[tactic(auto, using(crate::proofs::Saying::said_still))]
 pub(crate) fn messages_of(
     alloc: Global,
     seat: SeatNo,

@@ -4,7 +4,7 @@ use Rattle.command_effects.specs.Tags.{MayUseTag}
 use Rattle.command_effects.specs.MacroEffects.{drawing}
 use Rattle.command_rules.specs.MacroRules.{new_text_in, setting_rule}
 use Rattle.campaign_law.specs.Outcome.{dice_in, rolling}
-use Rattle.campaign_core.proofs.Allowing.{drawn, macros_drawn, may_drawn}
+use Rattle.campaign_core.proofs.Allowing.{macros_drawn, may_drawn}
 use Rattle.campaign_core.proofs.outcome.accepted.Goals as goal
 
 pub change_book-requires-clause-tag : goal.change_book-requires-clause-tag
