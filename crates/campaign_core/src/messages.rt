@@ -48,15 +48,12 @@ fn message_to(alloc: Global, seat: SeatNo, to: To, text: &str) -> Result<Vec<Mes
     ensures { IfOk result (λ v. v.items ≡ message_by_lem seat (Some (to, text.now))) }
 {
     let mut messages = Vec::new(alloc);
-    let line = message_line(alloc, seat, to, text)?;
-    add_message(
-        &mut messages,
-        Message {
-            from: seat,
-            to,
-            line,
-        },
-    )?;
+    let message = Message {
+        from: seat,
+        to,
+        line: message_line(alloc, seat, to, text)?,
+    };
+    add_message(&mut messages, message)?;
     Ok(messages)
 }
 
