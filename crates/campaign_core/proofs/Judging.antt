@@ -11,9 +11,8 @@ use Rattle.macro_grammar.specs.Tree.{Piece}
 use Rattle.macro_parse.specs.declared.texts.MacroParseFault.{MacroParseFault}
 use Rattle.macro_parse.specs.Answers.{macro_of as pieces_of_text}
 use Rattle.readable.specs.Table.{Table}
-use Rattle.macro_eval.specs.declared.said.Said.{Said}
 use Rattle.macro_eval.specs.Functions.{Setting, setting_of}
-use Rattle.macro_eval.specs.Steps.{Step, fresh}
+use Rattle.macro_eval.specs.Steps.{fresh}
 use Rattle.macro_eval.specs.Pieces.{pieces_of}
 use Rattle.macro_eval.specs.Runs.{ended, run_of, text_for}
 use Rattle.command_json.specs.Commands.{command_of}
@@ -21,6 +20,7 @@ use Rattle.command_json.specs.declared.command.Command.{Command}
 use Rattle.command_json.specs.declared.command.LineFault.{LineFault}
 use Rattle.player_view.specs.Asked.{Asked, asked_of as asked_of_scene}
 use Rattle.command_rules.specs.declared.calls.Called.{Called}
+use Rattle.command_rules.specs.declared.calls.MacroRun.{MacroRun}
 use Rattle.command_rules.specs.declared.calls.Called.TheVariants.{NoRun, Stopped, Ran}
 use Rattle.command_rules.specs.declared.refusal.Refusal.{Refusal}
 use Rattle.command_rules.specs.declared.refusal.Refusal.TheVariants.{NoHello}
@@ -28,7 +28,10 @@ use Rattle.command_rules.specs.Rules.{rule_of}
 use Rattle.command_rules.specs.GmRules.{then_rule}
 use Rattle.command_rules.specs.MacroRules.{Call, Macros, by_answer, by_call, by_pieces, by_text, call_in, called, intents_rule, new_text_in, run_rule, setting_rule}
 use Rattle.command_effects.specs.MacroEffects.{intents_in}
-use Rattle.command_effects.specs.Trying.{MaySetAll}
+use Rattle.command_effects.specs.declared.intents.IntentsSet.{IntentsSet}
+use Rattle.command_effects.specs.declared.intents.IntentsSet.TheVariants as sets
+use Rattle.command_effects.specs.Trying.{IsSetBy, MaySetAll}
+use Rattle.world.specs.Scene.{Scene}
 use Rattle.campaign_law.specs.declared.entry.Entry.{Entry}
 use Rattle.campaign_law.specs.declared.entry.Entry.TheVariants.{Join, Line, Leave, Taken}
 use Rattle.campaign_law.specs.Messages.{texts_in}
@@ -77,6 +80,27 @@ run_is_ruled asked seat b c run r none is h =
     ∙ sym (last_of (rule_of asked seat b.tags c) (roll_rule (dice_in c)) (setting_rule b.macros (new_text_in c)) (run_rule seat asked.mine (called_by asked seat b c)) none) in
     subst (λ q. IsRuling (broken_rule asked seat b c) q r) is (subst (λ q. IsRuling q run r) rule h)
 
+-- the command is allowed, and its run came to this
+pub record IsAllowedWith (asked : Asked) (seat : ℕ) (b : Book) (c : Command) (run : Called) : Type 0 where
+  pub rule : broken_rule asked seat b c ≡ None
+  pub comes : run ≡ called_by asked seat b c
+
+pub allowed_with : (asked : Asked) (seat : ℕ) (b : Book) (c : Command) (r : Ruling) (run : Called) → IsRuling (broken_rule asked seat b c) (called_by asked seat b c) r → r ≡ Allowed run → IsAllowedWith asked seat b c run
+allowed_with asked seat b c r run h is =
+    let parts : IsRuling (broken_rule asked seat b c) (called_by asked seat b c) (Allowed run) = subst (IsRuling (broken_rule asked seat b c) (called_by asked seat b c)) is h in
+    record { rule = parts.0; comes = parts.1 }
+
+pub refused_with : (asked : Asked) (seat : ℕ) (b : Book) (c : Command) (r : Ruling) (refusal : Refusal) → IsRuling (broken_rule asked seat b c) (called_by asked seat b c) r → r ≡ Refused refusal → broken_rule asked seat b c ≡ Some refusal
+refused_with asked seat b c r refusal h is = subst (IsRuling (broken_rule asked seat b c) (called_by asked seat b c)) is h
+
+-- one of the properties that a run means to set breaks a rule
+pub refused_by_set : (w : World) (seat : ℕ) (called : Called) (run : MacroRun) (s : Scene) (set : IntentsSet) (refusal : Refusal) → called ≡ Ran run → s ≡ w.scene → IsSetBy s seat run.intents set → set ≡ sets.Refused refusal
+    → run_rule seat (asked_of w seat).mine called ≡ Some refusal
+unfolding asked_of_scene
+refused_by_set w seat called run s set refusal is scene h refused =
+    ap (run_rule seat (asked_of w seat).mine) is
+    ∙ subst (λ (x : Scene). IsSetBy x seat run.intents (sets.Refused refusal)) scene (subst (IsSetBy s seat run.intents) refused h)
+
 -- ---- runs
 
 -- a command that asks for no run has none
@@ -85,7 +109,7 @@ unfolding called
 no_call table seat macros stream c none = ap (by_call table seat macros stream) none
 
 -- a run has a text for each seat
-ended_texts : (stream : Stream) (g : Setting) (step : Step (List Said)) → length (texts_in (by_answer stream (ended g step))) ≤ g.table.seats
+ended_texts : (stream : Stream) (g : Setting) (step : _) → length (texts_in (by_answer stream (ended g step))) ≤ g.table.seats
 ended_texts stream g (Ok done) = let count = length-map-range_with_len (text_for g done.0) 0 g.table.seats in omega (arith, count)
 ended_texts stream g (Err stop) = omega arith
 

@@ -47,7 +47,7 @@ unended (x ∷ xs) = ap (λ rest. x ∷ rest) (unended xs)
 pub text_next : (from : ℕ) (to : To) (number place seat : ℕ) (texts : List (List ℕ)) (text : List ℕ) (before after whole : List Message) → place < length texts → text ≡ get_or texts place text → seat ≡ number
     → after ≡ before ++ text_message from to seat text → before ++ text_messages from to number (drop place texts) ≡ whole → after ++ text_messages from to (number + 1) (drop (place + 1) texts) ≡ whole
 text_next from to number place seat texts text before after whole lt is at added so_far =
-    let left : drop place texts ≡ text ∷ drop (place + 1) texts = drop_more texts place text lt is ∙ ap (λ t. t ∷ drop (place + 1) texts) (sym is) in
+    let left : drop place texts ≡ text ∷ drop (place + 1) texts = drop_more texts place text lt ∙ ap (λ t. t ∷ drop (place + 1) texts) (sym is) in
     (λ i. added i ++ text_messages from to (number + 1) (drop (place + 1) texts))
     ∙ (λ i. (before ++ text_message from to (at i) text) ++ text_messages from to (number + 1) (drop (place + 1) texts))
     ∙ joined before (text_message from to number text) (text_messages from to (number + 1) (drop (place + 1) texts))

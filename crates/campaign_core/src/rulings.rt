@@ -54,6 +54,7 @@ fn broken_rule(
 }
 
 /// What the run comes to that a command asks for. Its macro reads what the seat is shown.
+#[tactic(auto, unfolding(command_rules::specs::MacroRules::called))]
 fn called_by(
     alloc: Global,
     state: &State,

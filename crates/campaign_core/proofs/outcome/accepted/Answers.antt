@@ -19,3 +19,6 @@ change_book-requires-clause-text c =
     (c.in_ok-messages.ensures.book ∙ ap (λ b. rolling (dice_in c.args.command) (drawing c.args.run b)) (c.count_line.ensures ∙ ap (λ b. counted b) c.in_ok-after.ensures))
     ∙ ap (λ macros. setting_rule macros (new_text_in c.args.command)) (macros_drawn c.args.run c.args.command c.args.book.now)
     ∙ c.requires.text
+
+pub returns : goal.returns
+returns c = ?

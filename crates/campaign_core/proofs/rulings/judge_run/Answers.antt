@@ -1,21 +1,8 @@
-use Rattle.std.proofs.Common.{rules, ◌≡◌, ◌<◌, ◌≤◌, ◌+◌, ℕ, length, Some, None, IfOk, ◌-◌, ◌*◌, ◌/◌, ◌%◌, Bool, true, false, nat_eq, nat_lt, List, [], ◌∷◌, ◌++◌, slice_index_or, slice_set, bit_and, bit_or, Fits, w8, w32, w64, Bor, MutBor}
-use Rattle.view_keep.specs.Kept.{view_at}
-use Rattle.player_view.specs.Asked.{Asked}
-use Rattle.player_view.specs.View.{view_of}
-use Rattle.command_rules.specs.GmRules.{then_rule}
-use Rattle.command_rules.specs.Rules.{rule_of as rule_of_lem}
-use Rattle.command_rules.specs.MacroRules.{new_text_in}
-use Rattle.command_rules.specs.MacroRules.{setting_rule as setting_rule_lem}
-use Rattle.command_rules.specs.MacroRules.{run_rule}
-use Rattle.campaign_law.specs.Outcome.{broken_rule as broken_rule_lem}
-use Rattle.campaign_law.specs.Outcome.{called_by as called_by_lem}
-use Rattle.campaign_law.specs.Outcome.{dice_in}
-use Rattle.campaign_law.specs.Outcome.{roll_rule as roll_rule_lem}
-use Rattle.campaign_law.specs.World.{asked_of}
 use Rattle.campaign_core.specs.Places.{world_at}
-use Rattle.campaign_core.specs.Rulings.{IsRuling}
+use Rattle.campaign_core.proofs.Judging.{refused_by_set}
 use Rattle.campaign_core.proofs.rulings.judge_run.Goals as goal
 
--- src/rulings.rt:76:1
 pub returns-in-Refused : goal.returns-in-Refused
-returns-in-Refused c = ?
+returns-in-Refused c =
+    refused_by_set (world_at c.args.state.now) c.args.seat c.args.called c.in-Ran.run' c.scene.result.now c.in_ok-refusal-in-Ran.field-0 c.in-Refused.refusal
+    c.in-Ran.is c.scene.ensures c.in_ok-refusal-in-Ran.ensures c.in-Refused.is
