@@ -3,6 +3,7 @@
 
 mod campaigns;
 mod evening;
+mod macros;
 mod plays;
 mod refusals;
 mod stops;
@@ -98,7 +99,7 @@ fn check(rt: &impl Abort, alloc: Global, run: &Run<'_>) -> Result<String, Fail> 
 #[test]
 fn plays_scripts(rt: HostRuntime) -> Result<(), Fail> {
     let evening = [evening::EVENING];
-    let tables: [&[Run<'_>]; 3] = [&plays::PLAYS, &stops::STOPS, &evening];
+    let tables: [&[Run<'_>]; 4] = [&plays::PLAYS, &macros::MACROS, &stops::STOPS, &evening];
     for run in tables.into_iter().flatten() {
         check(&rt, rt.alloc(), run)?;
     }
