@@ -1,11 +1,12 @@
 -- What an accepted command may rely on: the tag of a token that it makes may be used, its dice can be rolled, and the text of a macro
 -- can be set.
-use Rattle.std.proofs.Common.{◌≡◌, ℕ, List, Some, None, refl, sym, ◌∙◌, ap, subst}
+use Rattle.std.proofs.Common.{◌≡◌, ℕ, List, Some, None, cond, refl, sym, ◌∙◌, ap, subst}
 use Rattle.std.specs.Prelude.{Option, option_map, slice_get}
 use Rattle.std.specs.Option.{ForSome}
 use Rattle.std.proofs.lemmas.Option.{slice_get-map}
-use Rattle.seats.specs.Book.{Book, counted}
+use Rattle.seats.specs.Book.{Book, counted, left}
 use Rattle.command_json.specs.declared.command.Command.{Command}
+use Rattle.command_json.specs.declared.command.Command.TheVariants.{Roll}
 use Rattle.player_view.specs.Asked.{Asked}
 use Rattle.command_rules.specs.declared.calls.Called.{Called}
 use Rattle.command_rules.specs.declared.calls.Called.TheVariants.{NoRun, Stopped, Ran}
@@ -13,9 +14,9 @@ use Rattle.command_rules.specs.Rules.{rule_of}
 use Rattle.command_rules.specs.GmRules.{then_rule}
 use Rattle.command_rules.specs.MacroRules.{NewText, new_text_in, run_rule, setting_rule}
 use Rattle.command_effects.specs.MacroEffects.{drawing, setting_text, with_text}
-use Rattle.command_effects.specs.Tags.{tag_made, MayUse, MayUseTag}
+use Rattle.command_effects.specs.Tags.{tag_made, using_tag, MayUse, MayUseTag}
 use Rattle.campaign_law.specs.Seat.{Seat}
-use Rattle.campaign_law.specs.Outcome.{broken_rule, called_by, dice_in, macro_rule, roll_rule, rolling}
+use Rattle.campaign_law.specs.Outcome.{book_done, broken_rule, is_bye, called_by, dice_in, macro_rule, roll_rule, rolling}
 use Rattle.campaign_law.specs.World.{World, asked_of, seat_at}
 use Rattle.campaign_law.specs.Worlds.{FitsTogether}
 use Rattle.campaign_law.proofs.NewTokens.{may_use_made}
@@ -81,6 +82,11 @@ may_set new c b may = may_still c b (setting_text new b) (set_stays new b) may
 -- no macro is set before
 pub macros_drawn : (run : Called) (c : Command) (b : Book) → (once_drawn run c b).macros ≡ b.macros
 macros_drawn run c b = same_macros (dice_in c) (drawing run (counted b)) ∙ drawn_macros run (counted b)
+
+-- a bye rolls no dice, so that it doesn't matter that they are rolled first
+pub done_once_drawn : (c : Command) (b : Book) → cond (is_bye c) (left (rolling (dice_in c) b)) (using_tag (tag_made c) (setting_text (new_text_in c) (rolling (dice_in c) b))) ≡ book_done c b
+done_once_drawn (Roll dice to) b = refl
+done_once_drawn c b = refl
 
 -- ---- where the command breaks no rule
 

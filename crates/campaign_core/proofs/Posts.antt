@@ -1,5 +1,5 @@
 -- What is made for a seat, put in, is its post after the entry.
-use Rattle.std.proofs.Common.{ltb, ◌≡◌, ◌≤◌, ◌<◌, ◌≢◌, ℕ, zero, suc, ◌+◌, ◌^◌, ◌++◌, Bool, true, false, cond, eqb, List, [], ◌∷◌, length, map, set, Some, None, refl, sym, ◌∙◌, ap, subst, arith, zero-add, eqb-true, eq-eqb, length-append, get_or}
+use Rattle.std.proofs.Common.{ltb, ◌≡◌, ◌≤◌, ◌<◌, ◌≢◌, ℕ, zero, suc, ◌+◌, ◌++◌, Bool, true, false, cond, eqb, List, [], ◌∷◌, length, map, set, Some, None, refl, sym, ◌∙◌, ap, subst, arith, zero-add, eqb-true, eq-eqb, length-append, get_or}
 use Rattle.std.specs.Prelude.{Option, option_map, slice_get, unwrap_or}
 use Rattle.std.proofs.lemmas.Option.{slice_get-map, slice_get_within, slice_get-get_or}
 use Rattle.std.proofs.lemmas.Bool.Decides.{nat_tests}
@@ -103,10 +103,6 @@ unfolding with_book
 queues_few w e o book is seat acts before v v' =
     subst (λ (x : Outcome). length (queued_lines seat acts before x v v') ≤ lines_per_entry) (sym is)
     (lines_few seat acts before (outcome_of w e) v v' (outcome_few (asked_of w (seat_of e)) (steps_of w e) (seat_at w (seat_of e)) e))
-
--- so the count of a session's lines doesn't end
-pub counts_on : (post : Post) (count : ℕ) → IsSound post → count ≤ lines_per_entry → post.seat.queued + count < 2 ^ 64
-counts_on post count sound few = let most = sound.queued in omega (arith, most, few)
 
 -- ---- one after another
 

@@ -4,7 +4,7 @@ use Rattle.std.proofs.lemmas.List.{drop_all, drop_more}
 use Rattle.chat.specs.declared.to.To.{To}
 use Rattle.chat.specs.declared.to.To.TheVariants.{Seat}
 use Rattle.chat.specs.Messages.{message_line}
-use Rattle.seats.specs.Book.{Book}
+use Rattle.seats.specs.Book.{Book, counted}
 use Rattle.command_json.specs.declared.command.Command.{Command}
 use Rattle.command_json.specs.declared.command.Command.TheVariants.{Roll}
 use Rattle.command_rules.specs.declared.calls.Called.{Called}
@@ -29,6 +29,11 @@ spoken from to seat (byte ∷ text) h = refl
 pub said_still : (run : Called) (b : Book) (c : Command) → IsRunFor c run → said (drawing run b) c ≡ said b c
 said_still run b (Roll dice to) none = ap (λ r. said (drawing r b) (Roll dice to)) (none refl)
 said_still run b c none = refl
+
+-- a count of lines changes no words
+pub said_counted : (b : Book) (c : Command) → said (counted b) c ≡ said b c
+said_counted b (Roll dice to) = refl
+said_counted b c = refl
 
 -- ---- one text after another
 

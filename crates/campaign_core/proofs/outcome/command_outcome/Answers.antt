@@ -15,32 +15,32 @@ use Rattle.campaign_core.proofs.outcome.command_outcome.Goals as goal
 pub accepted-requires-clause-tag : goal.accepted-requires-clause-tag
 accepted-requires-clause-tag c =
     let asked = asked_of (world_at c.args.state.now) c.args.seat in
-    let allowed = allowed_with asked c.args.seat c.args.book.now c.args.command c.in_ok-refusal.field-0 c.in-Allowed.run c.in_ok-refusal.ensures c.in-Allowed.is in
+    let allowed = allowed_with asked c.args.seat c.args.book.now c.args.command c.in_ok-refusal.field-0 c.in-Allowed.run' c.in_ok-refusal.ensures c.in-Allowed.is in
     may_where_allowed asked c.args.seat c.args.book.now c.args.command c.requires.tags allowed.rule
 
 pub accepted-requires-clause-dice : goal.accepted-requires-clause-dice
 accepted-requires-clause-dice c =
     let asked = asked_of (world_at c.args.state.now) c.args.seat in
-    let allowed = allowed_with asked c.args.seat c.args.book.now c.args.command c.in_ok-refusal.field-0 c.in-Allowed.run c.in_ok-refusal.ensures c.in-Allowed.is in
+    let allowed = allowed_with asked c.args.seat c.args.book.now c.args.command c.in_ok-refusal.field-0 c.in-Allowed.run' c.in_ok-refusal.ensures c.in-Allowed.is in
     rolls_where_allowed asked c.args.seat c.args.book.now c.args.command allowed.rule
 
 pub accepted-requires-clause-text : goal.accepted-requires-clause-text
 accepted-requires-clause-text c =
     let asked = asked_of (world_at c.args.state.now) c.args.seat in
-    let allowed = allowed_with asked c.args.seat c.args.book.now c.args.command c.in_ok-refusal.field-0 c.in-Allowed.run c.in_ok-refusal.ensures c.in-Allowed.is in
+    let allowed = allowed_with asked c.args.seat c.args.book.now c.args.command c.in_ok-refusal.field-0 c.in-Allowed.run' c.in_ok-refusal.ensures c.in-Allowed.is in
     sets_where_allowed asked c.args.seat c.args.book.now c.args.command allowed.rule
 
 pub accepted-requires-clause-run : goal.accepted-requires-clause-run
 accepted-requires-clause-run c =
     let asked = asked_of (world_at c.args.state.now) c.args.seat in
-    let allowed = allowed_with asked c.args.seat c.args.book.now c.args.command c.in_ok-refusal.field-0 c.in-Allowed.run c.in_ok-refusal.ensures c.in-Allowed.is in
+    let allowed = allowed_with asked c.args.seat c.args.book.now c.args.command c.in_ok-refusal.field-0 c.in-Allowed.run' c.in_ok-refusal.ensures c.in-Allowed.is in
     subst (IsRunFor c.args.command) (sym allowed.comes) (no_call asked.readable c.args.seat c.args.book.now.macros (stream_of c.args.book.now) c.args.command)
 
 pub accepted-requires-clause-texts : goal.accepted-requires-clause-texts
 accepted-requires-clause-texts c =
     let w = world_at c.args.state.now in
     let asked = asked_of w c.args.seat in
-    let allowed = allowed_with asked c.args.seat c.args.book.now c.args.command c.in_ok-refusal.field-0 c.in-Allowed.run c.in_ok-refusal.ensures c.in-Allowed.is in
+    let allowed = allowed_with asked c.args.seat c.args.book.now c.args.command c.in_ok-refusal.field-0 c.in-Allowed.run' c.in_ok-refusal.ensures c.in-Allowed.is in
     let few = world_texts w c.args.seat c.args.book.now c.args.command in
     let seats = length-map c.args.state.now.posts (λ (p : Place). p.seat) in
     let count = c.seats-seats.ensures.value in
@@ -56,6 +56,6 @@ returns-in-Refused c =
 pub returns-in-Allowed : goal.returns-in-Allowed
 returns-in-Allowed c =
     let asked = asked_of (world_at c.args.state.now) c.args.seat in
-    let allowed = allowed_with asked c.args.seat c.args.book.now c.args.command c.in_ok-refusal.field-0 c.in-Allowed.run c.in_ok-refusal.ensures c.in-Allowed.is in
+    let allowed = allowed_with asked c.args.seat c.args.book.now c.args.command c.in_ok-refusal.field-0 c.in-Allowed.run' c.in_ok-refusal.ensures c.in-Allowed.is in
     if_ok c.accepted.result _ _
     (λ o is. is ∙ ap (accepted_with 0 c.args.seat c.args.book.now c.args.command) allowed.comes ∙ sym (ap (decided asked 0 c.args.seat c.args.book.now c.args.command) allowed.rule)) c.accepted.ensures
