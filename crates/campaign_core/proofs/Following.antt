@@ -15,6 +15,7 @@ use Rattle.command_json.specs.declared.command.Command.{Command}
 use Rattle.command_effects.specs.Effects.{scene_by}
 use Rattle.command_effects.specs.Settle.{settled}
 use Rattle.command_effects.proofs.Following.{scenes_follow}
+use Rattle.macro_eval.specs.declared.intent.Intent.{Intent}
 use Rattle.world.specs.Scene.{Scene}
 use Rattle.campaign_law.specs.declared.entry.Entry.{Entry}
 use Rattle.campaign_law.specs.Outcome.{seat_of}
@@ -26,13 +27,13 @@ use Rattle.campaign_core.specs.Glances.{ViewsFit}
 use Rattle.campaign_core.specs.Shown.{new_view}
 use Rattle.campaign_core.proofs.Nexts.{players_stay}
 
-still_follows : (steps seat : ℕ) (s : Scene) → Follows s (settled (scene_by steps seat s None))
+still_follows : (steps : ℕ) (intents : List Intent) (seat : ℕ) (s : Scene) → Follows s (settled (scene_by steps intents seat s None))
 unfolding settled scene_by
-still_follows steps seat s = record { sizes = λ name size h. h; lights = λ name h. h; sights = λ name h. h }
+still_follows steps intents seat s = record { sizes = λ name size h. h; lights = λ name h. h; sights = λ name h. h }
 
-by_done : (w : World) (e : Entry) (d : Option Command) → (outcome_of w e).done ≡ d → Follows w.scene (settled (scene_by (steps_of w e) (seat_of e) w.scene d))
-by_done w e None is = still_follows (steps_of w e) (seat_of e) w.scene
-by_done w e (Some c) is = scenes_follow (steps_of w e) (seat_of e) w.scene c (allowed w e (steps_of w e) (outcome_of w e) c refl is)
+by_done : (w : World) (e : Entry) (d : Option Command) → (outcome_of w e).done ≡ d → Follows w.scene (settled (scene_by (steps_of w e) (outcome_of w e).intents (seat_of e) w.scene d))
+by_done w e None is = still_follows (steps_of w e) (outcome_of w e).intents (seat_of e) w.scene
+by_done w e (Some c) is = scenes_follow (steps_of w e) (outcome_of w e).intents (seat_of e) w.scene c (allowed w e (steps_of w e) (outcome_of w e) c refl is)
 
 after_follows : (w : World) (e : Entry) → Follows w.scene (scene_after w e)
 unfolding scene_after

@@ -20,7 +20,9 @@ use Rattle.campaign_law.specs.World.{World, seat_at, asked_of, steps_of, outcome
 use Rattle.campaign_law.specs.Session.{session, leaves, standing, changes_state}
 use Rattle.campaign_law.specs.State.{Post, State, world_in, post_by, post_after, mail_after, state_after, state_of}
 use Rattle.campaign_law.specs.Law.{IsOpening, answer_of}
+use Rattle.campaign_law.specs.Worlds.{FitsTogether}
 use Rattle.campaign_law.proofs.Lists.{ap₂, append_nil, length-mapped_from, mapped_from-same, mapped_from-itself}
+use Rattle.campaign_law.proofs.Queues.{posts_bounded}
 use Rattle.campaign_law.proofs.Seats.{settled-free, settled-none}
 use Rattle.campaign_law.proofs.Sessions.{kept_at, IsKept, world_in-state_of}
 use Rattle.campaign_law.proofs.States.{post_found, slice_get-state_of}
@@ -54,14 +56,15 @@ own_mail post sound = by_free (is_free post.seat.book.state) refl
     by_free true is = sym (free_mail post sound is)
     by_free false is = refl
 
-pub replayed_sound : (w : World) (h : List Entry) (state : State) → IsOpening w → state ≡ state_of w h → AreSound state.posts
-replayed_sound w h state opening is p post at =
+pub replayed_sound : (w : World) (h : List Entry) (state : State) → IsOpening w → FitsTogether w → state ≡ state_of w h → AreSound state.posts
+replayed_sound w h state opening fits is p post at =
     let there = post_found w h p post state is (sym at) in
     let kept : IsKept (session w h p) post.seat = subst (λ o. IfSome o (IsKept (session w h p))) (sym there.seat_is) (kept_at w h p opening) in
     let count = kept.count in
     record {
       settled = kept.sound.settled;
       taken = kept.sound.taken;
+      queued = posts_bounded w h state p post opening fits is (sym at);
       mail = ap length there.mail_is ∙ length-drop post.seat.taken (session w h p) ∙ ap (λ n. n - post.seat.taken) count;
     }
 

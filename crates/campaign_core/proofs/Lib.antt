@@ -1,5 +1,7 @@
 pub mod Openings
 pub mod Steps
+pub mod Saying
+pub mod Judging
 pub mod Allowing
 pub mod Nexts
 pub mod Bounds

@@ -7,14 +7,18 @@ use Rattle.seats.specs.Book.{Book}
 use Rattle.views.specs.declared.view.View.{View}
 use Rattle.world.specs.Scene.{Scene}
 use Rattle.campaign_law.specs.Seat.{Seat, settled}
-use Rattle.campaign_law.specs.Outcome.{Outcome}
-use Rattle.campaign_law.specs.World.{World, changed, queued_lines, seat_by, mapped_from}
+use Rattle.campaign_law.specs.declared.entry.Entry.{Entry}
+use Rattle.campaign_law.specs.Outcome.{Outcome, seat_of}
+use Rattle.campaign_law.specs.SessionLaws.{lines_per_entry}
+use Rattle.campaign_law.specs.World.{World, asked_of, changed, queued_lines, outcome_of, seat_at, seat_by, steps_of, mapped_from}
 use Rattle.campaign_law.specs.State.{Post, State, world_in, post_by, mail_after}
 use Rattle.campaign_law.proofs.Lists.{ap₂, mapped_from-same}
+use Rattle.campaign_law.proofs.Messages.{outcome_few}
+use Rattle.campaign_law.proofs.Queues.{lines_few}
 use Rattle.campaign_core.specs.declared.state.NextPost.{NextPost}
 use Rattle.campaign_core.specs.Places.{Place, Standing, posted, law, world_at, next_seat, moved, put_in, made_in, next_at, put_all, HaveRoom}
 use Rattle.campaign_core.specs.Steps.{with_book}
-use Rattle.campaign_core.specs.Sound.{IsSound, AreSound}
+use Rattle.campaign_core.specs.Sound.{IsSound, AreSound, QueuesFew}
 use Rattle.campaign_core.proofs.Leaving.{rests}
 
 not_before : (a n : ℕ) → a ≡ n → ltb a n ≡ false
@@ -92,6 +96,13 @@ still_left actor number false left after book at there is = is ∙ there ∙ ap 
 pub empty_items : {A : Type 0} (n : ℕ) (xs : List A) → eqb n 0 ≡ true → n ≡ length xs → xs ≡ []
 empty_items n [] e h = refl
 empty_items n (x ∷ xs) e h = let none : n ≡ 0 = eqb-true n 0 e in absurd (omega (arith, none, h))
+
+-- an entry queues few lines
+pub queues_few : (w : World) (e : Entry) (o : Outcome) (book : Option Book) → with_book o book ≡ outcome_of w e → QueuesFew o
+unfolding with_book
+queues_few w e o book is seat acts before v v' =
+    subst (λ (x : Outcome). length (queued_lines seat acts before x v v') ≤ lines_per_entry) (sym is)
+    (lines_few seat acts before (outcome_of w e) v v' (outcome_few (asked_of w (seat_of e)) (steps_of w e) (seat_at w (seat_of e)) e))
 
 -- ---- one after another
 

@@ -53,7 +53,7 @@ pub running_settled : (origin : World) (h : List Entry) (room : ℕ) (before : S
 running_settled origin h room before kept stage r = subst (λ (w : World). IsSettled w.scene) (sym (world_now origin h room before kept stage r)) (replay_settled origin h r.opening.scene)
 
 pub running_sound : (origin : World) (h : List Entry) (room : ℕ) (before : Standing) (kept : Kept) (stage : Option Staged) → IsRunning origin h room before kept stage → AreSound (law before).posts
-running_sound origin h room before kept stage r = replayed_sound origin h (law before) r.opening r.now
+running_sound origin h room before kept stage r = replayed_sound origin h (law before) r.opening r.fits r.now
 
 pub running_fits : (origin : World) (h : List Entry) (room : ℕ) (before : Standing) (kept : Kept) (stage : Option Staged) → IsRunning origin h room before kept stage → FitsTogether (world_in (law before))
 running_fits origin h room before kept stage r = subst FitsTogether (sym (world_now origin h room before kept stage r)) (fits_always origin h r.fits)

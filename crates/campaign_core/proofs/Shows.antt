@@ -77,7 +77,7 @@ still_by : (w : World) (e : Entry) (fields : List (TokenId × Cells)) (changed :
     → is_kept (is_none changed) (outcome_of w e) seat ≡ true → view_of (scene_after w e) seat ≡ view_of w.scene seat
 unfolding scene_after
 still_by w e fields None seat settled h is = ap (λ (s : Scene). view_of s seat) h
-still_by w e fields (Some changed) seat settled h is = unmarked (steps_of w e) (seat_of e) w.scene (outcome_of w e).done seat settled (none_marked (marks (outcome_of w e).done seat) is)
+still_by w e fields (Some changed) seat settled h is = unmarked (steps_of w e) (outcome_of w e).intents (seat_of e) w.scene (outcome_of w e).done seat settled (none_marked (marks (outcome_of w e).done seat) is)
   where
     none_marked : (b : Bool) → not b ≡ true → b ≡ false
     none_marked true k = let no : false ≡ true = k in cc

@@ -11,23 +11,26 @@ use Rattle.command_json.specs.declared.command.LineFault.{LineFault}
 use Rattle.player_view.specs.Asked.{Asked}
 use Rattle.command_rules.specs.declared.refusal.Refusal.{Refusal}
 use Rattle.command_rules.specs.declared.refusal.Refusal.TheVariants.{NoHello}
+use Rattle.command_rules.specs.MacroRules.{called}
 use Rattle.campaign_law.specs.declared.entry.Entry.{Entry}
 use Rattle.campaign_law.specs.declared.entry.Entry.TheVariants.{Join, Line, Leave, Taken}
 use Rattle.campaign_law.specs.Seat.{Seat}
 use Rattle.campaign_law.specs.Outcome.{accepted, broken_rule, decided, join_outcome, outcome_at, read_outcome, refused_direct}
 use Rattle.campaign_core.specs.Steps.{steps_line, told}
 
-told_accepted : (steps seat : ℕ) (b : Book) (c : Command) → told (steps_line steps (accepted 0 seat b c)) (accepted 0 seat b c) ≡ accepted steps seat b c
-told_accepted steps seat b (Move token path) = refl
-told_accepted steps seat b c = refl
+-- a move runs no macro, so that its book is the counted one
+told_accepted : (asked : Asked) (steps seat : ℕ) (b : Book) (c : Command) → told (steps_line steps (accepted asked 0 seat b c)) (accepted asked 0 seat b c) ≡ accepted asked steps seat b c
+unfolding called
+told_accepted asked steps seat b (Move token path) = refl
+told_accepted asked steps seat b c = refl
 
-told_decided : (steps seat : ℕ) (b : Book) (c : Command) (r : Option Refusal) → told (steps_line steps (decided 0 seat b c r)) (decided 0 seat b c r) ≡ decided steps seat b c r
-told_decided steps seat b c None = told_accepted steps seat b c
-told_decided steps seat b c (Some refusal) = refl
+told_decided : (asked : Asked) (steps seat : ℕ) (b : Book) (c : Command) (r : Option Refusal) → told (steps_line steps (decided asked 0 seat b c r)) (decided asked 0 seat b c r) ≡ decided asked steps seat b c r
+told_decided asked steps seat b c None = told_accepted asked steps seat b c
+told_decided asked steps seat b c (Some refusal) = refl
 
 told_read : (asked : Asked) (steps seat : ℕ) (b : Book) (r : Result Command LineFault) → told (steps_line steps (read_outcome asked 0 seat b r)) (read_outcome asked 0 seat b r) ≡ read_outcome asked steps seat b r
 told_read asked steps seat b (Err fault) = refl
-told_read asked steps seat b (Ok command) = told_decided steps seat b command (broken_rule asked seat b command)
+told_read asked steps seat b (Ok command) = told_decided asked steps seat b command (broken_rule asked seat b command)
 
 told_line : (asked : Asked) (steps seat : ℕ) (b : Book) (r : Result Command LineFault) (j : Bool)
     → told (steps_line steps (cond j (read_outcome asked 0 seat b r) (refused_direct 0 NoHello))) (cond j (read_outcome asked 0 seat b r) (refused_direct 0 NoHello)) ≡ cond j (read_outcome asked steps seat b r) (refused_direct 0 NoHello)

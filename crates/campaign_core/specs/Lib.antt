@@ -1,6 +1,7 @@
 pub mod Opening
 pub mod Steps
 pub mod Allowing
+pub mod Rulings
 pub mod Places
 pub mod Sound
 pub mod Leaving

@@ -72,7 +72,7 @@ pub(crate) fn made_by<E: Eye>(
     ensures prepared { IfOk result (IsPrepared (law state.now) keep.now entry.now) }
     ensures looks { E.looks_made eye.new ≤ E.looks_made eye.old + looks_of state.now.scene (outcome_of (world_at state.now) entry.now).done }
 {
-    let (steps, mut outcome) = decide(alloc, state, entry)?;
+    let (steps, mut outcome) = decide(alloc, state, keep, entry)?;
     let changed = changed_scene(alloc, state, keep, eye, entry, &outcome, steps)?;
     let book = take_book(&mut outcome);
     let NextSeats { nexts, views } = seats_after(
@@ -176,7 +176,8 @@ pub(crate) fn changed_scene<E: Eye>(
     let before = state.scene();
     // The scene tells with its maps that its parts fit together.
     let _maps = before.maps();
-    let Some(scene) = scene_by(alloc, before, entry.seat(), command, steps)? else {
+    let intents = &outcome.intents;
+    let Some(scene) = scene_by(alloc, before, entry.seat(), command, steps, intents)? else {
         return Ok(None);
     };
     // The table tells with its length that no id is there twice.

@@ -19,11 +19,12 @@ use Rattle.campaign_json.specs.Reading.{Fails, needed, field, under}
 use Rattle.campaign_json.specs.Kinds.{list}
 use Rattle.campaign_scene.specs.Kept.{kept}
 use Rattle.campaign_file.specs.Campaign.{players_in, players_among}
-use Rattle.campaign_file.specs.Seats.{seat, seated, untagged, IsFreshAt, AreFreshFrom}
+use Rattle.campaign_file.specs.Macros.{unfilled}
+use Rattle.campaign_file.specs.Seats.{seat, seated, IsFreshAt, AreFreshFrom}
 use Rattle.campaign_json.proofs.Each.{IsReadTo, read_more}
 
--- a fresh book stays fresh with tags
-pub fresh_at : (place : ℕ) (book : Book) (key seed : List ℕ) (drawn : ℕ) → untagged book ≡ untagged (fresh_book place key seed drawn) → IsFreshAt place book
+-- a fresh book stays fresh with tags and macros
+pub fresh_at : (place : ℕ) (book : Book) (key seed : List ℕ) (drawn : ℕ) → unfilled book ≡ unfilled (fresh_book place key seed drawn) → IsFreshAt place book
 fresh_at place book key seed drawn e = record {
   seat = ap (λ b. b.seat) e;
   fresh = record { state = ap (λ b. b.state) e; lines = ap (λ b. b.lines) e };

@@ -1,2 +1,3 @@
 pub mod Campaign
+pub mod Macros
 pub mod Seats

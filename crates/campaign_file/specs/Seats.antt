@@ -9,13 +9,10 @@ use Rattle.campaign_json.specs.declared.faults.Rule.TheVariants.{Range, Twice}
 use Rattle.campaign_json.specs.declared.faults.BadCampaign.{BadCampaign}
 use Rattle.campaign_json.specs.Reading.{asked, field, under, each}
 use Rattle.campaign_scene.specs.Fog.{fog}
-use Rattle.campaign_json.specs.Kinds.{whole, text, list, object, only, seed, tag, empty_object}
+use Rattle.campaign_file.specs.Macros.{macros}
+use Rattle.campaign_json.specs.Kinds.{whole, text, list, object, only, seed, tag}
 
 -- ---- tags
-
--- a book but for its tags
-abbrev pub untagged : Book → Book
-untagged book = record book { tags = [] }
 
 -- a tag that the seat used, after those before
 unfoldable pub used_tag : Book → Data → Result Book BadCampaign
@@ -44,10 +41,10 @@ seat place s d = do
   seed ← field (codes "seed") seed d
   drawn ← field (codes "drawn") (whole 0 (drawn_limit - 1)) d
   book ← tags (fresh_book place key seed drawn) d
-  macros ← field (codes "macros") empty_object d
+  filled ← macros book d
   exposed ← fog place s d
   no_others ← only seat_keys d
-  Ok (book, exposed)
+  Ok (filled, exposed)
 
 -- a seat more, whose number is its place
 unfoldable pub seated : ℕ → World → Data → Result World BadCampaign

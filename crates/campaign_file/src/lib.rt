@@ -4,10 +4,9 @@
 //! others are allowed. The fields of an object are read in a fixed order, each whole before the next,
 //! and the first breach is the answer, with its path (a JSON pointer, RFC 6901) and its rule. All else
 //! of the format is this project's own.
-//!
-//! The macros of seats can't be read yet, and have to be empty.
 #![tactic(auto)]
 
+mod macros;
 mod root;
 mod seat;
 

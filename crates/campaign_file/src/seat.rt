@@ -5,8 +5,10 @@ ghost use Rattle.json_fields.specs.Objects.{Gives};
 ghost use Rattle.campaign_json.specs.Reading.{Fails, under, each};
 ghost use Rattle.campaign_scene.specs.Kept.{kept};
 ghost use Rattle.campaign_file.specs.Campaign.{players_in};
-ghost use Rattle.campaign_file.specs.Seats.{seat as seat_lem, seated, seats as seats_lem, tags as tags_lem, used_tag, untagged, IsFreshAt, AreFreshFrom, IsOpening};
+ghost use Rattle.campaign_file.specs.Macros.{unfilled};
+ghost use Rattle.campaign_file.specs.Seats.{seat as seat_lem, seated, seats as seats_lem, tags as tags_lem, used_tag, IsFreshAt, AreFreshFrom, IsOpening};
 
+use crate::macros::read_macros;
 use campaign_json::fields::{self, check_object, check_only};
 use campaign_json::{FileFault, Rule, broken, kinds};
 use campaign_scene::read_fog;
@@ -82,7 +84,7 @@ fn read_seat(
     let drawn = fields::whole(alloc, value, "drawn", 0, MOST_DRAWN)?;
     let book = SeatBook::new(alloc, seat, Text::copy(alloc, key)?, seed, drawn);
     let book = read_tags(alloc, value, book)?;
-    fields::empty_object(alloc, value, "macros")?;
+    let book = read_macros(alloc, value, book)?;
     let scene = read_fog(alloc, seat, value, scene)?;
     check_only(alloc, value, &SEAT_KEYS)?;
     Ok((book, scene))
@@ -92,7 +94,7 @@ fn read_seat(
 #[tactic(auto, unfolding(crate::specs::Seats::tags))]
 fn read_tags(alloc: Global, value: &Value, book: SeatBook) -> Result<SeatBook, FileFault>
     ensures exact { Gives Fails (λ b. b) result (tags_lem book (view value.now)) }
-    ensures rest { IfOk result (λ b. untagged b ≡ untagged book) }
+    ensures rest { IfOk result (λ b. unfilled b ≡ unfilled book) }
 {
     let values = fields::list(alloc, value, "tags", 0, most_tags(book.seat()))?;
     each_tag(alloc, values, book)
@@ -101,7 +103,7 @@ fn read_tags(alloc: Global, value: &Value, book: SeatBook) -> Result<SeatBook, F
 fn each_tag(alloc: Global, values: &[Value], mut book: SeatBook) -> Result<SeatBook, FileFault>
     ensures exact { Gives Fails (λ b. b) result
         (under (codes "tags") (each (λ place. used_tag) 0 book (items_view values.now))) }
-    ensures rest { IfOk result (λ b. untagged b ≡ untagged book) }
+    ensures rest { IfOk result (λ b. unfilled b ≡ unfilled book) }
 {
     for (place, value) in values.iter().enumerate() {
         book = match read_tag(alloc, value, book) {
@@ -115,7 +117,7 @@ fn each_tag(alloc: Global, values: &[Value], mut book: SeatBook) -> Result<SeatB
 #[tactic(auto, unfolding(crate::specs::Seats::used_tag))]
 fn read_tag(alloc: Global, value: &Value, mut book: SeatBook) -> Result<SeatBook, FileFault>
     ensures exact { Gives Fails (λ b. b) result (used_tag book (view value.now)) }
-    ensures rest { IfOk result (λ b. untagged b ≡ untagged book) }
+    ensures rest { IfOk result (λ b. unfilled b ≡ unfilled book) }
 {
     let name = match kinds::tag(value) {
         Ok(name) => name,

@@ -84,6 +84,20 @@ fn takes_another_spelling(rt: HostRuntime) -> Result<(), Fail> {
 }
 
 #[test]
+fn takes_macros(rt: HostRuntime) -> Result<(), Fail> {
+    let macros = r#""macros":{"hit":"[r: 1d20] hit","bye":""}"#;
+    let text = TWO_SEATS.replacen(rt.alloc(), r#""macros":{}"#, macros, 1)?;
+    let Ok(world) = read_campaign(rt.alloc(), text.as_bytes()) else {
+        return Err("the text is a campaign".into());
+    };
+    let book = world.seats().get(0).ok_or("two seats")?;
+    assert_eq!(rt; book.macro_count(), 2);
+    let hit = book.macro_text(Tag::read(b"hit")?).ok_or("a macro")?;
+    assert_eq!(rt; hit.text(), "[r: 1d20] hit");
+    Ok(())
+}
+
+#[test]
 fn takes_a_cave(rt: HostRuntime) -> Result<(), Fail> {
     let Ok(world) = read_campaign(rt.alloc(), CAVE.as_bytes()) else {
         return Err("the text is a campaign".into());
@@ -279,9 +293,27 @@ fn tells_the_first_breach_of_a_seat(rt: HostRuntime) -> Result<(), Fail> {
         ),
         (
             "\"macros\":{}",
-            "\"macros\":{\"m\":\"\"}",
-            "/seats/0/macros",
+            "\"macros\":{\"m\":0}",
+            "/seats/0/macros/m",
+            Rule::Kind,
+        ),
+        (
+            "\"macros\":{}",
+            "\"macros\":{\"m\":\"\",\"a/\":0}",
+            "/seats/0/macros/a~1",
             Rule::Form,
+        ),
+        (
+            "\"macros\":{}",
+            "\"macros\":{\"m\":\"[d6]\"}",
+            "/seats/0/macros/m",
+            Rule::Form,
+        ),
+        (
+            "\"macros\":{}",
+            "\"macros\":{\"m\":\"[r: 101d6]\"}",
+            "/seats/0/macros/m",
+            Rule::Range,
         ),
         (
             "\"fog\":{}",

@@ -9,7 +9,7 @@ use Rattle.names.specs.Words.{mode_of, layer_of}
 use Rattle.names.specs.declared.kinds.Layer.{Layer}
 use Rattle.names.specs.declared.kinds.Mode.{Mode}
 use Rattle.names.specs.declared.token_id.TokenId.{TokenId}
-use Rattle.serde_json.specs.Data.{Data, Items, Members, no_members, member}
+use Rattle.serde_json.specs.Data.{Data, Items, Members}
 use Rattle.serde_json.specs.Events.{members_len}
 use Rattle.serde_json.specs.Find.{as_bool, as_str, as_array, as_object}
 use Rattle.json_fields.specs.Kinds.{integer_of, within, sized, counted}
@@ -120,13 +120,3 @@ unfoldable pub seed : Data → Result (List ℕ) BadCampaign
 seed d = do
   digits ← text 64 64 d
   needed Form (seed_of digits)
-
--- ---- a part that can't be read yet
-
-abbrev pub no_member : Members → Result (Unit {0}) BadCampaign
-no_member no_members = Ok tt
-no_member (member key d rest) = broken Form
-
--- an object, which has to be empty for now
-abbrev pub empty_object : Data → Result (Unit {0}) BadCampaign
-empty_object d = needed Kind (as_object d) >>= no_member

@@ -18,9 +18,9 @@ pub enum Rule {
     Unknown,
     /// A value is of another kind of JSON, or a number that isn't whole.
     Kind,
-    /// A number, a length of text or a number of items is off its range.
+    /// A number, a length of text or a number of items is off its range, or a macro's dice are off their limits.
     Range,
-    /// A text is off its grammar, or a part that can't be read yet isn't empty.
+    /// A text is off its grammar.
     Form,
     /// An item, a name or an id stood before.
     Twice,

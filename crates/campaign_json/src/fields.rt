@@ -5,8 +5,9 @@ ghost use Rattle.std.specs.Prelude.{◌≡◌, ◌≤◌, [], length, map, Some,
 ghost use Rattle.serde_json.specs.Find.{get, at};
 ghost use Rattle.serde_json.specs.View.{view, items_view, members_view};
 ghost use Rattle.json_fields.specs.Objects.{Gives};
-ghost use Rattle.campaign_json.specs.Reading.{pointer, field, item_at, Fails, IsBreach};
-ghost use Rattle.campaign_json.specs.Kinds.{list as list_lem, exactly, members as members_lem, boolean as boolean_lem, mode as mode_lem, layer as layer_lem, integer as integer_lem, whole as whole_lem, text as text_lem, seed as seed_lem, only as only_lem, object as object_lem, items as items_lem, entries as entries_lem, empty_object as empty_object_lem};
+ghost use Rattle.names.specs.Tag.{tag_of};
+ghost use Rattle.campaign_json.specs.Reading.{pointer, needed as needed_lem, field, item_at, Fails, IsBreach};
+ghost use Rattle.campaign_json.specs.Kinds.{list as list_lem, exactly, members as members_lem, boolean as boolean_lem, mode as mode_lem, layer as layer_lem, integer as integer_lem, whole as whole_lem, text as text_lem, seed as seed_lem, only as only_lem, object as object_lem, items as items_lem, entries as entries_lem};
 
 use crate::faults::{FileFault, Rule, broken, broken_at, broken_item};
 use crate::kinds;
@@ -258,13 +259,12 @@ pub fn entries<'v>(
     }
 }
 
-/// An object that has to be empty for now.
-pub fn empty_object(alloc: Global, value: &Value, key: &str) -> Result<(), FileFault>
-    ensures { Gives Fails (λ u. u) result (field key.now empty_object_lem (view value.now)) }
+/// The tag that a key of an object is.
+pub fn tag_key(alloc: Global, key: &str) -> Result<Tag, FileFault>
+    ensures { Gives Fails (λ t. t) result (needed_lem Rule.Form (tag_of key.now)) }
 {
-    let field = needed(alloc, value, key)?;
-    match kinds::empty_object(field) {
-        Ok(()) => Ok(()),
-        Err(rule) => Err(broken_at(alloc, key, rule)),
+    match Tag::read(key.as_bytes()) {
+        Ok(tag) => Ok(tag),
+        Err(_) => Err(broken(alloc, Rule::Form)),
     }
 }

@@ -7,7 +7,7 @@ ghost use Rattle.hex.specs.Hex.{decode_sized};
 ghost use Rattle.serde_json.specs.View.{view, items_view, members_view};
 ghost use Rattle.json_fields.specs.Kinds.{within};
 ghost use Rattle.campaign_json.specs.Reading.{here};
-ghost use Rattle.campaign_json.specs.Kinds.{whole as whole_lem, text as text_lem, list as list_lem, object as object_lem, only as only_lem, seed as seed_lem, seed_of, is_lower_hex as is_lower_hex_lem, integer as integer_lem, boolean as boolean_lem, members as members_lem, tag as tag_lem, mode as mode_lem, layer as layer_lem, id as id_lem, items as items_lem, entries as entries_lem, name as name_lem, empty_object as empty_object_lem};
+ghost use Rattle.campaign_json.specs.Kinds.{whole as whole_lem, text as text_lem, list as list_lem, object as object_lem, only as only_lem, seed as seed_lem, seed_of, is_lower_hex as is_lower_hex_lem, integer as integer_lem, boolean as boolean_lem, members as members_lem, tag as tag_lem, mode as mode_lem, layer as layer_lem, id as id_lem, items as items_lem, entries as entries_lem, name as name_lem};
 
 use crate::faults::Rule;
 use hex::FromHex;
@@ -219,16 +219,4 @@ fn is_lower_hex(byte: u8) -> bool
     ensures { result ≡ is_lower_hex_lem byte }
 {
     matches!(byte, b'0'..=b'9' | b'a'..=b'f')
-}
-
-/// An object that has to be empty for now.
-#[tactic(auto, using(crate::proofs::Lists::members_not_empty))]
-pub fn empty_object(value: &Value) -> Result<(), Rule>
-    ensures { here (λ u. u) result ≡ empty_object_lem (view value.now) }
-{
-    match value.as_object() {
-        None => Err(Rule::Kind),
-        Some(members) if members.is_empty() => Ok(()),
-        Some(_) => Err(Rule::Form),
-    }
 }

@@ -13,11 +13,15 @@ use Rattle.command_json.specs.declared.command.Command.TheVariants.{Make, Token}
 use Rattle.command_json.specs.declared.command.LineFault.{LineFault}
 use Rattle.command_rules.specs.declared.refusal.Refusal.{Refusal}
 use Rattle.command_rules.specs.declared.refusal.Refusal.TheVariants.{NoHello}
+use Rattle.command_rules.specs.declared.calls.Called.{Called}
+use Rattle.command_rules.specs.declared.calls.Called.TheVariants as calls
+use Rattle.command_rules.specs.MacroRules.{NewText, new_text_in}
+use Rattle.command_effects.specs.MacroEffects.{with_text, setting_text, drawing}
 use Rattle.command_effects.specs.Tags.{tag_made, using_tag}
 use Rattle.player_view.specs.Asked.{Asked}
 use Rattle.campaign_law.specs.declared.entry.Entry.{Entry}
 use Rattle.campaign_law.specs.declared.entry.Entry.TheVariants.{Join, Line, Leave, Taken}
-use Rattle.campaign_law.specs.Outcome.{Outcome, join_outcome, present_outcome, read_outcome, broken_rule, decided, refused_direct, book_done, rolling, dice_in, is_bye}
+use Rattle.campaign_law.specs.Outcome.{Outcome, join_outcome, present_outcome, read_outcome, broken_rule, called_by, accepted_with, decided, refused_direct, book_done, rolling, dice_in, is_bye}
 
 -- the second is the same seat's, with the same key, and has the tags of the first
 pub record Follows (b c : Book) : Type 0 where
@@ -41,6 +45,19 @@ rolling_follows : (dice : Option (List ℕ)) (b : Book) → Follows b (rolling d
 rolling_follows None b = follows_itself b
 rolling_follows (Some dice) b = record { seat = refl; key = refl; tags = λ tag h. h }
 
+text_follows : (name : List ℕ) (text : Option (List ℕ)) (b : Book) → Follows b (with_text name text b)
+text_follows name None b = record { seat = refl; key = refl; tags = λ tag h. h }
+text_follows name (Some text) b = record { seat = refl; key = refl; tags = λ tag h. h }
+
+setting_follows : (new : Option NewText) (b : Book) → Follows b (setting_text new b)
+setting_follows None b = follows_itself b
+setting_follows (Some new) b = text_follows new.name new.text b
+
+drawing_follows : (run : Called) (b : Book) → Follows b (drawing run b)
+drawing_follows calls.NoRun b = follows_itself b
+drawing_follows (calls.Stopped refusal) b = follows_itself b
+drawing_follows (calls.Ran run) b = record { seat = refl; key = refl; tags = λ tag h. h }
+
 using_follows : (made : Option (List ℕ)) (b : Book) → Follows b (using_tag made b)
 using_follows None b = follows_itself b
 using_follows (Some tag) b = record { seat = refl; key = refl; tags = λ other h. used_still b.tags tag other h }
@@ -51,9 +68,12 @@ then_follows b c d f g = record { seat = g.seat ∙ f.seat; key = g.key ∙ f.ke
 done_follows : (c : Command) (b : Book) → Follows b (book_done c b)
 done_follows c b = by (is_bye c)
   where
-    by : (t : Bool) → Follows b (cond t (left b) (using_tag (tag_made c) (rolling (dice_in c) b)))
+    by : (t : Bool) → Follows b (cond t (left b) (using_tag (tag_made c) (setting_text (new_text_in c) (rolling (dice_in c) b))))
     by true = record { seat = refl; key = refl; tags = λ tag h. h }
-    by false = then_follows b (rolling (dice_in c) b) _ (rolling_follows (dice_in c) b) (using_follows (tag_made c) (rolling (dice_in c) b))
+    by false =
+        let rolled : Book = rolling (dice_in c) b in
+        let set : Book = setting_text (new_text_in c) rolled in
+        then_follows b rolled _ (rolling_follows (dice_in c) b) (then_follows rolled set _ (setting_follows (new_text_in c) rolled) (using_follows (tag_made c) set))
 
 last_used : (tags : List (List ℕ)) (tag : List ℕ) → tag_used (tags ++ tag ∷ []) tag ≡ true
 last_used [] tag = rw (same_name tag) refl
@@ -69,17 +89,21 @@ made_used (Make made map place name) tag b h = let e : made ≡ tag = cc in subs
 made_used (Token made map place name size layer) tag b h = let e : made ≡ tag = cc in subst (λ t. tag_used (b.tags ++ made ∷ []) t ≡ true) e (last_used b.tags made)
 made_used c tag b h = cc
 
-decided_keeps : (steps seat : ℕ) (b : Book) (c : Command) (r : Option Refusal) → KeepsBook b (decided steps seat b c r)
-decided_keeps steps seat b c None = record {
-  book = then_follows b (counted b) (book_done c (counted b)) (counted_follows b) (done_follows c (counted b));
-  made = λ d tag is made. let e : c ≡ d = cc in made_used c tag (counted b) (ap tag_made e ∙ made);
-  done = λ d is. (book_done c (counted b), refl);
-}
-decided_keeps steps seat b c (Some r) = record { book = counted_follows b; made = λ d tag is made. absurd cc; done = λ d is. absurd cc }
+accepted_keeps : (steps seat : ℕ) (b : Book) (c : Command) (run : Called) → KeepsBook b (accepted_with steps seat b c run)
+accepted_keeps steps seat b c run =
+    let drawn : Book = drawing run (counted b) in record {
+      book = then_follows b (counted b) _ (counted_follows b) (then_follows (counted b) drawn _ (drawing_follows run (counted b)) (done_follows c drawn));
+      made = λ d tag is made. let e : c ≡ d = cc in made_used c tag drawn (ap tag_made e ∙ made);
+      done = λ d is. (book_done c drawn, refl);
+    }
+
+decided_keeps : (asked : Asked) (steps seat : ℕ) (b : Book) (c : Command) (r : Option Refusal) → KeepsBook b (decided asked steps seat b c r)
+decided_keeps asked steps seat b c None = accepted_keeps steps seat b c (called_by asked seat b c)
+decided_keeps asked steps seat b c (Some r) = record { book = counted_follows b; made = λ d tag is made. absurd cc; done = λ d is. absurd cc }
 
 read_keeps : (asked : Asked) (steps seat : ℕ) (b : Book) (r : Result Command LineFault) → KeepsBook b (read_outcome asked steps seat b r)
 read_keeps asked steps seat b (Err fault) = record { book = counted_follows b; made = λ d tag is made. absurd cc; done = λ d is. absurd cc }
-read_keeps asked steps seat b (Ok c) = decided_keeps steps seat b c (broken_rule asked seat b c)
+read_keeps asked steps seat b (Ok c) = decided_keeps asked steps seat b c (broken_rule asked seat b c)
 
 join_keeps : (asked : Asked) (b : Book) (reader writer : ℕ) (r : Option JoinRefusal) → KeepsBook b (join_outcome asked b reader writer r)
 join_keeps asked b reader writer (Some r) = record { book = tt; made = λ d tag is made. tt; done = λ d is. absurd cc }

@@ -21,7 +21,7 @@ use Rattle.command_effects.proofs.Players.{players_kept}
 use Rattle.campaign_law.specs.declared.entry.Entry.{Entry}
 use Rattle.campaign_law.specs.Seat.{Seat, IsFreshSeat, was_joined}
 use Rattle.campaign_law.specs.Outcome.{seat_of}
-use Rattle.campaign_law.specs.World.{World, seat_at, asked_of, steps_of, outcome_of, scene_after, is_present, step, replay}
+use Rattle.campaign_law.specs.World.{World, seat_at, asked_of, steps_of, outcome_of, made_by, scene_after, is_present, step, replay}
 use Rattle.campaign_law.specs.Law.{IsOpening}
 use Rattle.campaign_law.specs.Worlds.{FitsTogether}
 use Rattle.campaign_law.specs.Client.{told_of, held_after, held_from, ClientHoldsView}
@@ -37,10 +37,10 @@ settling_follows : (s : Scene) → Follows s (settled s)
 unfolding settled
 settling_follows s = record { sizes = λ name size there. there; lights = λ name there. there; sights = λ name there. there }
 
-follows_by : (w : World) (e : Entry) (o : Option Command) → (outcome_of w e).done ≡ o → Follows w.scene (settled (scene_by (steps_of w e) (seat_of e) w.scene o))
+follows_by : (w : World) (e : Entry) (o : Option Command) → (outcome_of w e).done ≡ o → Follows w.scene (settled (scene_by (steps_of w e) (outcome_of w e).intents (seat_of e) w.scene o))
 unfolding scene_by
 follows_by w e None none = settling_follows w.scene
-follows_by w e (Some c) done = scenes_follow (steps_of w e) (seat_of e) w.scene c (allowed w e (steps_of w e) (outcome_of w e) c refl done)
+follows_by w e (Some c) done = scenes_follow (steps_of w e) (outcome_of w e).intents (seat_of e) w.scene c (allowed w e (steps_of w e) (outcome_of w e) c refl done)
 
 scene_follows : (w : World) (e : Entry) → Follows w.scene (scene_after w e)
 unfolding scene_after
@@ -48,7 +48,7 @@ scene_follows w e = follows_by w e (outcome_of w e).done refl
 
 players_after : (w : World) (e : Entry) → (scene_after w e).fog.players ≡ w.scene.fog.players
 unfolding scene_after
-players_after w e = same_players w e (scene_by (steps_of w e) (seat_of e) w.scene (outcome_of w e).done) ∙ players_kept (steps_of w e) (seat_of e) w.scene (outcome_of w e).done
+players_after w e = same_players w e (made_by w e) ∙ players_kept (steps_of w e) (outcome_of w e).intents (seat_of e) w.scene (outcome_of w e).done
 
 -- a seat that is present is there
 present_plays : (w : World) (e : Entry) (seat : ℕ) → FitsTogether w → is_present (eqb (seat_of e) seat) (seat_at w seat) (outcome_of w e) ≡ true → seat ≤ w.scene.fog.players

@@ -8,7 +8,7 @@ use Rattle.command_effects.proofs.KeptScenes.{scene_kept, settled_kept}
 use Rattle.campaign_law.specs.declared.entry.Entry.{Entry}
 use Rattle.campaign_law.specs.Seat.{Seat}
 use Rattle.campaign_law.specs.Outcome.{seat_of}
-use Rattle.campaign_law.specs.World.{World, steps_of, outcome_of, scene_after, step, replay}
+use Rattle.campaign_law.specs.World.{World, steps_of, outcome_of, made_by, scene_after, step, replay}
 use Rattle.campaign_law.specs.Worlds.{FitsTogether}
 use Rattle.campaign_law.proofs.Allowed.{allowed, acts_within}
 use Rattle.campaign_law.proofs.NewTokens.{makes_new}
@@ -22,16 +22,16 @@ seat_plays w seat fits there = let count = mapped_length w.seats in omega (arith
     mapped_length [] = refl
     mapped_length (s ∷ seats) = ap suc (mapped_length seats)
 
-by_command : (w : World) (e : Entry) → FitsTogether w → HasTables w.scene → (o : Option Command) → (outcome_of w e).done ≡ o → HasTables (scene_by (steps_of w e) (seat_of e) w.scene o)
+by_command : (w : World) (e : Entry) → FitsTogether w → HasTables w.scene → (o : Option Command) → (outcome_of w e).done ≡ o → HasTables (scene_by (steps_of w e) (outcome_of w e).intents (seat_of e) w.scene o)
 unfolding scene_by
 by_command w e fits is None none = is
 by_command w e fits is (Some c) done =
-    scene_kept (steps_of w e) (seat_of e) w.scene c (seat_plays w (seat_of e) fits (acts_within w e (steps_of w e) (outcome_of w e) c refl done))
+    scene_kept (steps_of w e) (outcome_of w e).intents (seat_of e) w.scene c (seat_plays w (seat_of e) fits (acts_within w e (steps_of w e) (outcome_of w e) c refl done))
     (allowed w e (steps_of w e) (outcome_of w e) c refl done) (makes_new w e (steps_of w e) (outcome_of w e) c fits refl done) is
 
 pub tables_after : (w : World) (e : Entry) → FitsTogether w → HasTables w.scene → HasTables (scene_after w e)
 unfolding scene_after
-tables_after w e fits is = settled_kept (scene_by (steps_of w e) (seat_of e) w.scene (outcome_of w e).done) (by_command w e fits is (outcome_of w e).done refl)
+tables_after w e fits is = settled_kept (made_by w e) (by_command w e fits is (outcome_of w e).done refl)
 
 -- after each history
 pub tables_always : (w : World) (h : List Entry) → FitsTogether w → HasTables w.scene → HasTables (replay w h).scene

@@ -12,7 +12,7 @@ use Rattle.campaign_law.specs.declared.entry.Entry.{Entry}
 use Rattle.command_effects.specs.Effects.{scene_by}
 use Rattle.command_effects.specs.Settle.{with_sight, settled_set, settled, IsSettled}
 use Rattle.campaign_law.specs.Outcome.{seat_of}
-use Rattle.campaign_law.specs.World.{World, scene_after, outcome_of, steps_of, step, replay}
+use Rattle.campaign_law.specs.World.{World, made_by, scene_after, outcome_of, steps_of, step, replay}
 
 or_twice : (a b : Bool) → ((a || b) || b) ≡ (a || b)
 or_twice true b = refl
@@ -52,7 +52,7 @@ settled_twice s = ap (λ sets. record s { fog = record s.fog { sets = sets } }) 
 
 pub after_settled : (w : World) (e : Entry) → IsSettled (scene_after w e)
 unfolding scene_after
-after_settled w e = settled_twice (scene_by (steps_of w e) (seat_of e) w.scene (outcome_of w e).done)
+after_settled w e = settled_twice (made_by w e)
 
 pub replay_settled : (w : World) (h : List Entry) → IsSettled w.scene → IsSettled (replay w h).scene
 replay_settled w [] is = is
@@ -61,4 +61,4 @@ replay_settled w (e ∷ h) is = replay_settled (step w e) h (after_settled w e)
 -- an entry that no command is done by leaves a settled scene
 pub scene_stays : (w : World) (e : Entry) → IsSettled w.scene → (outcome_of w e).done ≡ None → scene_after w e ≡ w.scene
 unfolding scene_after scene_by
-scene_stays w e is none = ap (λ done. settled (scene_by (steps_of w e) (seat_of e) w.scene done)) none ∙ is
+scene_stays w e is none = ap (λ done. settled (scene_by (steps_of w e) (outcome_of w e).intents (seat_of e) w.scene done)) none ∙ is

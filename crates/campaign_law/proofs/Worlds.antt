@@ -17,7 +17,7 @@ use Rattle.campaign_law.specs.declared.entry.Entry.{Entry}
 use Rattle.campaign_law.specs.declared.entry.Entry.TheVariants.{Join, Line, Leave, Taken}
 use Rattle.campaign_law.specs.Seat.{Seat, let_go, is_let_go, freed_seat, fresh_seat}
 use Rattle.campaign_law.specs.Outcome.{outcome_at, seat_of}
-use Rattle.campaign_law.specs.World.{World, seat_at, asked_of, steps_of, outcome_of, scene_after, seat_after, changed, mapped_from, step, replay, queued_lines}
+use Rattle.campaign_law.specs.World.{World, seat_at, asked_of, steps_of, outcome_of, made_by, scene_after, seat_after, changed, mapped_from, step, replay, queued_lines}
 use Rattle.campaign_law.proofs.Lists.{slice_get-mapped_from, map-mapped_from, length-mapped_from}
 use Rattle.campaign_law.specs.Worlds.{opened_of, opening_world, FitsTogether}
 use Rattle.campaign_law.proofs.Tokens.{all_pass_after}
@@ -128,11 +128,11 @@ module _ (w : World) (e : Entry) where
           subst (λ n. tag_used (book_after n s).tags tag ≡ true) from_start
           (ap (λ tags. tag_used tags tag) (acting_tags s) ∙ of_next s (outcome_of w e).book (kept.made c tag done made) (kept.done c done))
 
-  tokens_after : (o : Option Command) → (outcome_of w e).done ≡ o → are_used (opened_of w).books w.scene.tokens ≡ true → are_used next_books (scene_by (steps_of w e) (seat_of e) w.scene o).tokens ≡ true
+  tokens_after : (o : Option Command) → (outcome_of w e).done ≡ o → are_used (opened_of w).books w.scene.tokens ≡ true → are_used next_books (scene_by (steps_of w e) (outcome_of w e).intents (seat_of e) w.scene o).tokens ≡ true
   unfolding scene_by
   tokens_after None is h = all_pass (λ t. is_used (opened_of w).books t.id) (λ t. is_used next_books t.id) (λ t. used_after t.id) w.scene.tokens h
   tokens_after (Some c) is h =
-      all_pass_after (is_used next_books) (steps_of w e) (seat_of e) w.scene c (made_after c is)
+      all_pass_after (is_used next_books) (steps_of w e) (outcome_of w e).intents (seat_of e) w.scene c (made_after c is)
       (all_pass (λ t. is_used (opened_of w).books t.id) (λ t. is_used next_books t.id) (λ t. used_after t.id) w.scene.tokens h)
 
   pub same_tokens : (s : Scene) → (settled_scene s).tokens ≡ s.tokens
@@ -157,8 +157,8 @@ module _ (w : World) (e : Entry) where
         least = omega (arith, is.least, count);
         most = omega (arith, is.most, count);
         numbered = subst (AreNumberedFrom 0) (sym books_are) (numbered_after 0 w.seats (λ i s at. let from_start : i ≡ 0 + i = omega arith in subst (λ n. Follows s.book (book_after n s)) from_start (after_follows i s at)) is.numbered);
-        players = ap (λ n. n + 1) (same_players (scene_by (steps_of w e) (seat_of e) w.scene (outcome_of w e).done) ∙ players_kept (steps_of w e) (seat_of e) w.scene (outcome_of w e).done) ∙ is.players ∙ sym count;
-        tags = ap (λ books. are_used books (scene_after w e).tokens) books_are ∙ ap (are_used next_books) (same_tokens (scene_by (steps_of w e) (seat_of e) w.scene (outcome_of w e).done)) ∙ tokens_after (outcome_of w e).done refl is.tags;
+        players = ap (λ n. n + 1) (same_players (made_by w e) ∙ players_kept (steps_of w e) (outcome_of w e).intents (seat_of e) w.scene (outcome_of w e).done) ∙ is.players ∙ sym count;
+        tags = ap (λ books. are_used books (scene_after w e).tokens) books_are ∙ ap (are_used next_books) (same_tokens (made_by w e)) ∙ tokens_after (outcome_of w e).done refl is.tags;
       }
 
 -- after each history

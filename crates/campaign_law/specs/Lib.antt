@@ -1,6 +1,7 @@
 pub mod Texts
 pub mod Views
 pub mod Seat
+pub mod Messages
 pub mod Outcome
 pub mod World
 pub mod Session

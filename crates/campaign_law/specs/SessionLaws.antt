@@ -1,15 +1,17 @@
 -- The laws of one session of a seat, over every opening world and every history.
-use Rattle.std.specs.Prelude.{◌≡◌, ◌<◌, ◌≤◌, ℕ, suc, ◌==◌, Bool, true, false, List, [], ◌∷◌, ◌++◌, take, length, slice_get, Some, None}
+use Rattle.std.specs.Prelude.{◌≡◌, ◌<◌, ◌≤◌, ℕ, suc, ◌==◌, Bool, true, false, List, [], ◌∷◌, ◌++◌, ◌*◌, take, length, slice_get, Some, None}
 use mathlib.Core.List.{IsPrefix}
+use Rattle.seats.specs.Book.{line_limit}
 use Rattle.seats.specs.SeatState.{is_free, is_joined}
 use Rattle.seats.specs.declared.seat_state.SeatState.{SeatState}
 use Rattle.campaign_law.specs.declared.entry.Entry.{Entry}
 use Rattle.campaign_law.specs.declared.entry.Entry.TheVariants.{Join, Leave}
 use Rattle.campaign_law.specs.Seat.{Seat}
 use Rattle.campaign_law.specs.Outcome.{seat_of}
-use Rattle.campaign_law.specs.World.{World, seat_at, outcome_of, changed, step, replay}
+use Rattle.campaign_law.specs.World.{World, most_seats, seat_at, outcome_of, changed, step, replay}
 use Rattle.campaign_law.specs.Law.{IsOpening}
-use Rattle.campaign_law.specs.Session.{session, session_at, has_ended, standing, standing_after, is_held_by, is_drop_of, closes, IsSeated, NoneRejoins, DropsNone, TakesAtMost}
+use Rattle.campaign_law.specs.Worlds.{FitsTogether}
+use Rattle.campaign_law.specs.Session.{queued_of, session, session_at, has_ended, standing, standing_after, is_held_by, is_drop_of, closes, IsSeated, NoneRejoins, DropsNone, TakesAtMost}
 
 -- ---- how a session begins, lasts and is left
 
@@ -82,3 +84,20 @@ EndedSessionWasTaken = (w : World) (h : List Entry) (place seat reader writer n 
 abbrev pub TakensBoundSession : Type 0
 TakensBoundSession = (w : World) (h : List Entry) (place seat reader writer count : ℕ) → IsOpening w → IsSeated w h place seat reader writer → TakesAtMost w h place seat count → DropsNone w h place seat → has_ended w h place seat ≡ true
     → length (session_at w h place seat) ≤ count
+
+-- ---- how many lines it has
+
+-- an entry queues for a seat at most a reply, a message and a line on the view
+abbrev pub lines_per_entry : ℕ
+lines_per_entry = 3
+
+abbrev pub EntryQueuesFew : Type 0
+EntryQueuesFew = (w : World) (e : Entry) (seat : ℕ) → length (queued_of w e seat) ≤ lines_per_entry
+
+-- and it queues any only where it counts as a line of its own seat, of which each seat has so many at most
+abbrev pub session_limit : ℕ
+session_limit = lines_per_entry * (most_seats * line_limit)
+
+-- so no more lines than these are queued for a seat since its Join
+abbrev pub QueuedIsBounded : Type 0
+QueuedIsBounded = (w : World) (h : List Entry) (seat : ℕ) (s : Seat) → IsOpening w → FitsTogether w → seat_at (replay w h) seat ≡ Some s → s.queued ≤ session_limit

@@ -43,7 +43,7 @@ OpeningSceneHasTables = (opened : Opened) → HasTables opened.scene → HasTabl
 abbrev pub ScenesHaveTables : Type 0
 ScenesHaveTables = (w : World) (h : List Entry) → FitsTogether w → HasTables w.scene → HasTables (replay w h).scene
 
--- names, sizes and keys stay as a campaign text takes them
+-- names, sizes, keys and the texts of macros stay as a campaign text takes them
 abbrev pub OpeningWorldIsWritten : Type 0
 OpeningWorldIsWritten = (opened : Opened) → IsWritten opened → IsWritten (opened_of (opening_world opened))
 

@@ -1,7 +1,8 @@
--- What a campaign text takes of a world that may have grown: names, sizes and keys.
-use Rattle.std.specs.Prelude.{ℕ, ◌≡◌, ◌&&◌, nat_le, Bool, true, List, length}
+-- What a campaign text takes of a world that may have grown: names, sizes, keys and the texts of macros.
+use Rattle.std.specs.Prelude.{ℕ, ◌≡◌, ◌&&◌, nat_le, Bool, true, List, length, is_ok}
 use Rattle.std.specs.List.{list_all}
 use Rattle.tokens.specs.declared.token.Token.{Token}
+use Rattle.macro_parse.specs.Answers.{macro_of}
 use Rattle.seats.specs.Book.{Book}
 use Rattle.world.specs.World.{World as Opened}
 
@@ -19,6 +20,17 @@ is_written_key key = nat_le 1 (length key) && nat_le (length key) 64
 abbrev pub are_written_keys : List Book → Bool
 are_written_keys books = list_all (λ b. is_written_key b.key) books
 
+-- a macro's text has at most 2,000 bytes, and is one of the grammar of macros with dice within their limits
+abbrev pub is_written_text : List ℕ → Bool
+is_written_text text = nat_le (length text) 2000 && is_ok (macro_of text)
+
+abbrev pub are_written_texts : List (List ℕ × List ℕ) → Bool
+are_written_texts macros = list_all (λ named. is_written_text named.1) macros
+
+abbrev pub are_written_macros : List Book → Bool
+are_written_macros books = list_all (λ b. are_written_texts b.macros) books
+
 pub record IsWritten (w : Opened) : Type 0 where
   pub tokens : are_written_tokens w.scene.tokens ≡ true
   pub keys : are_written_keys w.books ≡ true
+  pub macros : are_written_macros w.books ≡ true

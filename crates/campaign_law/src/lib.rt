@@ -6,7 +6,7 @@
 ghost use Rattle.campaign_law.specs.Law.{SentIsMachine, AgreeingSendAlike, NoLineEndIsSent, RefusedChangesLittle};
 ghost use Rattle.campaign_law.specs.Client.{LinesTellViews, ClientHoldsView};
 ghost use Rattle.campaign_law.specs.Worlds.{OpeningWorldFits, WorldsFit, MadeTokensAreNew, OpeningSceneHasTables, ScenesHaveTables, OpeningWorldIsWritten, WorldsAreWritten};
-ghost use Rattle.campaign_law.specs.SessionLaws.{AcceptedJoinSeats, LeaveCloses, JoinedSeatStays, LastingSessionIsHeld, HeldSessionLasts, SessionGrows, EndedSessionStays, EndedSessionWasTaken, TakensBoundSession};
+ghost use Rattle.campaign_law.specs.SessionLaws.{AcceptedJoinSeats, LeaveCloses, JoinedSeatStays, LastingSessionIsHeld, HeldSessionLasts, SessionGrows, EndedSessionStays, EndedSessionWasTaken, TakensBoundSession, EntryQueuesFew, QueuedIsBounded};
 
 mod answer;
 mod entry;
@@ -29,7 +29,8 @@ pub fn sent_is_machine()
 /// seat, and nothing but a line or a Leave of its own moves a Joined seat. While a session lasts its passes hold the seat, and its
 /// lines are the seat's present ones. In a longer history it has the same lines and further ones behind them, and once its
 /// seat was Free it doesn't change. Where it ends without a Leave that drops lines, the number of lines taken is
-/// the number of its lines.
+/// the number of its lines. An entry queues for a seat three lines at most, and none where it counts as no line of its own seat;
+/// so in a campaign of at most 33 seats no more than 1,622,016 lines are queued for a seat since its Join.
 pub fn session_laws()
     ensures begins { AcceptedJoinSeats }
     ensures leaves { LeaveCloses }
@@ -42,12 +43,15 @@ pub fn session_laws()
 
     ensures taken { EndedSessionWasTaken }
     ensures bounded { TakensBoundSession }
+
+    ensures few { EntryQueuesFew }
+    ensures queued { QueuedIsBounded }
 {}
 
 /// The laws of the worlds of a replay. A world that fits together opens to one that does, and so does each world after it: 1 to 33
 /// seats, numbered by their places, of which all but the first are its scene's players, and each token's maker used its
 /// tag. So a token that an accepted command makes is new. The parts of each scene fit together and its tables stay in order.
-/// Names, sizes and keys stay as a campaign text takes them.
+/// Names, sizes, keys and the texts of macros stay as a campaign text takes them.
 pub fn worlds_fit()
     ensures opens { OpeningWorldFits }
     ensures always { WorldsFit }

@@ -2,15 +2,13 @@
 ghost use Rattle.std.specs.Prelude.{◌≡◌, IfOk, codes};
 ghost use Rattle.serde_json.specs.View.{view, members_view};
 ghost use Rattle.json_fields.specs.Objects.{Gives};
-ghost use Rattle.campaign_json.specs.Reading.{Fails, needed, under, each_member};
-ghost use Rattle.names.specs.Tag.{tag_of};
+ghost use Rattle.campaign_json.specs.Reading.{Fails, under, each_member};
 ghost use Rattle.campaign_scene.specs.Kept.{kept};
 ghost use Rattle.campaign_scene.specs.Types.{light as light_lem, sight as sight_lem, lights as lights_lem, sights as sights_lem};
 
 use campaign_json::fields::{self, check_count};
 use campaign_json::{FileFault, Rule, broken, kinds};
 use lights::LightFault;
-use names::Tag;
 use serde_json::{Map, Value};
 use sight_types::SightFault;
 use std::alloc::Global;
@@ -52,7 +50,7 @@ fn read_light(alloc: Global, key: &str, value: &Value, mut scene: Scene) -> Resu
     ensures exact { Gives Fails (λ s. s) result (light_lem key.now scene (view value.now)) }
     ensures kept { IfOk result (λ s. kept s ≡ kept scene) }
 {
-    let name = type_name(alloc, key)?;
+    let name = fields::tag_key(alloc, key)?;
     let radius = match kinds::whole(value, 1, 20) {
         Ok(radius) => radius as u32,
         Err(rule) => return Err(broken(alloc, rule)),
@@ -97,7 +95,7 @@ fn read_sight(alloc: Global, key: &str, value: &Value, mut scene: Scene) -> Resu
     ensures exact { Gives Fails (λ s. s) result (sight_lem key.now scene (view value.now)) }
     ensures kept { IfOk result (λ s. kept s ≡ kept scene) }
 {
-    let name = type_name(alloc, key)?;
+    let name = fields::tag_key(alloc, key)?;
     check_count(alloc, value, 3)?;
     let range = fields::whole_item(alloc, value, 0, 0, 40)? as u32;
     let night = fields::whole_item(alloc, value, 1, 0, 40)? as u32;
@@ -106,15 +104,5 @@ fn read_sight(alloc: Global, key: &str, value: &Value, mut scene: Scene) -> Resu
         Ok(()) => Ok(scene),
         Err(SightFault::Memory) => Err(FileFault::Memory),
         Err(_) => Err(broken(alloc, Rule::Range)),
-    }
-}
-
-/// The name of a type, which is a key.
-fn type_name(alloc: Global, key: &str) -> Result<Tag, FileFault>
-    ensures { Gives Fails (λ t. t) result (needed Rule.Form (tag_of key.now)) }
-{
-    match Tag::read(key.as_bytes()) {
-        Ok(name) => Ok(name),
-        Err(_) => Err(broken(alloc, Rule::Form)),
     }
 }

@@ -96,18 +96,18 @@ settles s t follows = record { sizes = follows.sizes; lights = follows.lights; s
 
 pub scenes_follow : ScenesFollow
 unfolding scene_by gm_scene_by settled
-scenes_follow steps seat s (Move token path) allowed = steps_keep steps token path (own_token s seat token) s
-scenes_follow steps seat s (Map name w h) allowed =
+scenes_follow steps intents seat s (Move token path) allowed = steps_keep steps token path (own_token s seat token) s
+scenes_follow steps intents seat s (Map name w h) allowed =
     settles s _ (one_map_more s name (record { w = coordinate w; h = coordinate h }) (map_may s seat name w h allowed))
-scenes_follow steps seat s (Mode map mode) allowed = settles s _ (one_grid s map (with_mode mode) (λ m. refl) (λ m. refl))
-scenes_follow steps seat s (Show map on) allowed = settles s _ (one_grid s map (map_shown_if on) (λ m. refl) (λ m. refl))
-scenes_follow steps seat s (Terrain map rect kind) allowed = settles s _ (one_grid s map (with_letters (rect_at rect) kind) (λ m. refl) (λ m. refl))
-scenes_follow steps seat s (Wall map kind a b) allowed =
+scenes_follow steps intents seat s (Mode map mode) allowed = settles s _ (one_grid s map (with_mode mode) (λ m. refl) (λ m. refl))
+scenes_follow steps intents seat s (Show map on) allowed = settles s _ (one_grid s map (map_shown_if on) (λ m. refl) (λ m. refl))
+scenes_follow steps intents seat s (Terrain map rect kind) allowed = settles s _ (one_grid s map (with_letters (rect_at rect) kind) (λ m. refl) (λ m. refl))
+scenes_follow steps intents seat s (Wall map kind a b) allowed =
     settles s _ (one_grid s map (with_wall_of kind (point_at a) (point_at b)) (λ m. refl) (walls_keep_size kind (with_wall (wall_between (point_at a) (point_at b)))))
-scenes_follow steps seat s (Unwall map kind a b) allowed =
+scenes_follow steps intents seat s (Unwall map kind a b) allowed =
     settles s _ (one_grid s map (without_wall_of kind (point_at a) (point_at b)) (λ m. refl) (walls_keep_size kind (without_wall (wall_between (point_at a) (point_at b)))))
-scenes_follow steps seat s (Lighttype name radius) allowed =
+scenes_follow steps intents seat s (Lighttype name radius) allowed =
     record { sizes = λ other size there. there; lights = λ other there. still_there name (coordinate radius) other s.lights there; sights = λ other there. there }
-scenes_follow steps seat s (Sighttype name range night mult) allowed =
+scenes_follow steps intents seat s (Sighttype name range night mult) allowed =
     record { sizes = λ other size there. there; lights = λ other there. there; sights = λ other there. still_there name (sight_by range night mult) other s.sights there }
-scenes_follow steps seat s c allowed = same_tables s _ refl refl refl
+scenes_follow steps intents seat s c allowed = same_tables s _ refl refl refl

@@ -1,6 +1,6 @@
 -- The parts of a scene fit together and its tables are in order after each command that breaks no rule.
 use lib.Dec.{T}
-use Rattle.std.proofs.Common.{◌≡◌, ℕ, ◌≤◌, Bool, true, false, List, map, length, Some, None, refl, sym, ◌∙◌, ap, subst, ℤ}
+use Rattle.std.proofs.Common.{◌≡◌, ℕ, ◌≤◌, Bool, true, false, List, [], ◌∷◌, map, length, Some, None, refl, sym, ◌∙◌, ap, subst, ℤ}
 use Rattle.std.specs.Prelude.{Option, IfSome, nat_le, if◌then◌else◌}
 use Rattle.std.specs.FinMap.Entries.{is_sorted, is_sorted-put}
 use Rattle.std.specs.Cmp.Lexicographic.{nat_list_cmp_total}
@@ -27,13 +27,15 @@ use Rattle.tokens.specs.declared.token.Token.{Token as Made}
 use Rattle.tokens.specs.Tokens.{has_token, token_of, placed, without, with_light, with_prop, owned_by, on_layer, shown_if, with_sight}
 use Rattle.tokens.proofs.TokenLemmas.{in_order-put, in_order-changed, in_order-without}
 use Rattle.command_json.specs.declared.command.Command.{Command}
-use Rattle.command_json.specs.declared.command.Command.TheVariants.{Move, Setprop, Light, Make, Remove, Map, Mode, Show, Terrain, Wall, Unwall, Lighttype, Sighttype, Token, Own, Layer, Visible, Sight, Place, Secret, Expose, Hide}
+use Rattle.command_json.specs.declared.command.Command.TheVariants.{Macro, Move, Setprop, Light, Make, Remove, Map, Mode, Show, Terrain, Wall, Unwall, Lighttype, Sighttype, Token, Own, Layer, Visible, Sight, Place, Secret, Expose, Hide}
 use Rattle.world.specs.Scene.{Scene, with_token, with_grid, with_new_map}
 use Rattle.world.specs.Rules.{belongs, fits_on, size_of}
 use Rattle.world.proofs.Makers.{with_prop_keeps_id}
 use Rattle.world.proofs.SceneRules.{IsScene-put, IsScene-without, IsScene-changed, IsScene-placed, IsScene-grid, IsScene-map_added, IsScene-with_light, IsScene-with_sight, IsScene-with_change, IsScene-with_each_seen, keeps-layer, keeps-visible, keeps-prop, keeps-owner, keeps-sight, keeps-light, keeps-rect, walls_keep_size}
 use Rattle.command_rules.specs.Places.{Numbers, coordinate, cell_at, rect_at, point_at}
 use Rattle.command_effects.specs.Allowed.{IsAllowed, MayMove, MayPlace}
+use Rattle.macro_eval.specs.declared.intent.Intent.{Intent}
+use Rattle.command_effects.specs.MacroEffects.{with_intent, with_intents}
 use Rattle.command_effects.specs.Effects.{own_token, cell_after, after_steps, scene_by}
 use Rattle.command_effects.specs.GmEffects.{gm_scene_by, sight_by, with_fog}
 use Rattle.command_effects.specs.Making.{new_token, players_token, with_new}
@@ -180,6 +182,13 @@ settled_kept s is =
       sights = is.sights;
     })
 
+-- ---- what macros set
+
+intents_kept : (intents : List Intent) (s : Scene) → HasTables s → HasTables (with_intents intents s)
+intents_kept [] s is = is
+intents_kept (i ∷ intents) s is =
+    intents_kept intents (with_intent i s) (changed_kept s (with_prop i.class i.name i.value) (with_prop_keeps_id i.class i.name i.value) (keeps-prop s i.class i.name i.value) i.id is)
+
 -- ---- all commands
 
 -- what a player makes is its own
@@ -195,28 +204,29 @@ made_by_gm s seat tag map place name size layer allowed new is =
     (gm_token_belongs s (new_token seat tag map place name (coordinate size) layer 0) place (token_may s seat tag map place name size layer allowed) refl refl refl refl)
     is
 
-pub scene_kept : (steps seat : ℕ) (s : Scene) (c : Command) → seat ≤ s.fog.players → IsAllowed s seat c → MakesNew s seat c → HasTables s → HasTables (scene_by steps seat s (Some c))
+pub scene_kept : (steps : ℕ) (intents : List Intent) (seat : ℕ) (s : Scene) (c : Command) → seat ≤ s.fog.players → IsAllowed s seat c → MakesNew s seat c → HasTables s → HasTables (scene_by steps intents seat s (Some c))
 unfolding scene_by gm_scene_by
-scene_kept steps seat s (Move token path) low allowed new is = steps_kept steps seat s token path (may_move s seat token path is.fitting is.maps allowed) (own_token s seat token) refl is
-scene_kept steps seat s (Setprop token class name value) low allowed new is = changed_kept s (with_prop class name value) (with_prop_keeps_id class name value) (keeps-prop s class name value) token is
-scene_kept steps seat s (Light token light) low allowed new is = changed_kept s (with_light light) (λ t. refl) (keeps-light s light (may_light s seat token light is.tokens allowed).1) token is
-scene_kept steps seat s (Make tag map place name) low allowed new is = made_by_player s seat tag map place name low allowed new is
-scene_kept steps seat s (Remove token) low allowed new is = removed_kept s token is
-scene_kept steps seat s (Map name w h) low allowed new is = new_map_kept s name (record { w = coordinate w; h = coordinate h }) (map_may s seat name w h allowed) is
-scene_kept steps seat s (Mode map mode) low allowed new is = grid_kept s (with_mode mode) (λ m. refl) (λ m. refl) map is
-scene_kept steps seat s (Show map on) low allowed new is = grid_kept s (map_shown_if on) (λ m. refl) (λ m. refl) map is
-scene_kept steps seat s (Terrain map rect kind) low allowed new is = grid_kept s (with_letters (rect_at rect) kind) (λ m. refl) (λ m. refl) map is
-scene_kept steps seat s (Wall map kind a b) low allowed new is = grid_kept s (walled kind (with_wall (wall_between (point_at a) (point_at b)))) (λ m. refl) (walls_keep_size kind (with_wall (wall_between (point_at a) (point_at b)))) map is
-scene_kept steps seat s (Unwall map kind a b) low allowed new is = grid_kept s (walled kind (without_wall (wall_between (point_at a) (point_at b)))) (λ m. refl) (walls_keep_size kind (without_wall (wall_between (point_at a) (point_at b)))) map is
-scene_kept steps seat s (Lighttype name radius) low allowed new is = light_kept s name (coordinate radius) is
-scene_kept steps seat s (Sighttype name range night mult) low allowed new is = sight_kept s name (sight_by range night mult) is
-scene_kept steps seat s (Token tag map place name size layer) low allowed new is = made_by_gm s seat tag map place name size layer allowed new is
-scene_kept steps seat s (Own token owner on) low allowed new is = changed_kept s (owned_by owner on) (λ t. refl) (keeps-owner s owner on (own_may s seat token owner on allowed).1) token is
-scene_kept steps seat s (Layer token layer) low allowed new is = changed_kept s (on_layer layer) (λ t. refl) (keeps-layer s layer) token is
-scene_kept steps seat s (Visible token on) low allowed new is = changed_kept s (shown_if on) (λ t. refl) (keeps-visible s on) token is
-scene_kept steps seat s (Sight token sight) low allowed new is = changed_kept s (with_sight sight) (λ t. refl) (keeps-sight s sight (sight_may s seat token sight allowed).1) token is
-scene_kept steps seat s (Place token map place) low allowed new is = place_kept s token map place (place_may s seat token map place allowed) is
-scene_kept steps seat s (Secret token name value) low allowed new is = changed_kept s (with_prop SecretClass name value) (with_prop_keeps_id SecretClass name value) (keeps-prop s SecretClass name value) token is
-scene_kept steps seat s (Expose player map rect) low allowed new is = rect_kept s player map rect true is
-scene_kept steps seat s (Hide player map rect) low allowed new is = rect_kept s player map rect false is
-scene_kept steps seat s c low allowed new is = is
+scene_kept steps intents seat s (Macro name args to) low allowed new is = intents_kept intents s is
+scene_kept steps intents seat s (Move token path) low allowed new is = steps_kept steps seat s token path (may_move s seat token path is.fitting is.maps allowed) (own_token s seat token) refl is
+scene_kept steps intents seat s (Setprop token class name value) low allowed new is = changed_kept s (with_prop class name value) (with_prop_keeps_id class name value) (keeps-prop s class name value) token is
+scene_kept steps intents seat s (Light token light) low allowed new is = changed_kept s (with_light light) (λ t. refl) (keeps-light s light (may_light s seat token light is.tokens allowed).1) token is
+scene_kept steps intents seat s (Make tag map place name) low allowed new is = made_by_player s seat tag map place name low allowed new is
+scene_kept steps intents seat s (Remove token) low allowed new is = removed_kept s token is
+scene_kept steps intents seat s (Map name w h) low allowed new is = new_map_kept s name (record { w = coordinate w; h = coordinate h }) (map_may s seat name w h allowed) is
+scene_kept steps intents seat s (Mode map mode) low allowed new is = grid_kept s (with_mode mode) (λ m. refl) (λ m. refl) map is
+scene_kept steps intents seat s (Show map on) low allowed new is = grid_kept s (map_shown_if on) (λ m. refl) (λ m. refl) map is
+scene_kept steps intents seat s (Terrain map rect kind) low allowed new is = grid_kept s (with_letters (rect_at rect) kind) (λ m. refl) (λ m. refl) map is
+scene_kept steps intents seat s (Wall map kind a b) low allowed new is = grid_kept s (walled kind (with_wall (wall_between (point_at a) (point_at b)))) (λ m. refl) (walls_keep_size kind (with_wall (wall_between (point_at a) (point_at b)))) map is
+scene_kept steps intents seat s (Unwall map kind a b) low allowed new is = grid_kept s (walled kind (without_wall (wall_between (point_at a) (point_at b)))) (λ m. refl) (walls_keep_size kind (without_wall (wall_between (point_at a) (point_at b)))) map is
+scene_kept steps intents seat s (Lighttype name radius) low allowed new is = light_kept s name (coordinate radius) is
+scene_kept steps intents seat s (Sighttype name range night mult) low allowed new is = sight_kept s name (sight_by range night mult) is
+scene_kept steps intents seat s (Token tag map place name size layer) low allowed new is = made_by_gm s seat tag map place name size layer allowed new is
+scene_kept steps intents seat s (Own token owner on) low allowed new is = changed_kept s (owned_by owner on) (λ t. refl) (keeps-owner s owner on (own_may s seat token owner on allowed).1) token is
+scene_kept steps intents seat s (Layer token layer) low allowed new is = changed_kept s (on_layer layer) (λ t. refl) (keeps-layer s layer) token is
+scene_kept steps intents seat s (Visible token on) low allowed new is = changed_kept s (shown_if on) (λ t. refl) (keeps-visible s on) token is
+scene_kept steps intents seat s (Sight token sight) low allowed new is = changed_kept s (with_sight sight) (λ t. refl) (keeps-sight s sight (sight_may s seat token sight allowed).1) token is
+scene_kept steps intents seat s (Place token map place) low allowed new is = place_kept s token map place (place_may s seat token map place allowed) is
+scene_kept steps intents seat s (Secret token name value) low allowed new is = changed_kept s (with_prop SecretClass name value) (with_prop_keeps_id SecretClass name value) (keeps-prop s SecretClass name value) token is
+scene_kept steps intents seat s (Expose player map rect) low allowed new is = rect_kept s player map rect true is
+scene_kept steps intents seat s (Hide player map rect) low allowed new is = rect_kept s player map rect false is
+scene_kept steps intents seat s c low allowed new is = is

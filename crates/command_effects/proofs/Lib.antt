@@ -5,5 +5,7 @@ pub mod Allowed
 pub mod GmCommands
 pub mod Players
 pub mod NewTags
+pub mod NewTexts
+pub mod IntentLemmas
 pub mod KeptScenes
 pub mod Following

@@ -5,6 +5,7 @@ use Rattle.names.specs.declared.token_id.TokenId.{TokenId}
 use Rattle.tokens.specs.declared.token.Token.{Token as Made}
 use Rattle.command_json.specs.declared.command.Command.{Command}
 use Rattle.command_json.specs.declared.command.Command.TheVariants.{Move}
+use Rattle.macro_eval.specs.declared.intent.Intent.{Intent}
 use Rattle.world.specs.Scene.{Scene}
 use Rattle.command_effects.specs.GmEffects.{gm_scene_by}
 use Rattle.command_effects.specs.Effects.{own_token, after_steps, scene_by}
@@ -13,8 +14,8 @@ steps_keep : (steps : ℕ) (id : TokenId) (path : List (ℤ × ℤ)) (o : Option
 steps_keep steps id path None s = refl
 steps_keep steps id path (Some t) s = refl
 
-pub players_kept : (steps seat : ℕ) (s : Scene) (c : Option Command) → (scene_by steps seat s c).fog.players ≡ s.fog.players
+pub players_kept : (steps : ℕ) (intents : List Intent) (seat : ℕ) (s : Scene) (c : Option Command) → (scene_by steps intents seat s c).fog.players ≡ s.fog.players
 unfolding scene_by gm_scene_by
-players_kept steps seat s None = refl
-players_kept steps seat s (Some (Move token path)) = steps_keep steps token path (own_token s seat token) s
-players_kept steps seat s (Some c) = refl
+players_kept steps intents seat s None = refl
+players_kept steps intents seat s (Some (Move token path)) = steps_keep steps token path (own_token s seat token) s
+players_kept steps intents seat s (Some c) = refl

@@ -9,12 +9,14 @@ use Rattle.tokens.specs.declared.token.Token.{Token}
 use Rattle.tokens.specs.Tokens.{has_id, placed, without, with_light, with_prop}
 use Rattle.topology.specs.WallLists.{WallLists}
 use Rattle.topology.specs.Paths.{first_block}
+use Rattle.macro_eval.specs.declared.intent.Intent.{Intent}
 use Rattle.world.specs.Scene.{Scene, with_token}
 use Rattle.player_view.specs.View.{is_gm, acts_on}
 use Rattle.command_json.specs.declared.command.Command.{Command}
-use Rattle.command_json.specs.declared.command.Command.TheVariants.{Move, Setprop, Light, Make, Remove}
+use Rattle.command_json.specs.declared.command.Command.TheVariants.{Macro, Move, Setprop, Light, Make, Remove}
 use Rattle.command_rules.specs.Places.{cell_at}
 use Rattle.command_effects.specs.Making.{players_token, with_new}
+use Rattle.command_effects.specs.MacroEffects.{with_intents}
 use Rattle.command_effects.specs.GmEffects.{gm_scene_by}
 
 -- ---- moves
@@ -62,12 +64,13 @@ after_steps steps id path (Some t) s = with_token id (placed t.map (cell_after s
 
 -- ---- all commands
 
--- the scene after an accepted command of the seat
-unfoldable pub scene_by : ℕ → ℕ → Scene → Option Command → Scene
-scene_by steps seat s None = s
-scene_by steps seat s (Some (Move token path)) = after_steps steps token path (own_token s seat token) s
-scene_by steps seat s (Some (Setprop token class name value)) = with_token token (with_prop class name value) s
-scene_by steps seat s (Some (Light token light)) = with_token token (with_light light) s
-scene_by steps seat s (Some (Make tag map cell name)) = with_new (players_token seat tag map cell name) s
-scene_by steps seat s (Some (Remove token)) = record s { tokens = without token s.tokens }
-scene_by steps seat s (Some c) = gm_scene_by seat s c
+-- the scene after an accepted command of the seat: a move takes so many steps, and a macro sets these properties
+unfoldable pub scene_by : ℕ → List Intent → ℕ → Scene → Option Command → Scene
+scene_by steps intents seat s None = s
+scene_by steps intents seat s (Some (Macro name args to)) = with_intents intents s
+scene_by steps intents seat s (Some (Move token path)) = after_steps steps token path (own_token s seat token) s
+scene_by steps intents seat s (Some (Setprop token class name value)) = with_token token (with_prop class name value) s
+scene_by steps intents seat s (Some (Light token light)) = with_token token (with_light light) s
+scene_by steps intents seat s (Some (Make tag map cell name)) = with_new (players_token seat tag map cell name) s
+scene_by steps intents seat s (Some (Remove token)) = record s { tokens = without token s.tokens }
+scene_by steps intents seat s (Some c) = gm_scene_by seat s c

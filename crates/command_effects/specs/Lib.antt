@@ -2,6 +2,8 @@ pub mod Making
 pub mod GmEffects
 pub mod Effects
 pub mod Tags
+pub mod MacroEffects
+pub mod Trying
 pub mod Settle
 pub mod Allowed
 pub mod Seen

@@ -11,13 +11,16 @@ ghost use Rattle.command_effects.specs.Making.{players_token, with_new as with_n
 ghost use Rattle.command_effects.specs.Effects.{eye_at as eye_at_lem, eyes_along as eyes_along_lem, free_steps as free_steps_lem, steps_with as steps_with_lem, steps_by as steps_by_lem, own_token, cell_after as cell_after_lem, after_steps as after_steps_lem, scene_by as scene_by_lem};
 ghost use Rattle.command_effects.specs.Allowed.{IsAllowed, MayMove, MaySet, MayStand};
 ghost use Rattle.command_effects.specs.Tags.{MakesNew};
+ghost use Rattle.command_effects.specs.Trying.{MaySetAll};
 
 use crate::gm_effects::gm_scene_by;
+use crate::intents::with_intents;
 use crate::making::{cell_on, new_token, with_new};
 use cells::{Cell, Size};
 use command_json::{CellPath, Command};
 use command_rules::cell_at;
 use lattice::Point;
+use macro_eval::Intents;
 use maps::GridMap;
 use names::{Layer, Memory, PropClass, SeatNo, Tag, Text, TokenId};
 use player_view::mine;
@@ -216,7 +219,7 @@ fn with_players_token(
 // ---- commands
 
 /// What the tables tell with their lengths: the parts of a scene fit together, and no name and no id is there twice.
-fn told(scene: &Scene) -> (usize, usize)
+pub(crate) fn told(scene: &Scene) -> (usize, usize)
     ensures scene { IsScene scene.now }
     ensures maps { maps_in_order scene.now.maps ≡ true }
     ensures tokens { in_order scene.now.tokens ≡ true }
@@ -246,7 +249,7 @@ pub fn steps_by(
 }
 
 /// The scene after an accepted command; none, where the command leaves it as it is. A token that it makes is new, since
-/// its maker hasn't used its tag.
+/// its maker hasn't used its tag. A macro sets what its run means to set, which the seat may set.
 #[tactic(auto, unfolding(crate::specs::Effects::scene_by))]
 pub fn scene_by(
     alloc: Global,
@@ -254,14 +257,17 @@ pub fn scene_by(
     seat: SeatNo,
     command: &Command,
     steps: u32,
+    intents: &Intents,
 ) -> Result<Option<Scene>, Memory>
     requires allowed { IsAllowed scene.now seat command.now }
     requires new { MakesNew scene.now seat command.now }
     requires seat { seat ≤ scene.now.fog.players }
-    ensures { IfOk result (λ after. unwrap_or after scene.now ≡ scene_by_lem steps seat scene.now (Some command.now)) }
+    requires intents { MaySetAll scene.now seat intents.now }
+    ensures { IfOk result (λ after. unwrap_or after scene.now ≡ scene_by_lem steps intents.now seat scene.now (Some command.now)) }
 {
     let _told = told(scene);
     match command {
+        Command::Macro { .. } => with_intents(alloc, scene, seat, intents),
         Command::Move { token, path } => Ok(Some(moved(scene, seat, token, path, steps)?)),
         Command::Setprop {
             token,

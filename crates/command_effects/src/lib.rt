@@ -3,12 +3,16 @@
 
 mod effects;
 mod gm_effects;
+mod intents;
 mod laws;
+mod macros;
 mod making;
 mod sight;
 mod tags;
 
 pub use effects::{scene_by, steps_by};
+pub use intents::{IntentsSet, set_intents};
 pub use laws::scenes_follow;
+pub use macros::{draw, set_text};
 pub use sight::settle;
 pub use tags::use_made_tag;

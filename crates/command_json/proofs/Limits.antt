@@ -1,6 +1,6 @@
 -- A command that was read keeps its limits.
 use Rattle.std.proofs.Common.{◌≡◌, ◌≢◌, ℕ, suc, ◌≤◌, ◌≤ℤ◌, Bool, true, false, cond, ◌&&◌, T, List, [], ◌∷◌, length, Some, None, refl, sym, ap, inl, inr, subst, arith, ℤ, pos, negsuc}
-use Rattle.std.specs.Prelude.{Option, Result, Ok, Err, nat_le, option_and_then, option_map, int_le, IsSomeAnd, IfOk, IfErr, codes}
+use Rattle.std.specs.Prelude.{Option, Result, Ok, Err, nat_le, option_and_then, option_map, int_le, IsSomeAnd, IfSome, IfOk, IfErr, codes}
 use Rattle.std.specs.Option.{option_or, option_zip}
 use Rattle.std.specs.List.{list_any, AllByRecursion}
 use Rattle.names.specs.Letters.{is_letter}
@@ -8,7 +8,7 @@ use lib.Signed.{le_z_yes}
 use Rattle.std.specs.Str.{bytes_eq}
 use Rattle.std.proofs.lemmas.Bool.{and_parts, leb-true}
 use Rattle.std.proofs.lemmas.Bool.Decides.{nat_tests}
-use Rattle.serde_json.specs.Data.{Data, Items, no_items, item}
+use Rattle.serde_json.specs.Data.{Data, null, boolean, number, string, array, object, Items, no_items, item}
 use Rattle.serde_json.specs.Find.{as_array, as_bool, as_str, get, at}
 use Rattle.serde_json.specs.Events.{items_len}
 use Rattle.names.specs.declared.kinds.PropClass.{PropClass}
@@ -33,11 +33,11 @@ use Rattle.command_json.specs.declared.verbs.GmVerb.{GmVerb}
 use Rattle.command_json.specs.declared.verbs.GmVerb.TheVariants as G
 use Rattle.command_json.specs.Verbs.{verbs, gm_verbs, keys_of, gm_keys_of}
 use Rattle.command_json.specs.Faults.{Fails}
-use Rattle.command_json.specs.EverySeat.{hello_in, bye_in, look_in, say_in, roll_in, move_in, setprop_in, light_in, make_in, remove_in, fields_in}
+use Rattle.command_json.specs.EverySeat.{hello_in, bye_in, look_in, say_in, roll_in, macro_in, setmacro_in, move_in, setprop_in, light_in, make_in, remove_in, fields_in}
 use Rattle.command_json.specs.GameMaster.{map_in, mode_in, show_in, terrain_in, wall_in, unwall_in, lighttype_in, sighttype_in, token_in, own_in, layer_in, visible_in, sight_in, place_in, secret_in, expose_in, hide_in, gm_fields_in}
 use Rattle.command_json.specs.Commands.{by_gm_verb, by_verb, command_in, of_value, command_of, keys_in, IsBadKeyOf, NamesBadKey}
-use Rattle.command_json.specs.Fields.{place_from, places_from, path_from, to_from, number_from, rect_from, letter_of, letter_from, least_place, most_place}
-use Rattle.command_json.specs.Limits.{IsWithin, IsNumber, IsText, IsCoordinate, IsPlace, IsPath, IsRect, IsLetter, IsCommand}
+use Rattle.command_json.specs.Fields.{args_from, texts_from, place_from, places_from, path_from, to_from, number_from, rect_from, letter_of, letter_from, least_place, most_place}
+use Rattle.command_json.specs.Limits.{IsWithin, IsNumber, IsText, IsCoordinate, IsPlace, IsPath, IsRect, AreArgs, IsLetter, IsCommand}
 
 -- a command keeps its limits, and a fault isn't want of memory
 abbrev Kept : Result Command LineFault → Type 0
@@ -218,6 +218,54 @@ rect_keeps d rect h = by (has_items 4 d) h
     by true e = zipped corner w h' (λ place e. both_keep (item_in (integer_from least_place most_place) 0 d) (item_in (integer_from least_place most_place) 1 d) place (item_keeps d 0) (item_keeps d 1) e) (side 2) (side 3) e
     by false e = cc
 
+-- arguments
+record AreTexts (count : ℕ) (texts : List (List ℕ)) : Type 0 where
+  same : length texts ≡ count
+  each : AllByRecursion (IsText 0 200) texts
+
+texts_keep : (ds : Items) (texts : List (List ℕ)) → texts_from ds ≡ Some texts → AreTexts (items_len ds) texts
+texts_keep no_items texts e = let same : [] ≡ texts = cc in subst (AreTexts 0) same (record { same = refl; each = tt })
+texts_keep (item d ds) texts e = by (text_from 0 200 d) (texts_from ds) (text_keeps 0 200 d) (texts_keep ds) e
+  where
+    by : (o : Option (List ℕ)) (rest : Option (List (List ℕ))) → ((text : List ℕ) → o ≡ Some text → IsText 0 200 text) → ((more : List (List ℕ)) → rest ≡ Some more → AreTexts (items_len ds) more)
+        → option_map (λ (p : List ℕ × List (List ℕ)). p.0 ∷ p.1) (option_zip o rest) ≡ Some texts → AreTexts (suc (items_len ds)) texts
+    by None rest one more e = cc
+    by (Some text) None one more e = cc
+    by (Some text) (Some others) one more e =
+        let same : text ∷ others ≡ texts = cc in
+        let read = more others refl in
+        subst (AreTexts (suc (items_len ds))) same (record { same = ap suc read.same; each = (one text refl, read.each) })
+
+args_keep : (d : Data) (args : List (List ℕ)) → args_from d ≡ Some args → AreArgs args
+unfolding args_from
+args_keep d args h = by (as_array d) h
+  where
+    of_items : (ds : Items) (t : Bool) → (t ≡ true → IsWithin 0 8 (items_len ds)) → option_and_then texts_from (cond t (Some ds) None) ≡ Some args → AreArgs args
+    of_items ds true within e =
+        let read = texts_keep ds args e in
+        record { count = subst (IsWithin 0 8) (sym read.same) (within refl); texts = read.each }
+    of_items ds false within e = cc
+
+    by : (o : Option Items) → option_and_then texts_from (option_and_then (counted 0 8) o) ≡ Some args → AreArgs args
+    by None e = cc
+    by (Some ds) e = of_items ds (is_counted 0 8 ds) (between_nats 0 8 (items_len ds)) e
+
+some_keeps : (least most : ℕ) (d : Data) (text : Option (List ℕ)) → option_map Some (text_from least most d) ≡ Some text → IfSome text (IsText least most)
+some_keeps least most d text h = by (text_from least most d) (text_keeps least most d) h
+  where
+    by : (o : Option (List ℕ)) → ((t : List ℕ) → o ≡ Some t → IsText least most t) → option_map Some o ≡ Some text → IfSome text (IsText least most)
+    by None keeps e = cc
+    by (Some t) keeps e = let same : Some t ≡ text = cc in subst (λ o. IfSome o (IsText least most)) same (keeps t refl)
+
+-- a text, or null
+nullable_keeps : (least most : ℕ) (d : Data) (text : Option (List ℕ)) → or_null (text_from least most) d ≡ Some text → IfSome text (IsText least most)
+nullable_keeps least most null text h = let same : None ≡ text = cc in subst (λ t. IfSome t (IsText least most)) same tt
+nullable_keeps least most (boolean b) text h = some_keeps least most (boolean b) text h
+nullable_keeps least most (number n) text h = some_keeps least most (number n) text h
+nullable_keeps least most (string s) text h = some_keeps least most (string s) text h
+nullable_keeps least most (array items) text h = some_keeps least most (array items) text h
+nullable_keeps least most (object members) text h = some_keeps least most (object members) text h
+
 -- ---- fields
 
 of_field : {A : Type 0} (P : A → Type 0) (kind : Data → Option A) → ((d : Data) (x : A) → kind d ≡ Some x → P x) → (key : List ℕ) (d : Data) (x : A) → field_in kind key d ≡ Some x → P x
@@ -252,6 +300,14 @@ roll_keeps : (d : Data) → HasRisingKeys d → Keeps (keys_of V.Roll) d (roll_i
 unfolding roll_in
 roll_keeps d rise = step (codes "dice") refl (field_in (text_from 1 200) (codes "dice") d) _ (λ dice is_dice. step (codes "to") refl (field_or All to_from (codes "to") d) _ (λ to _. last rise (C.Roll dice to) (of_field (IsText 1 200) (text_from 1 200) (text_keeps 1 200) (codes "dice") d dice is_dice)))
 
+macro_keeps : (d : Data) → HasRisingKeys d → Keeps (keys_of V.Macro) d (macro_in d)
+unfolding macro_in
+macro_keeps d rise = step (codes "name") refl (field_in tag_from (codes "name") d) _ (λ name _. step (codes "args") refl (field_or [] args_from (codes "args") d) _ (λ args is_args. step (codes "to") refl (field_or All to_from (codes "to") d) _ (λ to _. last rise (C.Macro name args to) (of_field_or AreArgs [] args_from (record { count = record { at_least = omega arith; at_most = omega arith }; texts = tt }) args_keep (codes "args") d args is_args))))
+
+setmacro_keeps : (d : Data) → HasRisingKeys d → Keeps (keys_of V.Setmacro) d (setmacro_in d)
+unfolding setmacro_in
+setmacro_keeps d rise = step (codes "name") refl (field_in tag_from (codes "name") d) _ (λ name _. step (codes "text") refl (field_in (or_null (text_from 0 2000)) (codes "text") d) _ (λ text is_text. last rise (C.Setmacro name text) (of_field (λ t. IfSome t (IsText 0 2000)) (or_null (text_from 0 2000)) (nullable_keeps 0 2000) (codes "text") d text is_text)))
+
 move_keeps : (d : Data) → HasRisingKeys d → Keeps (keys_of V.Move) d (move_in d)
 unfolding move_in
 move_keeps d rise = step (codes "token") refl (field_in id_from (codes "token") d) _ (λ token _. step (codes "path") refl (field_in path_from (codes "path") d) _ (λ path is_path. last rise (C.Move token path) (of_field IsPath path_from path_keeps (codes "path") d path is_path)))
@@ -279,6 +335,8 @@ fields_keep d rise V.Bye = bye_keeps d rise
 fields_keep d rise V.Look = look_keeps d rise
 fields_keep d rise V.Say = say_keeps d rise
 fields_keep d rise V.Roll = roll_keeps d rise
+fields_keep d rise V.Macro = macro_keeps d rise
+fields_keep d rise V.Setmacro = setmacro_keeps d rise
 fields_keep d rise V.Move = move_keeps d rise
 fields_keep d rise V.Setprop = setprop_keeps d rise
 fields_keep d rise V.Light = light_keeps d rise

@@ -1,5 +1,5 @@
 -- The commands that every seat may give: for each its fields, in their order.
-use Rattle.std.specs.Prelude.{Result, codes}
+use Rattle.std.specs.Prelude.{[], Result, codes}
 use Rattle.serde_json.specs.Data.{Data}
 use Rattle.json_fields.specs.Kinds.{whole_from, text_from, tag_from, id_from, class_from, or_null}
 use Rattle.json_fields.specs.Objects.{◌>>=◌}
@@ -10,7 +10,7 @@ use Rattle.command_json.specs.declared.command.LineFault.{LineFault}
 use Rattle.command_json.specs.declared.verbs.Verb.{Verb}
 use Rattle.command_json.specs.declared.verbs.Verb.TheVariants as V
 use Rattle.command_json.specs.Verbs.{keys_of}
-use Rattle.command_json.specs.Fields.{field, field_else, place_from, path_from, to_from, only}
+use Rattle.command_json.specs.Fields.{field, field_else, args_from, place_from, path_from, to_from, only}
 
 unfoldable pub hello_in : Data → Result Command LineFault
 hello_in d = do
@@ -35,6 +35,19 @@ roll_in d = do
   dice ← field (codes "dice") (text_from 1 200) d
   to ← field_else All (codes "to") to_from d
   only (keys_of V.Roll) d (C.Roll dice to)
+
+unfoldable pub macro_in : Data → Result Command LineFault
+macro_in d = do
+  name ← field (codes "name") tag_from d
+  args ← field_else [] (codes "args") args_from d
+  to ← field_else All (codes "to") to_from d
+  only (keys_of V.Macro) d (C.Macro name args to)
+
+unfoldable pub setmacro_in : Data → Result Command LineFault
+setmacro_in d = do
+  name ← field (codes "name") tag_from d
+  text ← field (codes "text") (or_null (text_from 0 2000)) d
+  only (keys_of V.Setmacro) d (C.Setmacro name text)
 
 unfoldable pub move_in : Data → Result Command LineFault
 move_in d = do
@@ -76,6 +89,8 @@ fields_in d V.Bye = bye_in d
 fields_in d V.Look = look_in d
 fields_in d V.Say = say_in d
 fields_in d V.Roll = roll_in d
+fields_in d V.Macro = macro_in d
+fields_in d V.Setmacro = setmacro_in d
 fields_in d V.Move = move_in d
 fields_in d V.Setprop = setprop_in d
 fields_in d V.Light = light_in d

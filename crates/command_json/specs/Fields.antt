@@ -5,7 +5,7 @@ use Rattle.names.specs.Letters.{is_letter}
 use Rattle.serde_json.specs.Data.{Data, Items, no_items, item}
 use Rattle.serde_json.specs.Find.{as_str}
 use Rattle.json_fields.specs.Fields.{field_in, field_or, unknown_in}
-use Rattle.json_fields.specs.Kinds.{integer_from, whole_from, word_from, pair_from, rectangle_from, list_from}
+use Rattle.json_fields.specs.Kinds.{integer_from, text_from, whole_from, word_from, pair_from, rectangle_from, list_from}
 use Rattle.json_fields.specs.Objects.{needed, unless_unknown}
 use Rattle.chat.specs.declared.to.To.{To}
 use Rattle.chat.specs.declared.to.To.TheVariants.{SelfOnly, Gm, GmSelf, All, Seat}
@@ -57,6 +57,14 @@ places_from (item d ds) = option_map (λ p. p.0 ∷ p.1) (option_zip (place_from
 -- 1 to 64 cells
 unfoldable pub path_from : Data → Option (List (ℤ × ℤ))
 path_from d = option_and_then places_from (list_from 1 64 d)
+
+abbrev pub texts_from : Items → Option (List (List ℕ))
+texts_from no_items = Some []
+texts_from (item d ds) = option_map (λ p. p.0 ∷ p.1) (option_zip (text_from 0 200 d) (texts_from ds))
+
+-- at most 8 texts of 0 to 200 bytes
+unfoldable pub args_from : Data → Option (List (List ℕ))
+args_from d = option_and_then texts_from (list_from 0 8 d)
 
 -- x, y, width and height of a rectangle; the sides are 1 to 96
 abbrev pub rect_from : Data → Option (ℤ × ℤ × ℤ × ℤ)

@@ -1,5 +1,5 @@
 -- What the numbers and texts of a command keep to, by the table of commands.
-use Rattle.std.specs.Prelude.{◌≡◌, ◌≢◌, ◌≤◌, ◌≤ℤ◌, ℕ, true, length, ℤ, pos, negsuc, List}
+use Rattle.std.specs.Prelude.{◌≡◌, ◌≢◌, ◌≤◌, ◌≤ℤ◌, ℕ, true, length, ℤ, pos, negsuc, List, IfSome}
 use Rattle.std.specs.List.{AllByRecursion}
 use Rattle.names.specs.Letters.{is_letter}
 use Rattle.names.specs.declared.kinds.PropClass.TheVariants.{Secret as SecretClass}
@@ -20,6 +20,11 @@ IsNumber least most (negsuc n) = ⊥
 -- a text of least to most bytes
 abbrev pub IsText : ℕ → ℕ → List ℕ → Type 0
 IsText least most text = IsWithin least most (length text)
+
+-- at most 8 texts of 0 to 200 bytes
+pub record AreArgs (args : List (List ℕ)) : Type 0 where
+  pub count : IsWithin 0 8 (length args)
+  pub texts : AllByRecursion (IsText 0 200) args
 
 -- x or y of a cell or a point
 pub record IsCoordinate (z : ℤ) : Type 0 where
@@ -52,6 +57,8 @@ abbrev pub IsCommand : Command → Type 0
 IsCommand (C.Hello seat key) = IsText 1 64 key
 IsCommand (C.Say text to) = IsText 1 1000 text
 IsCommand (C.Roll dice to) = IsText 1 200 dice
+IsCommand (C.Macro name args to) = AreArgs args
+IsCommand (C.Setmacro name text) = IfSome text (IsText 0 2000)
 IsCommand (C.Move token path) = IsPath path
 IsCommand (C.Setprop token class name value) = (class ≢ SecretClass) × IsText 0 200 value
 IsCommand (C.Make tag map cell name) = IsText 1 40 name × IsPlace cell

@@ -13,6 +13,8 @@ verbs =
     (codes "look", V.Look) ∷
     (codes "say", V.Say) ∷
     (codes "roll", V.Roll) ∷
+    (codes "macro", V.Macro) ∷
+    (codes "setmacro", V.Setmacro) ∷
     (codes "move", V.Move) ∷
     (codes "setprop", V.Setprop) ∷
     (codes "light", V.Light) ∷
@@ -48,6 +50,8 @@ keys_of V.Bye = []
 keys_of V.Look = []
 keys_of V.Say = codes "text" ∷ codes "to" ∷ []
 keys_of V.Roll = codes "dice" ∷ codes "to" ∷ []
+keys_of V.Macro = codes "name" ∷ codes "args" ∷ codes "to" ∷ []
+keys_of V.Setmacro = codes "name" ∷ codes "text" ∷ []
 keys_of V.Move = codes "token" ∷ codes "path" ∷ []
 keys_of V.Setprop = codes "token" ∷ codes "class" ∷ codes "name" ∷ codes "value" ∷ []
 keys_of V.Light = codes "token" ∷ codes "light" ∷ []

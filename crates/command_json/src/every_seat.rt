@@ -2,7 +2,7 @@
 ghost use Rattle.serde_json.specs.View.{view};
 ghost use Rattle.json_fields.specs.Objects.{Gives};
 ghost use Rattle.command_json.specs.Faults.{Fails};
-ghost use Rattle.command_json.specs.EverySeat.{hello_in, bye_in, look_in, say_in, roll_in, move_in, setprop_in, light_in, make_in, remove_in, fields_in};
+ghost use Rattle.command_json.specs.EverySeat.{hello_in, bye_in, look_in, say_in, roll_in, macro_in, setmacro_in, move_in, setprop_in, light_in, make_in, remove_in, fields_in};
 
 use crate::command::{Command, LineFault};
 use crate::fields;
@@ -63,6 +63,35 @@ fn roll_of(alloc: Global, object: &Value) -> Result<Command, LineFault>
         object,
         &["do", "dice", "to"],
         Command::Roll { dice, to },
+    )
+}
+
+#[tactic(auto, unfolding(crate::specs::EverySeat::macro_in))]
+fn macro_of(alloc: Global, object: &Value) -> Result<Command, LineFault>
+    ensures { Gives Fails (λ c. c) result (macro_in (view object.now)) }
+{
+    let name = fields::tag(alloc, object, "name")?;
+    let args = fields::args(alloc, object, "args")?;
+    let to = fields::to(alloc, object, "to")?;
+    fields::only(
+        alloc,
+        object,
+        &["do", "name", "args", "to"],
+        Command::Macro { name, args, to },
+    )
+}
+
+#[tactic(auto, unfolding(crate::specs::EverySeat::setmacro_in))]
+fn setmacro_of(alloc: Global, object: &Value) -> Result<Command, LineFault>
+    ensures { Gives Fails (λ c. c) result (setmacro_in (view object.now)) }
+{
+    let name = fields::tag(alloc, object, "name")?;
+    let text = fields::text_or_null(alloc, object, "text", 0, 2000)?;
+    fields::only(
+        alloc,
+        object,
+        &["do", "name", "text"],
+        Command::Setmacro { name, text },
     )
 }
 
@@ -155,6 +184,8 @@ pub(crate) fn read_fields(alloc: Global, object: &Value, verb: Verb) -> Result<C
         Verb::Look => look_of(alloc, object),
         Verb::Say => say_of(alloc, object),
         Verb::Roll => roll_of(alloc, object),
+        Verb::Macro => macro_of(alloc, object),
+        Verb::Setmacro => setmacro_of(alloc, object),
         Verb::Move => move_of(alloc, object),
         Verb::Setprop => setprop_of(alloc, object),
         Verb::Light => light_of(alloc, object),

@@ -1,6 +1,6 @@
 //! The fields of a command. Each function gives the value at a key, of its kind; where the key is missing or its
 //! value is of another kind, the fault names the key.
-ghost use Rattle.std.specs.Prelude.{◌≡◌, ◌∷◌, codes, map, option_map, IfOk};
+ghost use Rattle.std.specs.Prelude.{◌≡◌, [], ◌∷◌, codes, map, option_map, IfOk};
 ghost use Rattle.serde_json.specs.View.{view, items_view};
 ghost use Rattle.chat.specs.declared.to.To.TheVariants.{All, Seat};
 ghost use Rattle.serde_json.specs.Find.{as_bool};
@@ -9,12 +9,14 @@ ghost use Rattle.json_fields.specs.Kinds.{integer_from, whole_from, text_from, t
 ghost use Rattle.json_fields.specs.Objects.{Gives, needed, unless_unknown};
 ghost use Rattle.command_json.specs.declared.command.LineFault.TheVariants.{BadField};
 ghost use Rattle.command_json.specs.Faults.{Fails};
-ghost use Rattle.command_json.specs.Fields.{field as field_lem, field_else, place_from, places_from, path_from, rect_from, letter_of as letter_of_lem, letter_from, to_words, to_from};
+ghost use Rattle.command_json.specs.Fields.{field as field_lem, field_else, args_from, texts_from, place_from, places_from, path_from, rect_from, letter_of as letter_of_lem, letter_from, to_words, to_from};
 
 use crate::command::{CellPath, Command, LineFault};
 use chat::To;
 use json_fields::{fields, kinds};
-use names::{Layer, Memory, Mode, PropClass, SeatNo, Tag, Text, TokenId, WallKind, is_letter};
+use names::{
+    Layer, Memory, Mode, PropClass, SeatNo, Tag, Text, Texts, TokenId, WallKind, is_letter,
+};
 use serde_json::Value;
 use std::alloc::Global;
 
@@ -133,6 +135,23 @@ pub(crate) fn boolean(alloc: Global, value: &Value, key: &str) -> Result<bool, L
     ensures { Gives Fails (λ field. field) result (field_lem key.now as_bool (view value.now)) }
 {
     found(alloc, key, fields::boolean(value, key))
+}
+
+/// A text of `least` to `most` bytes, or null, which gives none.
+pub(crate) fn text_or_null(
+    alloc: Global,
+    value: &Value,
+    key: &str,
+    least: usize,
+    most: usize,
+) -> Result<Option<Text>, LineFault>
+    ensures { Gives Fails (λ t. t) result (field_lem key.now (or_null (text_from least most)) (view value.now)) }
+{
+    match fields::text_or_null(value, key, least, most) {
+        Some(Some(text)) => Ok(Some(Text::copy(alloc, text)?)),
+        Some(None) => Ok(None),
+        None => Err(bad_field(alloc, key)),
+    }
 }
 
 /// A tag, or null, which gives none.
@@ -292,4 +311,44 @@ fn places(alloc: Global, items: &[Value]) -> Result<Option<CellPath>, Memory>
         }
     }
     Ok(Some(CellPath { list }))
+}
+
+/// At most 8 texts of 0 to 200 bytes; none where the key is missing.
+pub(crate) fn args(alloc: Global, value: &Value, key: &str) -> Result<Texts, LineFault>
+    ensures { Gives Fails (λ texts. texts) result (field_else [] key.now args_from (view value.now)) }
+{
+    match value.get(key) {
+        Some(field) => args_of(alloc, key, field),
+        None => Ok(Texts {
+            list: Vec::new(alloc),
+        }),
+    }
+}
+
+#[tactic(auto, unfolding(crate::specs::Fields::args_from))]
+fn args_of(alloc: Global, key: &str, value: &Value) -> Result<Texts, LineFault>
+    ensures { Gives Fails (λ texts. texts) result (needed BadField key.now (args_from (view value.now))) }
+{
+    match kinds::list(value, 0, 8) {
+        Some(items) => {
+            let args = texts(alloc, items)?;
+            found(alloc, key, args)
+        }
+        None => Err(bad_field(alloc, key)),
+    }
+}
+
+fn texts(alloc: Global, items: &[Value]) -> Result<Option<Texts>, Memory>
+    ensures { IfOk result (λ texts. texts ≡ texts_from (items_view items.now)) }
+{
+    let mut list = Vec::new(alloc);
+    for item in items {
+        let Some(text) = kinds::text(item, 0, 200) else {
+            return Ok(None);
+        };
+        if list.push(Text::copy(alloc, text)?).is_err() {
+            return Err(Memory);
+        }
+    }
+    Ok(Some(Texts { list }))
 }

@@ -11,6 +11,8 @@ fn told(answer: &Result<Command, LineFault>) -> (&str, &str) {
         Ok(Command::Look) => ("look", ""),
         Ok(Command::Say { .. }) => ("say", ""),
         Ok(Command::Roll { .. }) => ("roll", ""),
+        Ok(Command::Macro { .. }) => ("macro", ""),
+        Ok(Command::Setmacro { .. }) => ("setmacro", ""),
         Ok(Command::Move { .. }) => ("move", ""),
         Ok(Command::Setprop { .. }) => ("setprop", ""),
         Ok(Command::Light { .. }) => ("light", ""),
@@ -50,6 +52,24 @@ fn lines_are_commands_or_faults(rt: HostRuntime) -> Result<(), Fail> {
         (r#"{"do":"say","text":"hi"}"#, ("say", "")),
         (r#"{"do":"say","text":"hi","to":2}"#, ("say", "")),
         (r#"{"do":"roll","dice":"1d6","to":"gmself"}"#, ("roll", "")),
+        (r#"{"do":"macro","name":"hit"}"#, ("macro", "")),
+        (
+            r#"{"do":"macro","name":"hit","args":["","7"],"to":"gm"}"#,
+            ("macro", ""),
+        ),
+        (
+            r#"{"do":"macro","name":"hit","args":null}"#,
+            ("BadField", "args"),
+        ),
+        (
+            r#"{"do":"setmacro","name":"hit","text":""}"#,
+            ("setmacro", ""),
+        ),
+        (
+            r#"{"do":"setmacro","name":"hit","text":null}"#,
+            ("setmacro", ""),
+        ),
+        (r#"{"do":"setmacro","name":"hit"}"#, ("BadField", "text")),
         (
             r#"{"do":"move","path":[[1,0],[-1000,1000]],"token":"1:ann"}"#,
             ("move", ""),

@@ -1,3 +1,4 @@
 pub mod Unique
 pub mod PlaceLemmas
 pub mod OneMap
+pub mod RunLemmas

@@ -1,3 +1,4 @@
 pub mod Places
 pub mod GmRules
 pub mod Rules
+pub mod MacroRules

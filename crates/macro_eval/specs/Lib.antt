@@ -5,6 +5,7 @@ pub mod Nodes
 pub mod Pieces
 pub mod Runs
 pub mod Rounds
+pub mod Intents
 pub mod Held
 pub mod Flat
 pub mod Answers

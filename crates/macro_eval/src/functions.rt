@@ -1,12 +1,12 @@
 //! What functions make of their arguments. `at` is the call's first byte.
 
-ghost use Rattle.std.specs.Prelude.{◌≡◌, ℤ, List, ℕ, IfOk, IfErr, IfSome, Some, None, pos, is_some, ◌<◌, ◌≤◌, ◌^◌, length, true};
+ghost use Rattle.std.specs.Prelude.{◌≡◌, ◌≢◌, ℤ, List, ℕ, IfOk, IfErr, IfSome, Some, None, pos, is_some, ◌<◌, ◌≤◌, ◌^◌, length, true};
 ghost use Rattle.reading.specs.Number.{value_after};
 ghost use Rattle.names.specs.TokenId.{id_of};
 ghost use Rattle.std.specs.Option.{option_copied};
 ghost use Rattle.std.specs.List.{list_all};
 ghost use Rattle.std.specs.Char.{is_ascii_digit};
-ghost use Rattle.names.specs.declared.kinds.PropClass.TheVariants.{Public};
+ghost use Rattle.names.specs.declared.kinds.PropClass.TheVariants.{Public, Secret};
 ghost use Rattle.macro_eval.specs.Held.{Held, running};
 ghost use Rattle.macro_eval.specs.Steps.{whole as whole_lem};
 ghost use Rattle.readable.specs.Table.{readable as readable_lem};
@@ -185,6 +185,7 @@ impl Setting<'_> {
         value: Value,
         state: &mut State,
     ) -> Result<Value, MacroStop>
+        requires { class ≢ Secret }
         ensures { Answers (intends_lem (given self.now) at class (id_of token.now) name.now value (running state.old)) result state.new }
     {
         let Ok(id) = TokenId::read(token.text().as_bytes()) else {

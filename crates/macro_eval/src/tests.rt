@@ -130,7 +130,7 @@ fn what_is_to_be_set_stands_in_order(rt: HostRuntime) -> Result<(), Fail> {
     };
     assert!(rt; outcome.texts.list.len() == 3);
     assert_eq!(rt; outcome.texts.list[1].text(), "4x10");
-    let intents = outcome.intents.list.as_slice();
+    let intents = outcome.intents.intents();
     assert!(rt; intents.len() == 2);
     assert!(rt; intents[0].class == PropClass::Own && intents[0].name == Tag::read(b"mp")?);
     assert_eq!(rt; intents[0].value.text(), "4");
@@ -262,7 +262,15 @@ fn faults_stand_at_their_places(rt: HostRuntime) -> Result<(), Fail> {
         ("[r: abs(\"a\")]", FaultKind::NotNumber, 4),
         ("[r: num(\"+1\")]", FaultKind::NotNumber, 4),
         ("[r: num(\"\")]", FaultKind::NotNumber, 4),
+        ("[r: max(\"a\", 1)]", FaultKind::NotNumber, 4),
         ("[r: len(1)]", FaultKind::NotText, 4),
+        ("[r: has(1, \"hp\")]", FaultKind::NotText, 4),
+        ("[r: setprop(\"1:ann\", 7, 1)]", FaultKind::NotText, 4),
+        ("[r: setprop(\"no id\", \"hp\", 1)]", FaultKind::NotYours, 4),
+        ("[r: prop(\"1:ann\", \"HP\")]", FaultKind::NoProp, 4),
+        ("[r: \"a\" * 1]", FaultKind::NotNumber, 8),
+        ("[r: 1 % \"a\"]", FaultKind::NotNumber, 6),
+        ("[r: 0 || \"a\"]", FaultKind::NotNumber, 6),
         ("[r: arg(1)]", FaultKind::BadArg, 4),
         ("[r: arg(-1)]", FaultKind::BadArg, 4),
         ("[r: arg(\"a\")]", FaultKind::NotNumber, 4),
@@ -282,6 +290,10 @@ fn faults_stand_at_their_places(rt: HostRuntime) -> Result<(), Fail> {
     }
     for text in [
         "[r: 999999999999999999 * 99]",
+        "[r: 999999999999999999 * 9 + 999999999999999999]",
+        "[r: -999999999999999999 * 9 - 999999999999999999]",
+        "[r: (-999999999999999999 * 9 - 223372036854775817) / -1]",
+        "[r: -(-999999999999999999 * 9 - 223372036854775817)]",
         "[r: abs(-999999999999999999 * 9 - 223372036854775817)]",
     ] {
         let over = to_self(rt.alloc(), text, &readable);

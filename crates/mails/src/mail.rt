@@ -148,7 +148,8 @@ impl Mail {
     }
 }
 
-fn with_end(alloc: Global, line: &[u8]) -> Result<LineText, Memory>
+/// The line with its LF.
+pub fn with_end(alloc: Global, line: &[u8]) -> Result<LineText, Memory>
     ensures { IfOk result (λ t. t ≡ line.now ++ 10 ∷ []) }
 {
     let Ok(mut bytes) = Vec::from_slice(alloc, line) else {

@@ -13,6 +13,7 @@ use Rattle.world.specs.Scene.{Scene}
 use Rattle.player_view.specs.Sight.{owns}
 use Rattle.player_view.specs.Shown.{is_shown}
 use Rattle.player_view.specs.View.{is_gm, acts_on, has_map, has_token, light_text, map_view, token_view, owned_part, view_of}
+use Rattle.player_view.proofs.ReadAlike.{readable_alike}
 use Rattle.player_view.specs.Asked.{asked_of, asked_of_view, mine_of, mine_in, known_of, known_in}
 use Rattle.player_view.specs.Laws.{AskedAlike}
 
@@ -90,6 +91,7 @@ asked_alike seats s q player = λ i. record {
   mine = λ id. mine_alike id i;
   known = λ name. known_alike name i;
   has_light = λ name. light_same name s.lights i;
+  readable = readable_alike seats s q i;
   whole = sym (ap (λ b. cond b (Some s) None) (not_gm q player)) i;
 }
   where

@@ -9,3 +9,5 @@ pub mod ToldLemmas
 pub mod LetterOrder
 pub mod ViewIs
 pub mod FollowLemmas
+pub mod ReadTables
+pub mod ReadAlike

@@ -13,7 +13,9 @@ use Rattle.names.specs.TokenId.{id_eq}
 use Rattle.views.specs.declared.view.View.{View}
 use Rattle.views.specs.declared.view.MapView.{MapView}
 use Rattle.views.specs.declared.view.TokenView.{TokenView}
-use Rattle.views.specs.declared.view.OwnedPart.{OwnedPart}
+use Rattle.readable.specs.Table.{Table}
+pub use Rattle.player_view.specs.Readables.{props_in}
+use Rattle.player_view.specs.Readables.{readable_of, readable_by_view}
 use Rattle.player_view.specs.View.{is_gm, acts_on, has_map, exposed_to}
 use Rattle.world.specs.Scene.{Scene}
 
@@ -40,6 +42,8 @@ pub record Asked : Type 0 where
   pub known : List ℕ → Option Known
   -- whether there is a light type of that name
   pub has_light : List ℕ → Bool
+  -- what the seat's macros can read, and the tokens that they may change
+  pub readable : Table
   -- the whole scene, for the game master; no view answers it
   pub whole : Option Scene
 
@@ -57,14 +61,11 @@ asked_of seats s q = record {
   mine = λ id. option_map mine_of (find (λ t. has_id id t && acts_on s q t) s.tokens);
   known = λ name. option_map (known_of s q) (find (λ m. has_map q m && has_name name m) s.maps);
   has_light = λ name. list_any (λ light. bytes_eq name light.0) s.lights;
+  readable = readable_of seats s q;
   whole = if is_gm q then Some s else None;
 }
 
 -- ---- a view answers
-
-abbrev pub props_in : Option OwnedPart → List Property
-props_in None = []
-props_in (Some part) = part.own
 
 abbrev pub mine_in : TokenView → Mine
 mine_in t = record { map = t.map; cell = t.cell; size = t.size; public = t.props; own = props_in t.owned }
@@ -78,5 +79,6 @@ asked_of_view seats v = record {
   mine = λ id. option_map mine_in (find (λ t. id_eq t.id id && is_some t.owned) v.tokens);
   known = λ name. option_map known_in (find (λ m. bytes_eq m.name name) v.maps);
   has_light = λ name. list_any (λ light. bytes_eq name light.0) v.lights;
+  readable = readable_by_view seats v;
   whole = None;
 }

@@ -9,3 +9,4 @@ pub mod Told
 pub mod Laws
 pub mod Tables
 pub mod Follows
+pub mod Readables

@@ -14,6 +14,7 @@ use crate::run::Played;
 use campaign_core::Campaign;
 use campaign_law::Entry;
 use line_io::{Sink, write_whole};
+use mails::with_end;
 use names::{LineText, Memory, SeatNo};
 use std::alloc::Global;
 use topology::Eye;
@@ -122,22 +123,10 @@ fn send_ended<O: Sink>(alloc: Global, seat: SeatNo, line: &[u8], out: &mut O) ->
     ensures count { O.faults_of out.old ≤ O.faults_of out.new }
     ensures write_fault { played result ≡ Played.WriteFault → CountRose (O.faults_of out.old) (O.faults_of out.new) }
 {
-    match with_line_end(alloc, line) {
-        Ok(ended) => send_line(alloc, seat, &ended, out),
+    match with_end(alloc, line) {
+        Ok(ended) => send_line(alloc, seat, ended.bytes(), out),
         Err(_) => Err(Played::Memory),
     }
-}
-
-fn with_line_end(alloc: Global, line: &[u8]) -> Result<Vec<u8>, Memory>
-    ensures { IfOk result (λ ended. ended.items ≡ line.now ++ 10 ∷ []) }
-{
-    let Ok(mut ended) = Vec::from_slice(alloc, line) else {
-        return Err(Memory);
-    };
-    if ended.push(b'\n').is_err() {
-        return Err(Memory);
-    }
-    Ok(ended)
 }
 
 // The answer is the Taken, where lines wait.

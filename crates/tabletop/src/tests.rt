@@ -4,6 +4,7 @@
 mod campaigns;
 mod checks;
 mod evening;
+mod macros;
 mod plays;
 mod refusals;
 mod stops;
@@ -99,7 +100,7 @@ fn check(rt: &impl Abort, alloc: Global, run: &Run<'_>) -> Result<String, Fail> 
 #[test]
 fn plays_scripts(rt: HostRuntime) -> Result<(), Fail> {
     let evening = [evening::EVENING];
-    let tables: [&[Run<'_>]; 3] = [&plays::PLAYS, &stops::STOPS, &evening];
+    let tables: [&[Run<'_>]; 4] = [&plays::PLAYS, &macros::MACROS, &stops::STOPS, &evening];
     for run in tables.into_iter().flatten() {
         check(&rt, rt.alloc(), run)?;
     }

@@ -4,6 +4,7 @@ use Rattle.campaign_law.proofs.Leaves.{leave_stands}
 use Rattle.campaign_law.proofs.JoinedSeats.{joined_keeps}
 use Rattle.campaign_law.proofs.SessionFronts.{session_grows, session_stays}
 use Rattle.campaign_law.proofs.SessionLaws.{still_held, lines_counted, lasts, taken_is_all, no_more_lines}
+use Rattle.campaign_law.proofs.Queues.{entry_queues_few, queued_is_bounded}
 use Rattle.campaign_law.proofs.session_laws.Goals as goal
 
 pub returns-clause-begins : goal.returns-clause-begins
@@ -35,3 +36,9 @@ returns-clause-taken c = λ w h place seat reader writer n e s opening sits last
 
 pub returns-clause-bounded : goal.returns-clause-bounded
 returns-clause-bounded c = λ w h place seat reader writer count opening sits each drops ended. no_more_lines w h place seat reader writer sits count (slice_get_within h place _ sits.join) opening each drops ended
+
+pub returns-clause-few : goal.returns-clause-few
+returns-clause-few c = entry_queues_few
+
+pub returns-clause-queued : goal.returns-clause-queued
+returns-clause-queued c = queued_is_bounded

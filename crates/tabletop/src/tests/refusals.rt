@@ -1,5 +1,6 @@
 //! Each refusal, in a campaign that is full: 8 maps, 32 types of lights and of sights, 2,048 walls on one map, 64
-//! properties of each class at one token, and as many used tags as the game master and a player may use.
+//! properties of each class at one token, as many used tags as the game master and a player may use, and 32 macros of a
+//! player's.
 
 use super::campaigns::THREE_SEATS;
 use super::{WORDS, plain_run, played, with_tabs};
@@ -7,7 +8,7 @@ use std::alloc::Global;
 use std::test::Fail;
 
 // The script's line, and the one line that it sends.
-const REFUSED: [(&str, &str); 40] = [
+const REFUSED: [(&str, &str); 49] = [
     (r#"1 {"#, r#"1 {"n":2,"no":1,"refused":"BadJson"}"#),
     (
         r#"1 {"do":"jump"}"#,
@@ -165,6 +166,42 @@ const REFUSED: [(&str, &str); 40] = [
         r#"0 {"do":"expose","seat":9,"map":"m0","rect":[0,0,1,1]}"#,
         r#"0 {"n":20,"no":14,"refused":"NoSuchSeat"}"#,
     ),
+    (
+        r#"1 {"do":"macro","name":"none"}"#,
+        r#"1 {"n":20,"no":15,"refused":"NoSuchMacro"}"#,
+    ),
+    (
+        r#"1 {"do":"setmacro","name":"none","text":null}"#,
+        r#"1 {"n":21,"no":15,"refused":"NoSuchMacro"}"#,
+    ),
+    (
+        r#"1 {"do":"setmacro","name":"new","text":""}"#,
+        r#"1 {"n":22,"no":16,"refused":"MacroLimit"}"#,
+    ),
+    (
+        r#"1 {"do":"macro","name":"full"}"#,
+        r#"1 {"n":23,"no":17,"refused":"PropertyLimit"}"#,
+    ),
+    (
+        r#"1 {"do":"setmacro","name":"m0","text":"[r: 101d6]"}"#,
+        r#"1 {"n":24,"no":19,"refused":"DiceLimit"}"#,
+    ),
+    (
+        r#"1 {"do":"macro","name":"over"}"#,
+        r#"1 {"n":25,"no":20,"refused":"Overflow"}"#,
+    ),
+    (
+        r#"1 {"do":"setmacro","name":"m0","text":"[r: 1"}"#,
+        r#"1 {"at":5,"n":26,"no":21,"refused":"MacroSyntax"}"#,
+    ),
+    (
+        r#"1 {"do":"macro","name":"budget"}"#,
+        r#"1 {"n":27,"no":22,"refused":"MacroBudget"}"#,
+    ),
+    (
+        r#"1 {"do":"macro","name":"fault"}"#,
+        r#"1 {"at":4,"kind":"BadArg","n":28,"no":23,"refused":"MacroFault"}"#,
+    ),
 ];
 
 const HELLOS: &str = r#"0 {"do":"hello","seat":0,"key":"g"}
@@ -214,18 +251,32 @@ fn add_maps(alloc: Global, text: &mut String) -> Result<(), Fail> {
     Ok(())
 }
 
+// Four macros whose runs are refused, and 28 that say nothing.
+fn macros(alloc: Global) -> Result<String, Fail> {
+    let mut text = String::from_str(
+        alloc,
+        r#"{"budget":"[r,count(1000): 1+1+1+1+1+1]","fault":"[r: arg(0)]","full":"[r: setprop(\"1:t0\", \"new\", 0)]","over":"[r: 999999999 * 999999999 * 999999999]","#,
+    )?;
+    add_numbered(alloc, &mut text, 28, r#""m"#, r#"":"""#)?;
+    text.push_str("}")?;
+    Ok(text)
+}
+
 // A seat whose tags are so many numbers behind the letter.
 fn add_seat(
     alloc: Global,
     text: &mut String,
     key: &str,
+    macros: &str,
     count: u32,
     letter: &str,
 ) -> Result<(), Fail> {
     text.push_str(r#"{"drawn":0,"fog":{},"key":""#)?;
     text.push_str(key)?;
+    text.push_str(r#"","macros":"#)?;
+    text.push_str(macros)?;
     text.push_str(
-        r#"","macros":{},"seed":"0000000000000000000000000000000000000000000000000000000000000000","tags":["#,
+        r#","seed":"0000000000000000000000000000000000000000000000000000000000000000","tags":["#,
     )?;
     add_numbered(alloc, text, count, &format!(in alloc; "\"{letter}")?, "\"")?;
     text.push_str("]}")?;
@@ -233,13 +284,13 @@ fn add_seat(
 }
 
 fn add_seats(alloc: Global, text: &mut String) -> Result<(), Fail> {
-    add_seat(alloc, text, "g", 2048, "g")?;
+    add_seat(alloc, text, "g", "{}", 2048, "g")?;
     text.push_str(",")?;
-    add_seat(alloc, text, "a", 16, "t")?;
+    add_seat(alloc, text, "a", &macros(alloc)?, 16, "t")?;
     text.push_str(",")?;
-    add_seat(alloc, text, "b", 0, "t")?;
+    add_seat(alloc, text, "b", "{}", 0, "t")?;
     text.push_str(",")?;
-    add_seat(alloc, text, "c", 0, "t")
+    add_seat(alloc, text, "c", "{}", 0, "t")
 }
 
 fn add_props(alloc: Global, text: &mut String, class: &str) -> Result<(), Fail> {

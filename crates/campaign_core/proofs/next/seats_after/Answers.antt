@@ -15,6 +15,7 @@ use Rattle.campaign_core.specs.Shown.{AreStill, IsShown, is_none, made_view}
 use Rattle.campaign_core.proofs.Nexts.{stands, if_ok}
 use Rattle.campaign_core.specs.Glances.{ViewsFit}
 use Rattle.campaign_core.proofs.Following.{views_fit}
+use Rattle.campaign_core.proofs.Posts.{queues_few}
 use Rattle.campaign_core.proofs.Shows.{joins_full, shown_seats, stays_in_view}
 use Rattle.campaign_core.proofs.next.seats_after.Goals as goal
 
@@ -22,6 +23,9 @@ pub next_seats-requires-clause-joins : goal.next_seats-requires-clause-joins
 unfolding with_book
 next_seats-requires-clause-joins c = λ joins.
     ap (λ (o : Outcome). o.full) c.requires.outcome ∙ joins_full (world_at c.args.state.now) c.args.entry.now (sym (ap (λ (o : Outcome). o.joins) c.requires.outcome) ∙ joins)
+
+pub next_seats-requires-clause-few : goal.next_seats-requires-clause-few
+next_seats-requires-clause-few c = queues_few (world_at c.args.state.now) c.args.entry.now c.args.outcome.now c.args.book c.requires.outcome
 
 pub next_seats-requires-clause-shown : goal.next_seats-requires-clause-shown
 next_seats-requires-clause-shown c = λ seat.

@@ -12,6 +12,6 @@ returns-then-is_empty c =
 
 pub returns : goal.returns
 returns c =
-    let queued : c.in-Some.queued ≡ c.args.post.now.seat.queued + length c.in_ok-lines.lines.items =
-    c.in-Some.ensures.1 ∙ (λ i. (c.post.view_is i).seat.queued + (c.len.ensures ∙ c.in_ok-lines.lines.ok.0) i) in
-    some_own c.args.seat c.args.acts c.args.outcome.now c.args.book _ _ (posted c.args.post.now) (record { book = c.args.book; queued = c.in-Some.queued; taken = c.changed_taken.result; lines = c.in_ok-lines.lines }) refl c.requires.own queued c.changed_taken.ensures c.in_ok-lines.ensures
+    let queued : c.post.inside.queued + c.len.result ≡ c.args.post.now.seat.queued + length c.in_ok-lines.lines.items =
+    λ i. (c.post.view_is i).seat.queued + (c.len.ensures ∙ c.in_ok-lines.lines.ok.0) i in
+    some_own c.args.seat c.args.acts c.args.outcome.now c.args.book _ _ (posted c.args.post.now) (record { book = c.args.book; queued = c.post.inside.queued + c.len.result; taken = c.changed_taken.result; lines = c.in_ok-lines.lines }) refl c.requires.own queued c.changed_taken.ensures c.in_ok-lines.ensures

@@ -1,0 +1,18 @@
+use Rattle.std.proofs.Common.{ap, ◌∙◌, arith}
+use Rattle.serde_json.specs.Data.{object}
+use Rattle.serde_json.proofs.Views.{view-Object}
+use Rattle.campaign_writing.specs.Kept.{IsTag}
+use Rattle.campaign_writing.specs.Scenes.{sight_tree}
+use Rattle.campaign_writing.specs.Trees.{named}
+use Rattle.campaign_writing.proofs.Members.{named_one_more}
+use Rattle.campaign_writing.proofs.Parts.{told_one_more, whole_taken}
+use Rattle.campaign_writing.proofs.type_values.sights_value.Goals as goal
+
+pub loop-place-preserved : goal.loop-place-preserved
+loop-place-preserved c = record {
+  tree = named_one_more sight_tree c.loop-place.place c.args.sights.now c.at-name.result _ _ _ c.len-place-end.ensures.valid.table.in_order c.at-name.ensures c.loop-place.invariant.tree c.in_ok-sight.ensures c.in_ok-put_named.ensures.members;
+  names = told_one_more (λ entry. IsTag entry.0) c.loop-place.place c.args.sights.now c.at-name.result c.at-name.ensures c.loop-place.invariant.names c.in_ok-put_named.ensures.tag;
+}
+
+pub returns-clause-tree : goal.returns-clause-tree
+returns-clause-tree c = view-Object c.loop-place.members ∙ ap object (c.loop-place.invariant.tree ∙ ap (named sight_tree) (whole_taken c.loop-place.place c.args.sights.now (omega arith)))

@@ -1,0 +1,50 @@
+-- The canonical campaign text of a world.
+use Rattle.std.specs.Prelude.{ℕ, List, map, codes}
+use Rattle.hex.specs.Hex.{encode_lower}
+use Rattle.seats.specs.Book.{Book}
+use Rattle.seats.specs.declared.seat_state.SeatState.TheVariants.{Free}
+use Rattle.serde_json.specs.Data.{Data, string, object, no_members, member}
+use Rattle.serde_json.specs.Written.{compact_text}
+use Rattle.world.specs.Scene.{Scene}
+use Rattle.world.specs.World.{World}
+use Rattle.campaign_writing.specs.Trees.{whole, list, named}
+use Rattle.campaign_writing.specs.Scenes.{lights_tree, sights_tree, maps_tree, tokens_tree, fog_tree}
+
+abbrev pub tags_tree : List (List ℕ) → Data
+tags_tree tags = list (map string tags)
+
+abbrev pub macros_tree : List (List ℕ × List ℕ) → Data
+macros_tree macros = object (named string macros)
+
+unfoldable pub seat_tree : Scene → Book → Data
+seat_tree s book = object
+    (member (codes "drawn") (whole book.drawn)
+    (member (codes "fog") (fog_tree s book.seat)
+    (member (codes "key") (string book.key)
+    (member (codes "macros") (macros_tree book.macros)
+    (member (codes "seed") (string (encode_lower book.seed))
+    (member (codes "tags") (tags_tree book.tags) no_members))))))
+
+abbrev pub seats_tree : Scene → List Book → Data
+seats_tree s books = list (map (seat_tree s) books)
+
+unfoldable pub campaign_tree : World → Data
+campaign_tree w = object
+    (member (codes "format") (whole 1)
+    (member (codes "lights") (lights_tree w.scene.lights)
+    (member (codes "maps") (maps_tree w.scene.maps)
+    (member (codes "seats") (seats_tree w.scene w.books)
+    (member (codes "sights") (sights_tree w.scene.sights)
+    (member (codes "tokens") (tokens_tree w.scene.tokens) no_members))))))
+
+-- the campaign text of the world. Lines and the states of seats don't stand in it
+unfoldable pub canonical : World → List ℕ
+canonical w = compact_text (campaign_tree w)
+
+-- the book as a campaign opens with it
+abbrev pub reopened_book : Book → Book
+reopened_book book = record book { lines = 0; state = Free }
+
+-- the world that the text opens with: no line was counted, and all seats are Free
+abbrev pub reopened : World → World
+reopened w = record w { books = map reopened_book w.books }
