@@ -7,7 +7,7 @@ use Rattle.campaign_law.specs.declared.entry.Entry.{Entry}
 use Rattle.campaign_law.specs.World.{World}
 use Rattle.campaign_law.specs.Worlds.{FitsTogether}
 use Rattle.campaign_law.specs.Session.{changes_state}
-use Rattle.campaign_law.specs.State.{State, world_in, state_of}
+use Rattle.campaign_law.specs.State.{world_in, state_of}
 use Rattle.campaign_law.specs.Law.{IsOpening}
 use Rattle.campaign_core.specs.declared.next.Prepared.{Prepared}
 use Rattle.campaign_core.specs.declared.campaign.Made.{Made}
