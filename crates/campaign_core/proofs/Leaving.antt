@@ -1,11 +1,11 @@
 -- A Leave changes the post of its seat alone, and needs one place of those that are kept for it.
-use Rattle.std.proofs.Common.{◌≡◌, ◌≢◌, ◌≤◌, ◌<◌, ℕ, zero, suc, ◌+◌, ◌-◌, ◌*◌, Bool, true, false, cond, ◌&&◌, ◌++◌, eqb, List, [], ◌∷◌, length, map, drop, set, Some, None, refl, sym, ◌∙◌, ap, subst, arith, zero-add, eqb-true}
-use Rattle.std.specs.Prelude.{Option, option_map, slice_get, IfSome}
+use Rattle.std.proofs.Common.{◌≡◌, ◌≢◌, ◌≤◌, ◌<◌, ℕ, zero, suc, ◌+◌, ◌-◌, ◌*◌, Bool, true, false, cond, ◌||◌, ◌&&◌, ◌++◌, eqb, List, [], ◌∷◌, length, map, drop, set, Some, None, refl, sym, ◌∙◌, ap, subst, arith, zero-add, add-zero, eq-eqb, eqb-true, max, min}
+use Rattle.std.specs.Prelude.{Option, option_map, slice_get, IfSome, unwrap_or}
 use Rattle.std.proofs.lemmas.Bool.Decides.{nat_tests}
 use Rattle.std.proofs.lemmas.List.{length-drop}
 use Rattle.std.proofs.lemmas.Option.{slice_get-get_or, slice_get_past, slice_get-map}
 use Rattle.std.specs.List.{ItemBy, AllByRecursion}
-use Rattle.seats.specs.SeatState.{is_free, closed}
+use Rattle.seats.specs.SeatState.{is_free, is_joined, is_closing, closed}
 use Rattle.seats.specs.declared.seat_state.SeatState.{SeatState}
 use Rattle.seats.specs.declared.seat_state.SeatState.TheVariants.{Free, Joined, Closing}
 use Rattle.views.specs.declared.view.View.{View}
@@ -14,19 +14,19 @@ use Rattle.command_effects.specs.Settle.{IsSettled}
 use Rattle.player_view.specs.Asked.{Asked}
 use Rattle.campaign_law.specs.declared.entry.Entry.{Entry}
 use Rattle.campaign_law.specs.declared.entry.Entry.TheVariants.{Leave}
-use Rattle.campaign_law.specs.Seat.{Seat, IsFreshSeat, freed_seat, is_let_go, settled, taken_to}
-use Rattle.campaign_law.specs.Outcome.{Outcome, nothing, outcome_at}
-use Rattle.campaign_law.specs.World.{World, seat_at, asked_of, steps_of, outcome_of, addressed, view_lines, some_to_list, is_present, queued_lines, scene_after, mapped_from}
+use Rattle.campaign_law.specs.Seat.{Seat, IsFreshSeat, freed_seat, is_let_go, let_go, settled, taken_to}
+use Rattle.campaign_law.specs.Outcome.{Outcome, nothing, outcome_at, seat_of}
+use Rattle.campaign_law.specs.World.{World, seat_at, asked_of, steps_of, outcome_of, changed, addressed, view_lines, some_to_list, is_present, queued_reply, queued_lines, scene_after, mapped_from, replay}
 use Rattle.campaign_law.specs.Session.{session, leaves, standing, changes_state}
 use Rattle.campaign_law.specs.State.{Post, State, world_in, post_by, post_after, mail_after, state_after, state_of}
 use Rattle.campaign_law.specs.Law.{IsOpening, answer_of}
 use Rattle.campaign_law.specs.Worlds.{FitsTogether}
-use Rattle.campaign_law.proofs.Lists.{ap₂, append_nil, mapped_from-same}
+use Rattle.campaign_law.proofs.Lists.{ap₂, append_nil, length-mapped_from, mapped_from-same, mapped_from-itself}
 use Rattle.campaign_law.proofs.Queues.{posts_bounded}
 use Rattle.campaign_law.proofs.Seats.{settled-free, settled-none}
-use Rattle.campaign_law.proofs.Sessions.{kept_at, IsKept}
-use Rattle.campaign_law.proofs.States.{post_found}
-use Rattle.campaign_law.proofs.Settled.{scene_stays}
+use Rattle.campaign_law.proofs.Sessions.{kept_at, IsKept, world_in-state_of}
+use Rattle.campaign_law.proofs.States.{post_found, slice_get-state_of}
+use Rattle.campaign_law.proofs.Settled.{scene_stays, replay_settled}
 use Rattle.campaign_law.proofs.Views.{same_no_change}
 use Rattle.campaign_core.specs.Places.{Place, posted}
 use Rattle.campaign_core.proofs.Nexts.{no_steps}

@@ -1,23 +1,24 @@
 -- What is made for a seat, put in, is its post after the entry.
-use Rattle.std.proofs.Common.{ltb, ◌≡◌, ◌≤◌, ◌<◌, ◌≢◌, ℕ, zero, suc, ◌+◌, ◌++◌, Bool, true, false, cond, eqb, List, [], ◌∷◌, length, map, Some, None, refl, sym, ◌∙◌, ap, subst, arith, zero-add, eqb-true, eq-eqb, length-append, get_or}
-use Rattle.std.specs.Prelude.{Option, option_map, slice_get}
+use Rattle.std.proofs.Common.{ltb, ◌≡◌, ◌≤◌, ◌<◌, ◌≢◌, ℕ, zero, suc, ◌+◌, ◌++◌, Bool, true, false, cond, eqb, List, [], ◌∷◌, length, map, set, Some, None, refl, sym, ◌∙◌, ap, subst, arith, zero-add, eqb-true, eq-eqb, length-append, get_or}
+use Rattle.std.specs.Prelude.{Option, option_map, slice_get, unwrap_or}
 use Rattle.std.proofs.lemmas.Option.{slice_get-map, slice_get_within, slice_get-get_or}
 use Rattle.std.proofs.lemmas.Bool.Decides.{nat_tests}
 use Rattle.seats.specs.Book.{Book}
 use Rattle.views.specs.declared.view.View.{View}
+use Rattle.world.specs.Scene.{Scene}
 use Rattle.campaign_law.specs.Seat.{Seat, settled}
 use Rattle.campaign_law.specs.declared.entry.Entry.{Entry}
 use Rattle.campaign_law.specs.Outcome.{Outcome, seat_of}
 use Rattle.campaign_law.specs.SessionLaws.{lines_per_entry}
 use Rattle.campaign_law.specs.World.{World, asked_of, changed, queued_lines, outcome_of, seat_at, seat_by, steps_of, mapped_from}
-use Rattle.campaign_law.specs.State.{Post, post_by, mail_after}
-use Rattle.campaign_law.proofs.Lists.{mapped_from-same}
+use Rattle.campaign_law.specs.State.{Post, State, world_in, post_by, mail_after}
+use Rattle.campaign_law.proofs.Lists.{ap₂, mapped_from-same}
 use Rattle.campaign_law.proofs.Messages.{outcome_few}
 use Rattle.campaign_law.proofs.Queues.{lines_few}
 use Rattle.campaign_core.specs.declared.state.NextPost.{NextPost}
-use Rattle.campaign_core.specs.Places.{next_seat, moved, put_in, made_in, next_at, put_all}
+use Rattle.campaign_core.specs.Places.{Place, Standing, posted, law, world_at, next_seat, moved, put_in, made_in, next_at, put_all, HaveRoom}
 use Rattle.campaign_core.specs.Steps.{with_book}
-use Rattle.campaign_core.specs.Sound.{IsSound, QueuesFew}
+use Rattle.campaign_core.specs.Sound.{IsSound, AreSound, QueuesFew}
 use Rattle.campaign_core.proofs.Leaving.{rests}
 
 not_before : (a n : ℕ) → a ≡ n → ltb a n ≡ false

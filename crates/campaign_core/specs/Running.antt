@@ -8,7 +8,7 @@ use Rattle.campaign_law.specs.World.{World}
 use Rattle.campaign_law.specs.Worlds.{FitsTogether, opened_of}
 use Rattle.campaign_law.specs.Written.{IsWritten}
 use Rattle.campaign_law.specs.Session.{changes_state}
-use Rattle.campaign_law.specs.State.{world_in, state_of}
+use Rattle.campaign_law.specs.State.{State, world_in, state_of}
 use Rattle.campaign_law.specs.Law.{IsOpening}
 use Rattle.campaign_core.specs.declared.next.Prepared.{Prepared}
 use Rattle.campaign_core.specs.declared.campaign.Made.{Made}

@@ -1,4 +1,4 @@
-use Rattle.std.proofs.Common.{◌≡◌, ◌∙◌, ap, sym, true, arith, map, length}
+use Rattle.std.proofs.Common.{◌≡◌, ◌≤◌, ◌+◌, ◌∙◌, ap, sym, subst, true, arith, ℕ, map, length}
 use Rattle.std.proofs.lemmas.List.{length-map}
 use Rattle.campaign_law.specs.declared.entry.Entry.{Entry}
 use Rattle.campaign_law.specs.declared.entry.Entry.TheVariants.{Leave}

@@ -1,5 +1,7 @@
-use Rattle.std.proofs.Common.{◌≡◌, ◌+◌, ◌∙◌, sym, refl, length}
-use Rattle.campaign_core.specs.Places.{posted}
+use Rattle.std.proofs.Common.{◌≡◌, ◌+◌, ◌∙◌, sym, ap, refl, length, [], Some}
+use Rattle.player_view.specs.View.{view_of}
+use Rattle.campaign_law.specs.World.{queued_lines}
+use Rattle.campaign_core.specs.Places.{Place, posted}
 use Rattle.campaign_core.proofs.Posts.{some_own, none_own, empty_items}
 use Rattle.campaign_core.proofs.queues.next_post.Goals as goal
 

@@ -1,4 +1,4 @@
-use Rattle.std.proofs.Common.{cond, None, ◌≡◌, ◌+◌, ◌++◌, ◌∙◌, ℕ, refl, rules, ap, eqb, sym, subst, length, map, ◌≤◌}
+use Rattle.std.proofs.Common.{cond, None, ◌≡◌, ◌+◌, ◌++◌, ◌∙◌, ℕ, refl, rules, ap, eqb, sym, subst, length, map, Some, ◌≤◌}
 use Rattle.std.specs.Prelude.{Option}
 use Rattle.std.proofs.lemmas.List.{length-map}
 use Rattle.views.specs.declared.view.View.{View}

@@ -1,10 +1,10 @@
-use Rattle.std.proofs.Common.{◌∙◌, refl, sym, ap, subst, arith}
+use Rattle.std.proofs.Common.{rules, ◌≡◌, ◌≤◌, ◌+◌, ◌++◌, ◌∷◌, [], ◌∙◌, refl, sym, ap, subst, length, Some, true, false, arith, ℕ}
 use Rattle.std.specs.Prelude.{is_some, option_map}
 use Rattle.world.specs.Scene.{Scene}
 use Rattle.command_looks.specs.Fields.{AreKept}
 use Rattle.campaign_law.specs.declared.answer.Answer.{Answer}
-use Rattle.campaign_law.specs.World.{World, steps_of, outcome_of, replay}
-use Rattle.campaign_law.specs.State.{world_in}
+use Rattle.campaign_law.specs.World.{World, steps_of, outcome_of, replay, step}
+use Rattle.campaign_law.specs.State.{State, world_in}
 use Rattle.campaign_law.specs.Law.{Course, answer_of, ChangesLittle}
 use Rattle.campaign_law.proofs.Simulation.{sent_is_machine}
 use Rattle.campaign_law.proofs.Refused.{refused_changes_little}

@@ -1,14 +1,14 @@
-use Rattle.std.proofs.Common.{rules, ◌≡◌, ◌≤◌, ◌+◌, ◌-◌, ◌∙◌, Some, vec_len, vec_capacity, ap, sym, subst, refl, true, false, arith}
+use Rattle.std.proofs.Common.{rules, ◌≡◌, ◌≤◌, ◌+◌, ◌-◌, ◌∙◌, Some, vec_len, vec_capacity, ap, sym, subst, refl, true, false, arith, ℕ, length}
 use Rattle.std.proofs.lemmas.List.{length-map}
-use Rattle.std.specs.Prelude.{Option}
+use Rattle.std.specs.Prelude.{IsOk, Option}
 use Rattle.command_looks.specs.Touched.{looks_of}
 use Rattle.campaign_law.specs.World.{World, outcome_of, replay}
 use Rattle.campaign_law.specs.Worlds.{FitsTogether}
 use Rattle.campaign_law.specs.Session.{changes_state}
-use Rattle.campaign_law.specs.Law.{Course}
+use Rattle.campaign_law.specs.Law.{Course, world_of}
 use Rattle.campaign_law.specs.State.{State, world_in}
 use Rattle.campaign_law.proofs.Simulation.{sent_is_machine}
-use Rattle.campaign_core.specs.Places.{law, posted, HaveRoom}
+use Rattle.campaign_core.specs.Places.{law, posted, world_at, HaveRoom}
 use Rattle.campaign_core.specs.declared.campaign.Made.TheVariants.{Whole}
 use Rattle.campaign_core.specs.declared.campaign.Staged.{Staged}
 use Rattle.campaign_core.specs.Prepared.{IsPrepared}
