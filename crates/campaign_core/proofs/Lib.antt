@@ -13,3 +13,4 @@ pub mod Puts
 pub mod Shows
 pub mod Running
 pub mod Lines
+pub mod Dumping

@@ -90,6 +90,7 @@ restaged origin h room room' before after kept stage stage' r same count more st
       opening = r.opening;
       fits = r.fits;
       tables = r.tables;
+      written = r.written;
       fields = subst (λ (s : State). AreKept s.scene kept.fields) (sym same) r.fields;
       views = subst (λ (s : State). AreShown (world_in s) kept.views) (sym same) r.views;
       count = r.count ∙ sym count;
@@ -115,6 +116,7 @@ advances origin h h' room room' before after kept kept' stage e r next seats fie
   opening = r.opening;
   fits = r.fits;
   tables = r.tables;
+  written = r.written;
   fields = fields;
   views = subst (λ w. AreShown w kept'.views) (sym (ap world_in next ∙ world_after (law before) e)) shown;
   count = same ∙ r.count ∙ sym seats;

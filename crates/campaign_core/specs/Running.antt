@@ -5,7 +5,8 @@ use Rattle.player_view.specs.Tables.{HasTables}
 use Rattle.command_looks.specs.Fields.{AreKept}
 use Rattle.campaign_law.specs.declared.entry.Entry.{Entry}
 use Rattle.campaign_law.specs.World.{World}
-use Rattle.campaign_law.specs.Worlds.{FitsTogether}
+use Rattle.campaign_law.specs.Worlds.{FitsTogether, opened_of}
+use Rattle.campaign_law.specs.Written.{IsWritten}
 use Rattle.campaign_law.specs.Session.{changes_state}
 use Rattle.campaign_law.specs.State.{State, world_in, state_of}
 use Rattle.campaign_law.specs.Law.{IsOpening}
@@ -43,6 +44,7 @@ pub record IsRunning (origin : World) (history : List Entry) (places : ℕ) (bef
   pub opening : IsOpening origin
   pub fits : FitsTogether origin
   pub tables : HasTables origin.scene
+  pub written : IsWritten (opened_of origin)
   pub fields : AreKept before.scene kept.fields
   pub views : AreShown (world_in (law before)) kept.views
   pub count : length kept.views ≡ length before.posts

@@ -3,6 +3,7 @@ ghost use Rattle.std.specs.Prelude.{◌+◌, None, IfSome, ◌≡◌, ◌<◌, �
 ghost use Rattle.campaign_file.specs.Campaign.{IsOpening as IsOpeningList};
 ghost use Rattle.mails.specs.Texts.{text_of};
 ghost use Rattle.campaign_law.specs.Worlds.{opening_world};
+ghost use Rattle.campaign_law.specs.Written.{IsWritten};
 ghost use Rattle.campaign_core.specs.Opening.{world_of_text, IsOpenFault};
 ghost use Rattle.std.specs.Option.{option_copied};
 ghost use Rattle.command_looks.specs.Fields.{field_for};
@@ -31,6 +32,8 @@ use view_keep::Keep;
 use views::View;
 use vision::Fields;
 use world::World;
+
+mod dumping;
 
 /// A place in the history for an entry, and two for each seat: a Joined one becomes Closing, and then Free.
 const PLACES: usize = 67;
@@ -141,7 +144,8 @@ impl<E: Eye + Drop> Campaign<E> {
 
     /// The campaign that opens with this world, in which each seat is Free. What players see is exposed to them.
     fn of_world(alloc: Global, world: World, mut eye: E) -> Result<Campaign<E>, Memory>
-        requires { IsOpeningList world.books }
+        requires opening { IsOpeningList world.books }
+        requires written { IsWritten world }
         ensures world { IfOk result (λ c. c.origin ≡ opening_world world) }
         ensures opening { IfOk result (λ c. IsOpening c.origin) }
         ensures history { IfOk result (λ c. c.history ≡ []) }

@@ -6,10 +6,13 @@ use Rattle.command_effects.specs.Settle.{settled}
 use Rattle.command_looks.specs.Fields.{AreKept}
 use Rattle.command_looks.specs.Touched.{looks_of_opening}
 use Rattle.campaign_law.specs.State.{State, world_in, state_of, opening_post, opening_state}
-use Rattle.campaign_law.specs.Worlds.{FitsTogether}
+use Rattle.campaign_law.specs.World.{World}
+use Rattle.campaign_law.specs.Worlds.{FitsTogether, opened_of}
+use Rattle.campaign_law.specs.Written.{IsWritten}
 use Rattle.player_view.specs.Tables.{HasTables}
 use Rattle.command_effects.proofs.KeptScenes.{settled_kept}
 use Rattle.campaign_law.proofs.Worlds.{fits_opened}
+use Rattle.campaign_law.proofs.WrittenWorlds.{written_opened}
 use Rattle.campaign_law.specs.Law.{IsOpening}
 use Rattle.campaign_law.proofs.States.{opened}
 use Rattle.campaign_core.specs.Places.{law}
@@ -38,13 +41,13 @@ pub returns-clause-opening : goal.returns-clause-opening
 returns-clause-opening g c =
     let is_opened : law c.in_ok-origin.origin ≡ opening_state c.args.world.books c.args.world.scene =
     c.in_ok-origin.ensures ∙ (λ i. record { posts = map opening_post (c.into_parts-scene.ensures.books i); scene = (c.in_ok-settle.ensures.settled ∙ ap settled c.into_parts-scene.ensures.scene) i }) in
-    subst (λ (s : State). IsOpening (world_in s)) (sym is_opened) (opening_is c.args.world.books c.args.world.scene c.requires)
+    subst (λ (s : State). IsOpening (world_in s)) (sym is_opened) (opening_is c.args.world.books c.args.world.scene c.requires.opening)
 
 pub invariant_of-result : goal.invariant_of-result
 invariant_of-result g c =
     let is_opened : law c.in_ok-origin.origin ≡ opening_state c.args.world.books c.args.world.scene =
     c.in_ok-origin.ensures ∙ (λ i. record { posts = map opening_post (c.into_parts-scene.ensures.books i); scene = (c.in_ok-settle.ensures.settled ∙ ap settled c.into_parts-scene.ensures.scene) i }) in
-    let opening : IsOpening (world_in (law c.in_ok-origin.origin)) = subst (λ (s : State). IsOpening (world_in s)) (sym is_opened) (opening_is c.args.world.books c.args.world.scene c.requires) in
+    let opening : IsOpening (world_in (law c.in_ok-origin.origin)) = subst (λ (s : State). IsOpening (world_in s)) (sym is_opened) (opening_is c.args.world.books c.args.world.scene c.requires.opening) in
     let count : length c.put_fields.new.self.views ≡ length c.in_ok-state.state.posts =
     ap (λ (k : Kept). length k.views) c.put_fields.ensures ∙ ap (λ (k : Kept). length k.views) c.in_ok-keep.ensures ∙ length-replicate _ _ ∙ c.seats.ensures.value in
     let none : due (law c.in_ok-state.state).posts ≡ 0 = ap (λ (s : State). due s.posts) c.in_ok-state.ensures ∙ due_fresh (law c.in_ok-origin.origin).posts opening.seats in
@@ -53,6 +56,7 @@ invariant_of-result g c =
       opening = opening;
       tables = subst (λ (s : State). HasTables s.scene) (sym c.in_ok-origin.ensures) (subst HasTables (sym c.in_ok-settle.ensures.settled) (settled_kept c.into_parts-scene.result.0 c.open_tables.ensures));
       fits = subst FitsTogether (sym (ap world_in is_opened ∙ (λ i. record { seats = opened_seats c.args.world.books i; scene = settled c.args.world.scene }))) (fits_opened c.args.world c.into_parts-scene.ensures.fitting);
+      written = subst (λ (w : World). IsWritten (opened_of w)) (sym (ap world_in is_opened ∙ (λ i. record { seats = opened_seats c.args.world.books i; scene = settled c.args.world.scene }))) (written_opened c.args.world c.requires.written);
       fields = subst (λ (s : State). AreKept s.scene c.put_fields.new.self.fields) (sym (c.in_ok-state.ensures ∙ c.in_ok-origin.ensures))
           (subst (λ (s : Scene). AreKept s c.put_fields.new.self.fields) (sym c.in_ok-settle.ensures.settled)
           (subst (λ (k : Kept). AreKept (settled c.into_parts-scene.result.0) k.fields) (sym c.put_fields.ensures) (kept_settled c.into_parts-scene.result.0 c.in_ok-fields.fields c.in_ok-fields.ensures.kept)));
