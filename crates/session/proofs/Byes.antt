@@ -80,7 +80,7 @@ by_rule asked steps seat b c None other =
     let drawn : Book = drawing (called_by asked seat b c) (counted b) in
     subst (λ t. IsCounted b (cond t (left drawn) (using_tag (tag_made c) (setting_text (new_text_in c) (rolling (dice_in c) drawn))))) (sym other)
     (tag_counted b (setting_text (new_text_in c) (rolling (dice_in c) drawn)) (tag_made c)
-      (setting_counted b (rolling (dice_in c) drawn) (new_text_in c) (dice_counted b drawn (dice_in c) (drawing_counted b (called_by asked seat b c)))))
+    (setting_counted b (rolling (dice_in c) drawn) (new_text_in c) (dice_counted b drawn (dice_in c) (drawing_counted b (called_by asked seat b c)))))
 
 -- a bye closes it, unless it is refused
 by_bye : (asked : Asked) (steps seat : ℕ) (b : Book) (c : Command) (r : Option Refusal) → is_bye c ≡ true → IsLined b (book_after (decided asked steps seat b c r) b)
