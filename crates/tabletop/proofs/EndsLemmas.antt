@@ -28,7 +28,7 @@ use Rattle.script_play.proofs.Fronts.{prefix_all, all_part}
 use Rattle.script_play.proofs.Reading.{told_weaker}
 use Rattle.script_play.proofs.Behind.{sent_behind}
 use Rattle.tabletop.specs.declared.endings.Ended.{Ended}
-use Rattle.tabletop.specs.declared.endings.Ended.TheVariants.{Done, Usage, BadCampaign, ReadFault, WriteFault, Memory, BadLine, TooLarge}
+use Rattle.tabletop.specs.declared.endings.Ended.TheVariants.{Done, Usage, BadCampaign, ReadFault, WriteFault, Memory, BadLine, TooLarge, DoorFault}
 use Rattle.tabletop.specs.Endings.{status_of, last_line, HasOwnLine}
 use Rattle.tabletop.specs.Ends.{PlaysOn, PlayEnds, CheckEnds, NotFetched, FileEnds, JobEnds, HasEnded, IsToldAs, ended_by, unfetched, campaign_limit}
 
@@ -132,6 +132,7 @@ play_less S ReadFault text script left out after own p = absurd own
 play_less S WriteFault text script left out after own p = absurd own
 play_less S Memory text script left out after own p = absurd own
 play_less S TooLarge text script left out after own p = absurd own
+play_less S DoorFault text script left out after own p = absurd own
 
 check_less : (ended : Ended) (text : List ℕ) (out after : Option (List ℕ)) → HasOwnLine ended → CheckEnds ended text out after → CheckEnds Memory text out after
 check_less (BadCampaign breach) text out after own p = p.1
@@ -142,6 +143,7 @@ check_less ReadFault text out after own p = absurd own
 check_less WriteFault text out after own p = absurd own
 check_less Memory text out after own p = absurd own
 check_less TooLarge text out after own p = absurd own
+check_less DoorFault text out after own p = absurd own
 
 file_less : (D : Type 0) (Ends Less : List ℕ → Type 0) (ended : Ended) (campaign out after : Option (List ℕ)) → ((text : List ℕ) → Ends text → Less text) → FileEnds D Ends ended campaign out after → FileEnds D Less Memory campaign out after
 file_less D Ends Less ended campaign out after less (inl none) = inl (tt, none.1)
@@ -174,7 +176,7 @@ count_after a b c le rose lt = omega (arith, rose lt)
 
 -- ---- statuses
 
-two_is_usage : (ended : Ended) → status_of ended ≡ 2 → ended ≡ Usage
+pub two_is_usage : (ended : Ended) → status_of ended ≡ 2 → ended ≡ Usage
 two_is_usage Usage s = refl
 two_is_usage Done s = absurd (omega (arith, s))
 two_is_usage (BadCampaign breach) s = absurd (omega (arith, s))
@@ -183,6 +185,7 @@ two_is_usage WriteFault s = absurd (omega (arith, s))
 two_is_usage Memory s = absurd (omega (arith, s))
 two_is_usage (BadLine number) s = absurd (omega (arith, s))
 two_is_usage TooLarge s = absurd (omega (arith, s))
+two_is_usage DoorFault s = absurd (omega (arith, s))
 
 used_file : (D : Type 0) (Ends : List ℕ → Type 0) (campaign out after : Option (List ℕ)) → ((text : List ℕ) → Ends text → ⊥) → FileEnds D Ends Usage campaign out after → ⊥
 used_file D Ends campaign out after never (inl none) = none.0
@@ -232,6 +235,7 @@ read_fault_of status ended WriteFault s t h = absurd (omega (arith, s, h))
 read_fault_of status ended Memory s t h = absurd (omega (arith, s, h))
 read_fault_of status ended (BadLine number) s t h = absurd (omega (arith, s, h))
 read_fault_of status ended TooLarge s t h = absurd (omega (arith, s, h))
+read_fault_of status ended DoorFault s t h = absurd (omega (arith, s, h))
 
 pub write_fault_of : (status : ℕ) (ended told : Ended) → status ≡ status_of told → IsToldAs ended told → status ≡ 5 → ended ≡ WriteFault
 write_fault_of status ended WriteFault s (inl same) h = sym same
@@ -243,6 +247,7 @@ write_fault_of status ended ReadFault s t h = absurd (omega (arith, s, h))
 write_fault_of status ended Memory s t h = absurd (omega (arith, s, h))
 write_fault_of status ended (BadLine number) s t h = absurd (omega (arith, s, h))
 write_fault_of status ended TooLarge s t h = absurd (omega (arith, s, h))
+write_fault_of status ended DoorFault s t h = absurd (omega (arith, s, h))
 
 -- ---- completeness
 
@@ -260,11 +265,11 @@ ends_done answer ending world origin text left out after is script says p =
     told_some None h = absurd h
     told_some (Some rest) h = h
 
-abbrev DoneOrMemory : ℕ → Type 0
+abbrev pub DoneOrMemory : ℕ → Type 0
 DoneOrMemory status = (status ≡ 0) ⊎ (status ≡ 6)
 
 -- the world of a text that is off the format
-breach_world : (text : List ℕ) (breach : Breach) (origin : World) → world_of_text text ≡ Some origin → campaign_of text ≡ Err breach → ⊥
+pub breach_world : (text : List ℕ) (breach : Breach) (origin : World) → world_of_text text ≡ Some origin → campaign_of text ≡ Err breach → ⊥
 breach_world text breach origin is bad = let z : None ≡ Some origin = sym (ap read_world bad) ∙ is in cc
 
 play_done : (S : Type 0) (ended : Ended) (campaign : List ℕ) (origin : World) (text : List ℕ) (left out after : Option (List ℕ)) → world_of_text campaign ≡ Some origin → (script_of origin text).ending ≡ done → ¬ (status_of ended ≡ 4) → ¬ (status_of ended ≡ 5) → PlayEnds S ended campaign (Some text) left out after → DoneOrMemory (status_of ended)
@@ -278,6 +283,7 @@ play_done S (BadLine number) campaign origin text left out after is script no_re
     let z : done ≡ bad_line number = ends_done (played.BadLine number) (bad_line number) (world_of_text campaign) origin text left out after is script (λ w es e. ap (λ (s : Script). s.ending) e) h in cc
 play_done S TooLarge campaign origin text left out after is script no_read no_write h =
     let z : done ≡ too_large = ends_done played.TooLarge too_large (world_of_text campaign) origin text left out after is script (λ w es e. ap (λ (s : Script). s.ending) e) h in cc
+play_done S DoorFault campaign origin text left out after is script no_read no_write h = absurd h
 
 check_done : (ended : Ended) (campaign : List ℕ) (world : Opened) (out after : Option (List ℕ)) → campaign_of campaign ≡ Ok world → ¬ (status_of ended ≡ 4) → ¬ (status_of ended ≡ 5) → CheckEnds ended campaign out after → DoneOrMemory (status_of ended)
 check_done Done campaign world out after is no_read no_write h = inl refl
@@ -288,11 +294,13 @@ check_done WriteFault campaign world out after is no_read no_write h = absurd (n
 check_done Usage campaign world out after is no_read no_write h = absurd h.2
 check_done (BadLine number) campaign world out after is no_read no_write h = absurd h.2
 check_done TooLarge campaign world out after is no_read no_write h = absurd h.2
+check_done DoorFault campaign world out after is no_read no_write h = absurd h.2
 
-not_fetched_done : (D : Type 0) (ended : Ended) (campaign : List ℕ) → length campaign ≤ campaign_limit → ¬ (status_of ended ≡ 4) → NotFetched D ended (Some campaign) → DoneOrMemory (status_of ended)
+pub not_fetched_done : (D : Type 0) (ended : Ended) (campaign : List ℕ) → length campaign ≤ campaign_limit → ¬ (status_of ended ≡ 4) → NotFetched D ended (Some campaign) → DoneOrMemory (status_of ended)
 not_fetched_done D ReadFault campaign small no_read h = absurd (no_read refl)
 not_fetched_done D Memory campaign small no_read h = inr refl
 not_fetched_done D TooLarge campaign small no_read h = absurd (omega (arith, h, small))
+not_fetched_done D DoorFault campaign small no_read h = absurd h
 not_fetched_done D Done campaign small no_read h = absurd h
 not_fetched_done D Usage campaign small no_read h = absurd h
 not_fetched_done D (BadCampaign breach) campaign small no_read h = absurd h

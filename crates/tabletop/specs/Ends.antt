@@ -18,7 +18,7 @@ use Rattle.script_play.specs.Tagged.{tagged, lines_behind}
 use Rattle.script_play.specs.Played.{HasEntered, HasRead, HasWritten, AreWrittenOf}
 use Rattle.script_play.specs.Sending.{WroteFront}
 use Rattle.tabletop.specs.declared.endings.Ended.{Ended}
-use Rattle.tabletop.specs.declared.endings.Ended.TheVariants.{Done, Usage, BadCampaign, ReadFault, WriteFault, Memory, BadLine, TooLarge}
+use Rattle.tabletop.specs.declared.endings.Ended.TheVariants.{Done, Usage, BadCampaign, ReadFault, WriteFault, Memory, BadLine, TooLarge, DoorFault}
 use Rattle.tabletop.specs.Endings.{status_of, last_line, HasOwnLine}
 use Rattle.tabletop.specs.Counts.{count_line}
 use Rattle.command_words.specs.Words.{Asked, Play, Check, Drill, Serve}
@@ -76,6 +76,7 @@ PlayEnds ScriptFailed WriteFault text script left out after = PlaysOn played.Wri
 PlayEnds ScriptFailed Memory text script left out after = (after ≡ out) ⊎ PlaysOn played.Memory (world_of_text text) script left out after
 PlayEnds ScriptFailed (BadLine number) text script left out after = PlaysOn (played.BadLine number) (world_of_text text) script left out after
 PlayEnds ScriptFailed TooLarge text script left out after = PlaysOn played.TooLarge (world_of_text text) script left out after
+PlayEnds ScriptFailed DoorFault text script left out after = ⊥
 
 -- the counts of a campaign's world were printed; after a write fault a front of the line
 abbrev pub PrintsCounts : Ended → Opened → (out after : Option (List ℕ)) → Type 0
@@ -107,6 +108,7 @@ NotFetched DeskFailed WriteFault campaign = ⊥
 NotFetched DeskFailed Memory campaign = Unit {0}
 NotFetched DeskFailed (BadLine number) campaign = ⊥
 NotFetched DeskFailed TooLarge campaign = IfSome campaign (λ told. campaign_limit < length told)
+NotFetched DeskFailed DoorFault campaign = ⊥
 
 -- a job on the campaign of a file
 abbrev pub FileEnds : (DeskFailed : Type 0) → (Ends : List ℕ → Type 0) → Ended → (campaign out after : Option (List ℕ)) → Type 0
