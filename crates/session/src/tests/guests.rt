@@ -115,12 +115,17 @@ fn seated<R: Threads + Wait + Sync>(
 fn first_strange<R: Threads + Wait + Sync>(
     rt: &R,
     alloc: Global,
+    hall: &Hall<Table>,
+    mut reader: Pass<Table>,
+    mut writer: Pass<Table>,
     guests: &[Guest<'static>],
-) -> Result<Option<&'static str>, Fail> {
-    let (hall, mut usher, first) = opened_hall(alloc)?;
-    let (mut reader, mut writer) = two_of(&hall, &mut usher, first)?;
+) -> Result<Option<&'static str>, Fail>
+    requires reader { IsPassOf hall.now reader }
+    requires writer { IsPassOf hall.now writer }
+    requires opening { IsOpening hall.now.origin }
+{
     for guest in guests {
-        let (sat, output) = seated(rt, alloc, &hall, reader, writer, guest)?;
+        let (sat, output) = seated(rt, alloc, hall, reader, writer, guest)?;
         if sat.ended != guest.ended || output.bytes() != guest.output.as_bytes() {
             return Ok(Some(guest.input));
         }
@@ -137,7 +142,9 @@ fn first_strange<R: Threads + Wait + Sync>(
 
 #[test]
 fn sessions_of_one_hall_follow_one_another(rt: HostRuntime) -> Result<(), Fail> {
-    let strange = first_strange(&rt, rt.alloc(), &GUESTS)?;
+    let (hall, mut usher, first) = opened_hall(rt.alloc())?;
+    let (reader, writer) = two_of(&hall, &mut usher, first)?;
+    let strange = first_strange(&rt, rt.alloc(), &hall, reader, writer, &GUESTS)?;
     assert!(rt; strange == None);
     Ok(())
 }
