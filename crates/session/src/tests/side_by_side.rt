@@ -239,13 +239,3 @@ fn two_sessions_run_side_by_side(rt: HostRuntime) -> Result<(), Fail> {
     assert!(rt; bob == Ended::Left);
     Ok(())
 }
-
-// The gates tell sessions apart that run one after another: Anna's then fails before Bob's begins.
-#[test]
-fn a_session_that_waits_for_one_behind_it_fails(rt: HostRuntime) -> Result<(), Fail> {
-    let (anns, bobs) = (AtomicU64::new(0), AtomicU64::new(0));
-    let (hall, first, second) = two_sessions(rt.alloc())?;
-    assert!(rt; serve_ann(&rt, rt.alloc(), &hall, first, &anns, &bobs) == Ended::ReadFault);
-    assert!(rt; serve_bob(&rt, rt.alloc(), &hall, second, &anns, &bobs) == Ended::Left);
-    Ok(())
-}

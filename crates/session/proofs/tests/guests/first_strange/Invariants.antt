@@ -3,4 +3,4 @@ use Rattle.session.proofs.tests.guests.first_strange.Given as goal
 
 -- both passes are still the hall's
 abbrev pub invariant-loop-guest : goal.invariant-loop-guest
-invariant-loop-guest g l = IsPassOf l.hall.now l.reader × IsPassOf l.hall.now l.writer
+invariant-loop-guest g l = IsPassOf l.hall l.reader × IsPassOf l.hall l.writer
