@@ -1,12 +1,12 @@
 -- The laws of one session of a seat, over every opening world and every history.
-use Rattle.std.specs.Prelude.{◌≡◌, ◌<◌, ◌≤◌, ℕ, suc, ◌==◌, Bool, true, false, List, [], ◌∷◌, ◌++◌, ◌*◌, take, length, slice_get, Some, None}
+use Rattle.std.specs.Prelude.{◌≡◌, ◌<◌, ◌≤◌, ℕ, suc, ◌==◌, Bool, true, false, List, [], ◌∷◌, ◌++◌, ◌*◌, take, length, slice_get, Some, None, option_map, if◌then◌else◌}
 use mathlib.Core.List.{IsPrefix}
 use Rattle.seats.specs.Book.{line_limit}
 use Rattle.seats.specs.SeatState.{is_free, is_joined}
 use Rattle.seats.specs.declared.seat_state.SeatState.{SeatState}
 use Rattle.campaign_law.specs.declared.entry.Entry.{Entry}
-use Rattle.campaign_law.specs.declared.entry.Entry.TheVariants.{Join, Leave}
-use Rattle.campaign_law.specs.Seat.{Seat}
+use Rattle.campaign_law.specs.declared.entry.Entry.TheVariants.{Join, Leave, Cut}
+use Rattle.campaign_law.specs.Seat.{Seat, freed_seat}
 use Rattle.campaign_law.specs.Outcome.{seat_of}
 use Rattle.campaign_law.specs.World.{World, most_seats, seat_at, outcome_of, changed, step, replay}
 use Rattle.campaign_law.specs.Law.{IsOpening}
@@ -28,7 +28,20 @@ pub record IsLeft (drop : Bool) (after : SeatState) : Type 0 where
 abbrev pub LeaveCloses : Type 0
 LeaveCloses = (w : World) (seat : ℕ) (drop : Bool) → IsLeft drop (standing (seat_at (step w (Leave seat drop)) seat))
 
--- a Joined seat stays as it is, but by a Line or a Leave of its own
+-- a Joined seat becomes Free, and one in another state stays
+abbrev pub cut_seat : Seat → Seat
+cut_seat s = if is_joined s.book.state then freed_seat s else s
+
+-- all that a Cut changes, but for the history
+pub record IsCut (w : World) (seat : ℕ) : Type 0 where
+  pub scene : (step w (Cut seat)).scene ≡ w.scene
+  pub others : (p : ℕ) → (seat == p) ≡ false → seat_at (step w (Cut seat)) p ≡ seat_at w p
+  pub own : seat_at (step w (Cut seat)) seat ≡ option_map cut_seat (seat_at w seat)
+
+abbrev pub CutFrees : Type 0
+CutFrees = (w : World) (h : List Entry) (seat : ℕ) → IsOpening w → IsCut (replay w h) seat
+
+-- but by a Line, a Leave or a Cut of its own a Joined seat stays as it is
 abbrev pub JoinedSeatStays : Type 0
 JoinedSeatStays = (w : World) (e : Entry) (seat : ℕ) → is_joined (standing (seat_at w seat)) ≡ true → ((seat_of e == seat) ≡ true → closes e ≡ false) → standing (seat_at (step w e) seat) ≡ standing (seat_at w seat)
 

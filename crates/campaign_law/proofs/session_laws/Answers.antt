@@ -1,6 +1,7 @@
 use Rattle.std.proofs.lemmas.Option.{slice_get_within}
 use Rattle.campaign_law.proofs.Joins.{join_seats}
 use Rattle.campaign_law.proofs.Leaves.{leave_stands}
+use Rattle.campaign_law.proofs.Cuts.{cut_frees}
 use Rattle.campaign_law.proofs.JoinedSeats.{joined_keeps}
 use Rattle.campaign_law.proofs.SessionFronts.{session_grows, session_stays}
 use Rattle.campaign_law.proofs.SessionLaws.{still_held, lines_counted, lasts, taken_is_all, no_more_lines}
@@ -12,6 +13,9 @@ returns-clause-begins c = join_seats
 
 pub returns-clause-leaves : goal.returns-clause-leaves
 returns-clause-leaves c = leave_stands
+
+pub returns-clause-cut : goal.returns-clause-cut
+returns-clause-cut c = cut_frees
 
 pub returns-clause-joined : goal.returns-clause-joined
 returns-clause-joined c = joined_keeps
