@@ -1,5 +1,5 @@
 -- At most one message of an entry reaches a seat.
-use Rattle.std.proofs.Common.{◌≡◌, ℕ, ◌+◌, ◌≤◌, ◌<◌, Bool, true, false, cond, eqb, List, [], ◌∷◌, ◌++◌, length, Some, None, refl, sym, ap, arith, ◌⊎◌, inl, inr}
+use Rattle.std.proofs.Common.{◌≡◌, ℕ, ◌+◌, ◌≤◌, ◌<◌, Bool, true, false, cond, eqb, List, [], ◌∷◌, ◌++◌, length, Some, None, refl, sym, ap, arith, zero-add, ◌⊎◌, inl, inr}
 use Rattle.std.specs.Prelude.{Option, Result, Ok, Err, map, filter}
 use Rattle.std.proofs.lemmas.Bool.Decides.{nat_tests}
 use Rattle.seats.specs.Book.{Book, freed, join_refusal}
@@ -32,7 +32,7 @@ reaching-none seat = refl
 
 reaching-append : (seat : ℕ) (xs ys : List Message) → reaching seat (xs ++ ys) ≡ reaching seat xs + reaching seat ys
 unfolding addressed
-reaching-append seat [] ys = refl
+reaching-append seat [] ys = sym (zero-add (reaching seat ys))
 reaching-append seat (m ∷ xs) ys = by (is_to seat m) (reaching-append seat xs ys)
   where
     by : (b : Bool) → length (map (λ message. message.line) (filter (is_to seat) (xs ++ ys))) ≡ length (map (λ message. message.line) (filter (is_to seat) xs)) + length (map (λ message. message.line) (filter (is_to seat) ys))
@@ -75,21 +75,18 @@ texts_behind seat from to k (text ∷ texts) before =
 
 texts_few : (seat from : ℕ) (to : To) (k : ℕ) (texts : List (List ℕ)) → reaching seat (text_messages from to k texts) ≤ 1
 texts_few seat from to k [] = none_reaches seat
-texts_few seat from to k (text ∷ texts) = by (eqb seat k) refl
+texts_few seat from to k (text ∷ texts) = by (eqb seat k) refl (texts_few seat from to (k + 1) texts)
   where
     all : reaching seat (text_messages from to k (text ∷ texts)) ≡ reaching seat (text_message from to k text) + reaching seat (text_messages from to (k + 1) texts)
     all = reaching-append seat (text_message from to k text) (text_messages from to (k + 1) texts)
 
-    by : (b : Bool) → eqb seat k ≡ b → reaching seat (text_messages from to k (text ∷ texts)) ≤ 1
-    by true own =
+    by : (b : Bool) → eqb seat k ≡ b → reaching seat (text_messages from to (k + 1) texts) ≤ 1 → reaching seat (text_messages from to k (text ∷ texts)) ≤ 1
+    by true own few =
         let behind : seat < k + 1 = grind (arith, nat_tests, own) in
         let first = text_here seat from to k text in
         let rest = texts_behind seat from to (k + 1) texts behind in
         omega (arith, all, first, rest)
-    by false other =
-        let first = text_elsewhere seat from to k text other in
-        let rest = texts_few seat from to (k + 1) texts in
-        omega (arith, all, first, rest)
+    by false other few = let first = text_elsewhere seat from to k text other in omega (arith, all, first, few)
 
 run_few : (seat from : ℕ) (call : Option Call) (texts : List (List ℕ)) → reaching seat (run_messages from call texts) ≤ 1
 run_few seat from None texts = none_reaches seat
@@ -110,8 +107,8 @@ says_or_runs b c = inr refl
 said_few : (seat from : ℕ) (words : Option (To × List ℕ)) (call : Option Call) (texts : List (List ℕ)) → (words ≡ None) ⊎ (call ≡ None) → reaching seat (message_by from words ++ run_messages from call texts) ≤ 1
 said_few seat from None call texts either = run_few seat from call texts
 said_few seat from (Some words) None texts either = reaching-one seat _
-said_few seat from (Some words) (Some call) texts (inl no) = cc
-said_few seat from (Some words) (Some call) texts (inr no) = cc
+said_few seat from (Some words) (Some call) texts (inl none) = cc
+said_few seat from (Some words) (Some call) texts (inr none) = cc
 
 accepted_few : (steps seat : ℕ) (b : Book) (c : Command) (run : Called) → SendsFew (accepted_with steps seat b c run)
 accepted_few steps seat b c run = record { reply = omega arith; messages = λ to. said_few to seat (said b c) (call_in c) (texts_in run) (says_or_runs b c) }

@@ -42,7 +42,7 @@ use Rattle.campaign_law.specs.Written.{is_written_text, are_written_texts}
 
 all_put : (name text : List ℕ) (macros : Macros) → is_written_text text ≡ true → are_written_texts macros ≡ true → are_written_texts (with_type name text macros) ≡ true
 all_put name text [] this all = and_from (is_written_text text) true this refl
-all_put name text (m ∷ macros) this all = by (tag_cmp name m.0)
+all_put name text (m ∷ macros) this all = by (tag_cmp name m.0) (all_put name text macros this (and_second (is_written_text m.1) (are_written_texts macros) all))
   where
     first : is_written_text m.1 ≡ true
     first = and_first (is_written_text m.1) (are_written_texts macros) all
@@ -50,14 +50,14 @@ all_put name text (m ∷ macros) this all = by (tag_cmp name m.0)
     rest : are_written_texts macros ≡ true
     rest = and_second (is_written_text m.1) (are_written_texts macros) all
 
-    by : (o : Ordering) → are_written_texts (by_order o ((name, text) ∷ m ∷ macros) ((m.0, text) ∷ macros) (m ∷ put tag_cmp name text macros)) ≡ true
-    by Less = and_from (is_written_text text) (are_written_texts (m ∷ macros)) this all
-    by Equal = and_from (is_written_text text) (are_written_texts macros) this rest
-    by Greater = and_from (is_written_text m.1) (are_written_texts (put tag_cmp name text macros)) first (all_put name text macros this rest)
+    by : (o : Ordering) → are_written_texts (put tag_cmp name text macros) ≡ true → are_written_texts (by_order o ((name, text) ∷ m ∷ macros) ((m.0, text) ∷ macros) (m ∷ put tag_cmp name text macros)) ≡ true
+    by Less later = and_from (is_written_text text) (are_written_texts (m ∷ macros)) this all
+    by Equal later = and_from (is_written_text text) (are_written_texts macros) this rest
+    by Greater later = and_from (is_written_text m.1) (are_written_texts (put tag_cmp name text macros)) first later
 
 all_without : (test : List ℕ → Bool) (macros : Macros) → are_written_texts macros ≡ true → are_written_texts (remove_entry test macros) ≡ true
 all_without test [] all = refl
-all_without test (m ∷ macros) all = by (test m.0)
+all_without test (m ∷ macros) all = by (test m.0) (all_without test macros (and_second (is_written_text m.1) (are_written_texts macros) all))
   where
     first : is_written_text m.1 ≡ true
     first = and_first (is_written_text m.1) (are_written_texts macros) all
@@ -65,9 +65,9 @@ all_without test (m ∷ macros) all = by (test m.0)
     rest : are_written_texts macros ≡ true
     rest = and_second (is_written_text m.1) (are_written_texts macros) all
 
-    by : (b : Bool) → are_written_texts (cond b macros (m ∷ remove_entry test macros)) ≡ true
-    by true = rest
-    by false = and_from (is_written_text m.1) (are_written_texts (remove_entry test macros)) first (all_without test macros rest)
+    by : (b : Bool) → are_written_texts (remove_entry test macros) ≡ true → are_written_texts (cond b macros (m ∷ remove_entry test macros)) ≡ true
+    by true later = rest
+    by false later = and_from (is_written_text m.1) (are_written_texts (remove_entry test macros)) first later
 
 -- ---- a new text
 

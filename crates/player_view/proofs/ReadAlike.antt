@@ -1,6 +1,6 @@
 -- A seat's macros can read of its view what they can read of the scene.
 use Rattle.std.proofs.Common.{◌≡◌, ℕ, Bool, true, false, cond, ◌||◌, List, [], ◌∷◌, ◌++◌, Some, None, refl, ap, ◌∙◌}
-use Rattle.std.specs.Prelude.{map, flat_map, is_some}
+use Rattle.std.specs.Prelude.{map, flat_map, is_some, IfOk, Result, Ok, Err}
 use Rattle.std.specs.List.{filter}
 use Rattle.names.specs.declared.kinds.PropClass.TheVariants.{Public, Own, Secret}
 use Rattle.tokens.specs.declared.token.Token.{Token}
@@ -52,5 +52,8 @@ readable_alike seats s q =
     (λ i. table_of seats (flat_map-map-filter read_in (token_view s q) (has_token s q) (read_of s q) (read_same s q) s.tokens i)
     (flat_map-map-filter yours_in (token_view s q) (has_token s q) (yours_of s q) (yours_same s q) s.tokens i))
 
-pub table_alike : (seats : ℕ) (v : View) (table : Table) (s : Scene) (q : ℕ) → table ≡ readable_by_view seats v → v ≡ view_of s q → table ≡ readable_of seats s q
-table_alike seats v table s q e is = e ∙ ap (readable_by_view seats) is ∙ readable_alike seats s q
+-- what was made of the view is what can be read of the scene
+pub table_alike : {E : Type 0} (seats : ℕ) (v : View) (made : Result Table E) → IfOk made (λ table. table ≡ readable_by_view seats v)
+    → (s : Scene) (q : ℕ) → v ≡ view_of s q → IfOk made (λ table. table ≡ readable_of seats s q)
+table_alike seats v (Ok table) e s q is = e ∙ ap (readable_by_view seats) is ∙ readable_alike seats s q
+table_alike seats v (Err fault) e s q is = tt

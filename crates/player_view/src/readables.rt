@@ -90,7 +90,6 @@ fn table_by(alloc: Global, view: &View, seats: u8) -> Result<Readable, Memory>
 
 /// What the macros of a seat that is shown this view can read, and the tokens that they may change, in a campaign of so many
 /// seats. Whatever scene shows the seat this view, it is what they can read of the scene.
-#[tactic(auto, using(crate::proofs::ReadAlike::table_alike))]
 pub fn readable_in(alloc: Global, view: &View, seats: u8) -> Result<Readable, Memory>
     ensures value { IfOk result (λ table. table ≡ readable_by_view seats view.now) }
     ensures alike { (s : Scene) (q : ℕ) → view.now ≡ view_of s q → IfOk result (λ table. table ≡ readable_of seats s q) }
