@@ -1,17 +1,19 @@
 -- What runs come to, by the answers of the code.
-use Rattle.std.proofs.Common.{◌≡◌, ℕ, List, Some, None, refl, sym, ap}
-use Rattle.std.specs.Prelude.{Option, Result, Ok, Err}
+use Rattle.std.proofs.Common.{◌≡◌, ℕ, List, Some, None, refl, sym, ◌∙◌, ap, subst}
+use Rattle.std.specs.Prelude.{IfOk, Option, Result, Ok, Err}
 use Rattle.seat_random.specs.Stream.{Stream, after}
+use Rattle.seats.specs.Book.{macro_of}
+use Rattle.command_json.specs.declared.command.Command.{Command}
 use Rattle.macro_grammar.specs.Tree.{Piece}
 use Rattle.macro_parse.specs.declared.texts.MacroParseFault.{MacroParseFault}
+use Rattle.macro_parse.specs.Answers.{macro_of as pieces_of_text}
 use Rattle.macro_eval.specs.declared.outcome.Outcome.{Outcome}
 use Rattle.macro_eval.specs.declared.stop.MacroStop.{MacroStop}
 use Rattle.macro_eval.specs.Runs.{Ran, run_over, words_drawn, IsOutcomeOf}
 use Rattle.readable.specs.Table.{Table}
 use Rattle.command_rules.specs.declared.calls.Called.{Called}
 use Rattle.command_rules.specs.declared.calls.Called.TheVariants as calls
-use Rattle.command_rules.specs.declared.refusal.Refusal.TheVariants.{NoSuchMacro}
-use Rattle.command_rules.specs.MacroRules.{Call, spelling_refusal, stop_refusal, by_answer, by_pieces, by_text}
+use Rattle.command_rules.specs.MacroRules.{Macros, Call, call_in, spelling_refusal, stop_refusal, by_answer, by_pieces, by_text, by_call, called}
 
 pub answered : (old new : Stream) (answer : Result Ran MacroStop) (o : Outcome) → IsOutcomeOf answer o → new ≡ after old (words_drawn answer)
     → calls.Ran (record { texts = o.texts; intents = o.intents; stream = new }) ≡ by_answer old answer
@@ -29,8 +31,9 @@ pub misspelt : (table : Table) (seat : ℕ) (stream : Stream) (call : Call) (ans
     → by_pieces table seat stream call answer ≡ calls.Stopped (spelling_refusal fault)
 misspelt table seat stream call answer fault e = ap (by_pieces table seat stream call) e
 
-pub kept : (table : Table) (seat : ℕ) (stream : Stream) (call : Call) (found : Option (List ℕ)) (text : List ℕ) → Some text ≡ found → by_text table seat stream call found ≡ by_text table seat stream call (Some text)
-kept table seat stream call found text e = sym (ap (by_text table seat stream call) e)
-
-pub lost : (table : Table) (seat : ℕ) (stream : Stream) (call : Call) (found : Option (List ℕ)) → None ≡ found → by_text table seat stream call found ≡ calls.Stopped NoSuchMacro
-lost table seat stream call found e = sym (ap (by_text table seat stream call) e)
+-- the run that a command asks for, of the text under its name
+pub runs : {E : Type 0} (table : Table) (seat : ℕ) (macros : Macros) (stream : Stream) (c : Command) (call : Call) (text : List ℕ) (answer : Result Called E) → call_in c ≡ Some call
+    → Some text ≡ macro_of call.name macros → IfOk answer (λ ran. ran ≡ by_pieces table seat stream call (pieces_of_text text)) → IfOk answer (λ ran. ran ≡ called table seat macros stream c)
+unfolding called
+runs table seat macros stream c call text answer asks there ran =
+    subst (λ r. IfOk answer (λ ran. ran ≡ r)) (ap (by_text table seat stream call) there ∙ sym (ap (by_call table seat macros stream) asks)) ran

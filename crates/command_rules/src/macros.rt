@@ -163,7 +163,7 @@ fn run_text(
 
 /// What the run that a command of the book's seat asks for comes to, where its macros can read this table. The book stays as
 /// it is. `Memory` for want of memory.
-#[tactic(auto, using(crate::proofs::RunLemmas::kept, crate::proofs::RunLemmas::lost), unfolding(crate::specs::MacroRules::called))]
+#[tactic(auto, unfolding(crate::specs::MacroRules::called))]
 pub fn run_called(
     alloc: Global,
     readable: &Readable,
