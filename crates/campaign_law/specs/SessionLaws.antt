@@ -82,7 +82,7 @@ pub record IsLast (w : World) (h : List Entry) (place seat n : ℕ) (e : Entry) 
   pub there : slice_get h n ≡ Some e
   pub lasted : has_ended w (take n h) place seat ≡ false
   pub ended : has_ended w (take (suc n) h) place seat ≡ true
-  pub kept : is_drop_of seat e ≡ false
+  pub kept : is_drop_of seat (standing_after w (take n h) seat) e ≡ false
 
 -- how many of a seat's lines were taken once an entry took what it takes: a Closing seat is Free where these are all
 abbrev pub taken_by : World → Entry → ℕ → Seat → ℕ
