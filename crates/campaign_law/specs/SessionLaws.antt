@@ -11,6 +11,7 @@ use Rattle.campaign_law.specs.Outcome.{seat_of}
 use Rattle.campaign_law.specs.World.{World, most_seats, seat_at, outcome_of, changed, step, replay}
 use Rattle.campaign_law.specs.Law.{IsOpening}
 use Rattle.campaign_law.specs.Worlds.{FitsTogether}
+use Rattle.campaign_law.specs.Cuts.{cuts, is_cut_since}
 use Rattle.campaign_law.specs.Session.{queued_of, session, session_at, has_ended, standing, standing_after, is_held_by, is_drop_of, closes, IsSeated, NoneRejoins, DropsNone, TakesAtMost}
 
 -- ---- how a session begins, lasts and is left
@@ -97,6 +98,18 @@ EndedSessionWasTaken = (w : World) (h : List Entry) (place seat reader writer n 
 abbrev pub TakensBoundSession : Type 0
 TakensBoundSession = (w : World) (h : List Entry) (place seat reader writer count : ℕ) → IsOpening w → IsSeated w h place seat reader writer → TakesAtMost w h place seat count → DropsNone w h place seat → has_ended w h place seat ≡ true
     → length (session_at w h place seat) ≤ count
+
+-- ---- Cuts
+
+-- a Cut ends the session that it finds Joined
+abbrev pub CutEndsSession : Type 0
+CutEndsSession = (w : World) (h : List Entry) (place seat reader writer n : ℕ) (e : Entry) → IsOpening w → Lasts w h place seat n → slice_get h n ≡ Some e → cuts seat reader writer (standing_after w (take n h) seat) e ≡ true
+    → has_ended w (take (suc n) h) place seat ≡ true
+
+-- and while a session isn't cut, nothing but a Leave drops its lines
+abbrev pub UncutDropsByLeave : Type 0
+UncutDropsByLeave = (w : World) (h : List Entry) (place seat reader writer n : ℕ) (e : Entry) → IsSeated w h place seat reader writer → Lasts w h place seat n → slice_get h n ≡ Some e → is_cut_since w h place seat reader writer ≡ false
+    → is_drop_of seat (standing_after w (take n h) seat) e ≡ true → e ≡ Leave seat true
 
 -- ---- how many lines it has
 

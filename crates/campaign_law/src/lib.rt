@@ -6,7 +6,7 @@
 ghost use Rattle.campaign_law.specs.Law.{SentIsMachine, AgreeingSendAlike, NoLineEndIsSent, RefusedChangesLittle};
 ghost use Rattle.campaign_law.specs.Client.{LinesTellViews, ClientHoldsView};
 ghost use Rattle.campaign_law.specs.Worlds.{OpeningWorldFits, WorldsFit, MadeTokensAreNew, OpeningSceneHasTables, ScenesHaveTables, OpeningWorldIsWritten, WorldsAreWritten};
-ghost use Rattle.campaign_law.specs.SessionLaws.{AcceptedJoinSeats, LeaveCloses, CutFrees, JoinedSeatStays, LastingSessionIsHeld, HeldSessionLasts, SessionGrows, EndedSessionStays, EndedSessionWasTaken, TakensBoundSession, EntryQueuesFew, QueuedIsBounded};
+ghost use Rattle.campaign_law.specs.SessionLaws.{AcceptedJoinSeats, LeaveCloses, CutFrees, CutEndsSession, UncutDropsByLeave, JoinedSeatStays, LastingSessionIsHeld, HeldSessionLasts, SessionGrows, EndedSessionStays, EndedSessionWasTaken, TakensBoundSession, EntryQueuesFew, QueuedIsBounded};
 
 mod answer;
 mod entry;
@@ -44,6 +44,9 @@ pub fn session_laws()
 
     ensures taken { EndedSessionWasTaken }
     ensures bounded { TakensBoundSession }
+
+    ensures cut_ends { CutEndsSession }
+    ensures uncut { UncutDropsByLeave }
 
     ensures few { EntryQueuesFew }
     ensures queued { QueuedIsBounded }
