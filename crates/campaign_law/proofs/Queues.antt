@@ -1,7 +1,6 @@
 -- How many lines are queued for a seat.
-use Rattle.std.proofs.Common.{◌≡◌, ℕ, zero, suc, ◌+◌, ◌*◌, ◌≤◌, ◌<◌, Bool, true, false, cond, ◌&&◌, eqb, List, [], ◌∷◌, ◌++◌, length, map, Some, None, refl, sym, ◌∙◌, ap, subst, arith, zero-add, add-zero, length-append}
+use Rattle.std.proofs.Common.{◌≡◌, ℕ, zero, suc, ◌+◌, ◌*◌, ◌≤◌, Bool, true, false, cond, ◌&&◌, eqb, List, [], ◌∷◌, length, map, Some, None, refl, sym, ◌∙◌, ap, subst, arith, zero-add, add-zero, length-append}
 use Rattle.std.specs.Prelude.{Option, option_map, IfSome, slice_get, unwrap_or}
-use Rattle.std.specs.List.{AllByRecursion}
 use Rattle.std.proofs.lemmas.Bool.Decides.{nat_tests}
 use Rattle.std.proofs.lemmas.Bool.{eqb-true}
 use Rattle.seats.specs.Book.{Book, line_limit}
@@ -15,7 +14,6 @@ use Rattle.campaign_law.specs.Views.{change_line}
 use Rattle.campaign_law.specs.Seat.{Seat, IsFreshSeat, let_go, is_let_go, freed_seat}
 use Rattle.campaign_law.specs.Outcome.{Outcome, outcome_at, seat_of}
 use Rattle.campaign_law.specs.World.{World, seat_at, asked_of, steps_of, outcome_of, scene_after, messages_to, view_lines, some_to_list, lines_if_present, other_lines, queued_reply, queued_lines, is_present, changed, seat_after, mapped_from, step, replay}
-use Rattle.campaign_law.specs.Session.{queued_of}
 use Rattle.campaign_law.specs.State.{Post, State, state_of}
 use Rattle.campaign_law.specs.Law.{IsOpening}
 use Rattle.campaign_law.specs.Worlds.{FitsTogether}

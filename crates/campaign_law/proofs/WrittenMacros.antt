@@ -1,6 +1,6 @@
 -- The texts of macros stay as a campaign text takes them.
-use Rattle.std.proofs.Common.{◌≡◌, ℕ, ◌≤◌, Bool, true, false, cond, eqb, nat_le, length, List, [], ◌∷◌, Some, None, refl, sym, ◌∙◌, ap, subst, arith}
-use Rattle.std.specs.Prelude.{Option, Result, Ok, Err, IfSome, is_ok, option_map}
+use Rattle.std.proofs.Common.{◌≡◌, ℕ, ◌≤◌, Bool, true, false, cond, eqb, nat_le, length, List, [], ◌∷◌, Some, None, refl, ◌∙◌, ap, arith}
+use Rattle.std.specs.Prelude.{Option, Result, Ok, Err, IfSome, is_ok}
 use Rattle.std.specs.declared.cmp.Ordering.{Ordering}
 use Rattle.std.specs.declared.cmp.Ordering.TheVariants.{Less, Equal, Greater}
 use Rattle.std.specs.FinMap.Entries.{by_order, put}
@@ -11,8 +11,7 @@ use Rattle.std.proofs.lemmas.Bool.Decides.{nat_tests}
 use Rattle.maps.proofs.NameLemmas.{and_first, and_second}
 use Rattle.names.specs.Tag.{tag_cmp}
 use Rattle.type_table.specs.Types.{with_type}
-use Rattle.seats.specs.declared.book_fault.BookFault.{BookFault}
-use Rattle.seats.specs.Book.{Book, counted, left, freed, join_refusal, macro_fault}
+use Rattle.seats.specs.Book.{Book, counted, left, freed, join_refusal}
 use Rattle.seats.specs.SeatState.{is_joined}
 use Rattle.seats.specs.declared.seat_state.JoinRefusal.{JoinRefusal}
 use Rattle.macro_grammar.specs.Tree.{Piece}
@@ -22,7 +21,7 @@ use Rattle.command_json.specs.Commands.{command_of}
 use Rattle.command_json.specs.Limits.{IsCommand, IsText}
 use Rattle.command_json.proofs.Limits.{keeps_limits}
 use Rattle.command_json.specs.declared.command.Command.{Command}
-use Rattle.command_json.specs.declared.command.Command.TheVariants.{Bye, Setmacro}
+use Rattle.command_json.specs.declared.command.Command.TheVariants.{Setmacro}
 use Rattle.command_json.specs.declared.command.LineFault.{LineFault}
 use Rattle.command_rules.specs.declared.calls.Called.{Called}
 use Rattle.command_rules.specs.declared.calls.Called.TheVariants as calls
@@ -30,7 +29,7 @@ use Rattle.command_rules.specs.declared.refusal.Refusal.{Refusal}
 use Rattle.command_rules.specs.declared.refusal.Refusal.TheVariants.{NoHello}
 use Rattle.command_rules.specs.GmRules.{then_rule}
 use Rattle.command_rules.specs.Rules.{rule_of}
-use Rattle.command_rules.specs.MacroRules.{Macros, of_book_fault, name_rule, spelling_rule, new_text_rule, NewText, new_text_in, setting_rule, run_rule}
+use Rattle.command_rules.specs.MacroRules.{Macros, name_rule, spelling_rule, new_text_rule, NewText, new_text_in, setting_rule, run_rule}
 use Rattle.command_effects.specs.MacroEffects.{with_text, setting_text, drawing}
 use Rattle.player_view.specs.Asked.{Asked}
 use Rattle.campaign_law.specs.declared.entry.Entry.{Entry}

@@ -34,7 +34,7 @@ use Rattle.command_effects.proofs.GmAllowed.{has_room}
 
 -- ---- properties
 
-may_set_by : (s : Scene) (seat : ℕ) (id : TokenId) (class : PropClass) (name : List ℕ) → in_order s.tokens ≡ true → class ≢ SecretClass → (o : Option Token) → own_token s seat id ≡ o → setprop_rule seat class name (option_map mine_of o) ≡ None → MaySet s id class name
+pub may_set_by : (s : Scene) (seat : ℕ) (id : TokenId) (class : PropClass) (name : List ℕ) → in_order s.tokens ≡ true → class ≢ SecretClass → (o : Option Token) → own_token s seat id ≡ o → setprop_rule seat class name (option_map mine_of o) ≡ None → MaySet s id class name
 may_set_by s seat id class name ordered plain None found h = cc
 may_set_by s seat id Public name ordered plain (Some t) found h = record { token = t; found = one_token s seat id t ordered found; room = has_room (is_full_for name t.public) h }
 may_set_by s seat id OwnClass name ordered plain (Some t) found h = record { token = t; found = one_token s seat id t ordered found; room = has_room (is_full_for name t.own) h }

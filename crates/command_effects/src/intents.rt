@@ -23,7 +23,6 @@ pub enum IntentsSet {
     Set(Option<Scene>),
 }
 
-#[tactic(auto, unfolding(player_view::specs::Asked::asked_of))]
 fn intent_rule(scene: &Scene, seat: SeatNo, intent: &Intent) -> Option<Refusal>
     ensures { result ≡ intent_rule_lem scene.now seat intent.now }
 {
