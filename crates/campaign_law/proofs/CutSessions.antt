@@ -1,5 +1,5 @@
 -- Cuts along a history, and the sessions that they end.
-use Rattle.std.proofs.Common.{◌≡◌, ℕ, zero, suc, ◌≤◌, ◌<◌, ◌+◌, Bool, true, false, cond, ◌||◌, ◌&&◌, eqb, List, [], ◌∷◌, ◌++◌, length, take, drop, slice_get, refl, sym, ◌∙◌, ap, subst, arith}
+use Rattle.std.proofs.Common.{◌≡◌, ℕ, suc, ◌≤◌, Bool, true, false, cond, ◌||◌, ◌&&◌, eqb, List, [], ◌∷◌, ◌++◌, length, take, drop, slice_get, refl, sym, ◌∙◌, ap, arith}
 use Rattle.std.specs.Prelude.{Option, Some, None, option_map}
 use Rattle.std.proofs.lemmas.Option.{slice_get_within}
 use Rattle.std.proofs.lemmas.List.{take-append-le, drop-append-le, take-append-drop}
@@ -12,11 +12,11 @@ use Rattle.campaign_law.specs.declared.entry.Entry.TheVariants.{Join, Line, Leav
 use Rattle.campaign_law.specs.Seat.{Seat}
 use Rattle.campaign_law.specs.World.{World, seat_at, step, replay}
 use Rattle.campaign_law.specs.Law.{IsOpening}
-use Rattle.campaign_law.specs.Session.{standing, standing_after, is_held_by, is_drop_of, has_ended, IsSeated}
+use Rattle.campaign_law.specs.Session.{standing, standing_after, is_held_by, is_drop_of, has_ended}
 use Rattle.campaign_law.specs.Cuts.{is_joined_by, cuts, is_cut_by, is_cut_since}
 use Rattle.campaign_law.specs.SessionLaws.{Lasts, cut_seat, CutEndsSession, UncutDropsByLeave}
 use Rattle.campaign_law.proofs.SessionFronts.{replay-parts}
-use Rattle.campaign_law.proofs.SessionEnds.{Next, next_of, replay_next, within_take, ended_next}
+use Rattle.campaign_law.proofs.SessionEnds.{next_of, replay_next, within_take, ended_next}
 use Rattle.campaign_law.proofs.SessionLaws.{still_held}
 use Rattle.campaign_law.proofs.Cuts.{cut_frees}
 

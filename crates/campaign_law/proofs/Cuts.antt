@@ -1,16 +1,15 @@
 -- What a Cut changes.
-use Rattle.std.proofs.Common.{◌≡◌, ℕ, Bool, true, false, cond, eqb, List, [], length, Some, None, refl, sym, ◌∙◌, ap, subst}
+use Rattle.std.proofs.Common.{◌≡◌, ℕ, Bool, true, false, cond, length, Some, None, refl, ◌∙◌, ap}
 use Rattle.std.specs.Prelude.{Option, option_map, IfSome}
 use Rattle.seats.specs.Book.{Book, freed}
 use Rattle.seats.specs.SeatState.{is_joined}
 use Rattle.world.specs.Scene.{Scene}
 use Rattle.player_view.specs.View.{view_of}
 use Rattle.player_view.specs.Asked.{Asked}
-use Rattle.campaign_law.specs.declared.entry.Entry.{Entry}
 use Rattle.campaign_law.specs.declared.entry.Entry.TheVariants.{Cut}
 use Rattle.campaign_law.specs.Seat.{Seat, freed_seat, settled}
-use Rattle.campaign_law.specs.Outcome.{Outcome, nothing, cut_outcome, outcome_at}
-use Rattle.campaign_law.specs.World.{World, seat_at, asked_of, steps_of, outcome_of, scene_after, changed, seat_after, replay}
+use Rattle.campaign_law.specs.Outcome.{Outcome, nothing, outcome_at}
+use Rattle.campaign_law.specs.World.{World, seat_at, asked_of, steps_of, scene_after, changed, seat_after, replay}
 use Rattle.campaign_law.specs.SessionLaws.{cut_seat, CutFrees}
 use Rattle.campaign_law.proofs.Counts.{IsQuiet}
 use Rattle.campaign_law.proofs.Seats.{IsSound}
