@@ -1,5 +1,5 @@
 -- How a run ends, from what its parts did.
-use Rattle.std.proofs.Common.{◌≡◌, ℕ, ◌≤◌, true, false, List, [], ◌∷◌, ◌++◌, length, Some, None, refl, sym, ◌∙◌, ap, subst, arith, ◌⊎◌, inl, inr}
+use Rattle.std.proofs.Common.{◌≡◌, ℕ, ◌≤◌, ◌<◌, true, false, List, [], ◌∷◌, ◌++◌, length, Some, None, refl, sym, ◌∙◌, ap, subst, arith, ◌⊎◌, inl, inr}
 use Rattle.std.specs.Prelude.{Option, unwrap_or, IfSome, Bool, Result, Ok, Err, OnOk, OnErr}
 use Rattle.std.specs.List.{AllByRecursion}
 use Rattle.std.specs.Io.KnownBytes.{append_known}
@@ -16,7 +16,7 @@ use Rattle.campaign_law.specs.Law.{Course, IsOpening, IsSentAsMachine, world_of}
 use Rattle.world.specs.World.{World as Opened}
 use Rattle.campaign_json.specs.declared.faults.BadCampaign.{BadCampaign as Breach}
 use Rattle.campaign_file.specs.Campaign.{campaign_of}
-use Rattle.campaign_core.specs.Opening.{world_of, world_of_text}
+use Rattle.campaign_core.specs.Opening.{world_of as read_world, world_of_text}
 use Rattle.command_words.specs.Words.{Asked, Play, Check, Drill, Serve}
 use Rattle.script_play.specs.declared.run.Played.{Played}
 use Rattle.script_play.specs.declared.run.Played.TheVariants as played
@@ -265,7 +265,7 @@ DoneOrMemory status = (status ≡ 0) ⊎ (status ≡ 6)
 
 -- the world of a text that is off the format
 breach_world : (text : List ℕ) (breach : Breach) (origin : World) → world_of_text text ≡ Some origin → campaign_of text ≡ Err breach → ⊥
-breach_world text breach origin is bad = let z : None ≡ Some origin = sym (ap world_of bad) ∙ is in cc
+breach_world text breach origin is bad = let z : None ≡ Some origin = sym (ap read_world bad) ∙ is in cc
 
 play_done : (S : Type 0) (ended : Ended) (campaign : List ℕ) (origin : World) (text : List ℕ) (left out after : Option (List ℕ)) → world_of_text campaign ≡ Some origin → (script_of origin text).ending ≡ done → ¬ (status_of ended ≡ 4) → ¬ (status_of ended ≡ 5) → PlayEnds S ended campaign (Some text) left out after → DoneOrMemory (status_of ended)
 play_done S Done campaign origin text left out after is script no_read no_write h = inl refl
