@@ -8,6 +8,7 @@ mod last_line;
 #[cfg(test)]
 mod look_tests;
 mod playing;
+mod printing;
 #[cfg(test)]
 mod tests;
 mod top;
