@@ -11,15 +11,19 @@ use Rattle.seats.specs.Book.{Book, counted, left, join_refusal}
 use Rattle.campaign_law.specs.declared.entry.Entry.{Entry}
 use Rattle.command_json.specs.declared.command.Command.{Command}
 use Rattle.command_json.specs.declared.command.LineFault.{LineFault}
+use Rattle.command_rules.specs.declared.calls.Called.{Called}
+use Rattle.command_rules.specs.declared.calls.Called.TheVariants.{NoRun, Stopped, Ran}
 use Rattle.command_rules.specs.declared.refusal.Refusal.{Refusal}
 use Rattle.command_rules.specs.declared.refusal.Refusal.TheVariants.{NoHello}
 use Rattle.command_json.specs.Commands.{command_of}
+use Rattle.command_rules.specs.MacroRules.{NewText, new_text_in}
+use Rattle.command_effects.specs.MacroEffects.{drawing, setting_text, with_text}
 use Rattle.command_effects.specs.Tags.{tag_made, using_tag}
 use Rattle.player_view.specs.Asked.{Asked}
 use Rattle.views.specs.declared.view.View.{View}
 use Rattle.player_view.specs.View.{view_of}
 use Rattle.campaign_law.specs.Seat.{Seat, freed_seat, is_let_go}
-use Rattle.campaign_law.specs.Outcome.{Outcome, outcome_at, join_outcome, read_outcome, decided, accepted, refused_direct, refused_line, broken_rule, is_bye, dice_in, rolling, book_done, seat_of}
+use Rattle.campaign_law.specs.Outcome.{Outcome, outcome_at, join_outcome, read_outcome, decided, accepted, refused_direct, refused_line, broken_rule, called_by, is_bye, dice_in, rolling, book_done, seat_of}
 use Rattle.campaign_law.specs.World.{World, seat_at, asked_of, steps_of, outcome_of, scene_after, is_present, queued_reply, queued_lines, other_lines, lines_if_present, entry_lines, some_to_list, changed, seat_after, lines_of, step, replay}
 use Rattle.campaign_law.specs.Law.{first_line}
 use Rattle.campaign_law.specs.Session.{queued_of, unless_free}
@@ -41,16 +45,35 @@ free_not_joined Free h = refl
 free_not_joined (Joined r w) h = cc
 free_not_joined (Closing r w) h = refl
 
+-- what a book's words and macros are doesn't matter
+drawing_free : (run : Called) (b : Book) → is_free (drawing run b).state ≡ is_free b.state
+drawing_free NoRun b = refl
+drawing_free (Stopped refusal) b = refl
+drawing_free (Ran run) b = refl
+
+rolling_free : (dice : Option (List ℕ)) (b : Book) → is_free (rolling dice b).state ≡ is_free b.state
+rolling_free None b = refl
+rolling_free (Some dice) b = refl
+
+text_free : (name : List ℕ) (text : Option (List ℕ)) (b : Book) → is_free (with_text name text b).state ≡ is_free b.state
+text_free name None b = refl
+text_free name (Some text) b = refl
+
+setting_free : (new : Option NewText) (b : Book) → is_free (setting_text new b).state ≡ is_free b.state
+setting_free None b = refl
+setting_free (Some new) b = text_free new.name new.text b
+
+using_free : (tag : Option (List ℕ)) (b : Book) → is_free (using_tag tag b).state ≡ is_free b.state
+using_free None b = refl
+using_free (Some tag) b = refl
+
 -- no command frees a seat
 book_done_free : (c : Command) (b : Book) → is_free (book_done c b).state ≡ is_free b.state
-book_done_free c b = by (is_bye c) (tag_made c) (dice_in c)
+book_done_free c b = by (is_bye c)
   where
-    by : (leaves : Bool) (tag dice : Option (List ℕ)) → is_free (cond leaves (left b) (using_tag tag (rolling dice b))).state ≡ is_free b.state
-    by true tag dice = is_free-closed b.state
-    by false None None = refl
-    by false None (Some dice) = refl
-    by false (Some tag) None = refl
-    by false (Some tag) (Some dice) = refl
+    by : (leaves : Bool) → is_free (cond leaves (left b) (using_tag (tag_made c) (setting_text (new_text_in c) (rolling (dice_in c) b)))).state ≡ is_free b.state
+    by true = is_free-closed b.state
+    by false = using_free (tag_made c) (setting_text (new_text_in c) (rolling (dice_in c) b)) ∙ setting_free (new_text_in c) (rolling (dice_in c) b) ∙ rolling_free (dice_in c) b
 
 -- the reply that stands in no queue
 abbrev pub direct_line : Outcome → Option (List ℕ)
@@ -82,13 +105,16 @@ join_leaves : (asked : Asked) (s : Seat) (reader writer : ℕ) (refusal : Option
 join_leaves asked s reader writer (Some refusal) = direct_leaves s _ _
 join_leaves asked s reader writer None = busy_leaves s (join_outcome asked s.book reader writer None) (is_free-joined s.book reader writer) refl
 
-decided_leaves : (steps seat : ℕ) (s : Seat) (c : Command) (refusal : Option Refusal) → is_joined s.book.state ≡ true → Leaves s (decided steps seat s.book c refusal)
-decided_leaves steps seat s c (Some refusal) j = busy_leaves s (refused_line s.book refusal) (is_free-counted s.book ∙ joined_not_free s.book.state j) refl
-decided_leaves steps seat s c None j = busy_leaves s (accepted steps seat s.book c) (book_done_free c (counted s.book) ∙ is_free-counted s.book ∙ joined_not_free s.book.state j) refl
+decided_leaves : (asked : Asked) (steps seat : ℕ) (s : Seat) (c : Command) (refusal : Option Refusal) → is_joined s.book.state ≡ true → Leaves s (decided asked steps seat s.book c refusal)
+decided_leaves asked steps seat s c (Some refusal) j = busy_leaves s (refused_line s.book refusal) (is_free-counted s.book ∙ joined_not_free s.book.state j) refl
+decided_leaves asked steps seat s c None j =
+    let run : Called = called_by asked seat s.book c in
+    busy_leaves s (accepted asked steps seat s.book c)
+    (book_done_free c (drawing run (counted s.book)) ∙ drawing_free run (counted s.book) ∙ is_free-counted s.book ∙ joined_not_free s.book.state j) refl
 
 read_leaves : (asked : Asked) (steps seat : ℕ) (s : Seat) (r : Result Command LineFault) → is_joined s.book.state ≡ true → Leaves s (read_outcome asked steps seat s.book r)
 read_leaves asked steps seat s (Err fault) j = busy_leaves s (refused_line s.book _) (is_free-counted s.book ∙ joined_not_free s.book.state j) refl
-read_leaves asked steps seat s (Ok command) j = decided_leaves steps seat s command (broken_rule asked seat s.book command) j
+read_leaves asked steps seat s (Ok command) j = decided_leaves asked steps seat s command (broken_rule asked seat s.book command) j
 
 line_leaves : (asked : Asked) (steps seat : ℕ) (s : Seat) (bytes : List ℕ) (j : Bool) → is_joined s.book.state ≡ j → Leaves s (cond j (read_outcome asked steps seat s.book (command_of bytes (eqb seat 0))) (refused_direct 0 NoHello))
 line_leaves asked steps seat s bytes true h = read_leaves asked steps seat s (command_of bytes (eqb seat 0)) h

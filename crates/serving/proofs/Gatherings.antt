@@ -1,6 +1,6 @@
 -- Sessions that were gathered, one more and then another.
-use Rattle.std.proofs.Common.{◌≡◌, ◌≤◌, ◌<◌, ◌+◌, ℕ, zero, suc, Bool, true, false, List, [], ◌∷◌, ◌++◌, map, length, All, refl, sym, ap, subst, ◌∙◌, arith, append_assoc, length-append}
-use Rattle.std.specs.Prelude.{Option, Some, None, decimal}
+use Rattle.std.proofs.Common.{◌≡◌, ◌+◌, ℕ, suc, Bool, true, List, [], ◌∷◌, ◌++◌, length, refl, sym, ap, subst, ◌∙◌, arith, append_assoc}
+use Rattle.std.specs.Prelude.{Option, Some, None}
 use Rattle.std.proofs.lemmas.List.{append-nil}
 use Rattle.std.proofs.lemmas.List.Elements.{All-nil, All-push, All-weaker}
 use Rattle.std.proofs.Math.Logic.{∥∥₁_elim}
@@ -8,21 +8,20 @@ use Rattle.std.specs.Coded.{coded_option}
 use base.Stored.{Coded-set}
 use Rattle.atomic_table.specs.Seated.{table_id_coded}
 use mathlib.Core.List.{IsPrefix}
-use Rattle.line_io.specs.Connections.{append_told, IsAtLeast}
+use Rattle.line_io.specs.Connections.{append_told}
 use Rattle.campaign_law.specs.declared.entry.Entry.{Entry}
 use Rattle.campaign_law.specs.World.{World}
 use Rattle.campaign_core.specs.contracts.campaign.Opened.{the_row}
 use Rattle.turn_lock.specs.Pass.{HallState, PassState, IsPassOf}
-use Rattle.turn_lock.proofs.Prefixes.{prefix_self, prefix_trans}
+use Rattle.turn_lock.proofs.Prefixes.{prefix_trans}
 use Rattle.session.specs.declared.sitting.Ended.{Ended}
 use Rattle.session.specs.declared.service.Sat.{Sat}
 use Rattle.serving.specs.declared.sittings.Sitting.{Sitting}
 use Rattle.serving.specs.Runs.{HasRun}
 use Rattle.serving.specs.declared.guests.Guest.{Guest}
-use Rattle.serving.specs.declared.guests.Guest.TheVariants.{Busy, Sits}
+use Rattle.serving.specs.declared.guests.Guest.TheVariants.{Sits}
 use Rattle.serving.specs.declared.guests.Word.{Word}
 use Rattle.serving.specs.declared.guests.Word.TheVariants as words
-use Rattle.serving.specs.Guests.{one_sitting, sitting_in}
 use Rattle.serving.specs.Fates.{Fate, busy, sat, Became, AllBecame, HoldsIn, ends_of, word_of, line_of, lines_from, IsPrinted, PrintsMore, GathersOne, HasGathered}
 use Rattle.serving.proofs.PrintedLines.{printed_none, prints_on}
 

@@ -1,9 +1,9 @@
 -- Connections that were taken and gathered.
-use Rattle.std.proofs.Common.{◌≡◌, ◌≤◌, ◌<◌, ◌+◌, ℕ, zero, suc, Bool, true, false, List, [], ◌∷◌, ◌++◌, map, length, All, inl, inr, refl, sym, ap, subst, ◌∙◌, arith}
+use Rattle.std.proofs.Common.{◌≡◌, ◌≤◌, ◌+◌, ℕ, Bool, true, false, List, [], ◌∷◌, ◌++◌, map, length, All, inl, inr, refl, sym, ap, subst, ◌∙◌, arith}
 use Rattle.std.specs.Prelude.{Option, ◌⊎◌, ◌≢◌}
 use Rattle.std.proofs.lemmas.List.Elements.{All-nil, All-cons, All-head, All-tail}
 use Rattle.std.specs.Arc.{arc_value}
-use Rattle.line_io.specs.Connections.{prepend_told, append_told, count_told, IsAtLeast, IsNoneLeft, RoseBy}
+use Rattle.line_io.specs.Connections.{prepend_told, append_told, count_told, IsNoneLeft}
 use Rattle.line_io.specs.Counts.{CountRose}
 use Rattle.campaign_law.specs.declared.entry.Entry.{Entry}
 use Rattle.campaign_law.specs.World.{World}
@@ -18,7 +18,7 @@ use Rattle.serving.specs.declared.guests.Stop.{Stop}
 use Rattle.serving.specs.declared.guests.Stop.TheVariants as stops
 use Rattle.serving.specs.declared.serving_hall.Served.{Served}
 use Rattle.serving.specs.declared.serving_hall.Served.TheVariants as answers
-use Rattle.serving.specs.Guests.{came_for, IsGuestOf, busy_in, sitting_in, HasTaken, Takes, StopsBy, HasSplit, CanSplit}
+use Rattle.serving.specs.Guests.{came_for, IsGuestOf, busy_in, sitting_in, Takes, StopsBy, HasSplit}
 use Rattle.serving.specs.Fates.{Fate, busy, sat, Became, AllBecame, ends_of, HasGathered}
 use Rattle.serving.specs.Served.{served_by, came_of, busy_of, IsOf, Serves}
 use Rattle.serving.proofs.Gatherings.{same_length}

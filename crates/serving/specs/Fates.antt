@@ -4,7 +4,6 @@ use Rattle.std.specs.Io.KnownBytes.{append_known}
 use mathlib.Core.List.{IsPrefix}
 use Rattle.line_io.specs.Connections.{append_told}
 use Rattle.campaign_law.specs.declared.entry.Entry.{Entry}
-use Rattle.campaign_law.specs.World.{World}
 use Rattle.seats.specs.declared.seat_state.JoinRefusal.{JoinRefusal}
 use Rattle.seats.specs.declared.seat_state.JoinRefusal.TheVariants as joins
 use Rattle.session.specs.declared.sitting.Ended.{Ended}

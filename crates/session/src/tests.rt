@@ -27,6 +27,18 @@ fn opened(alloc: Global) -> Result<Table, Fail>
     }
 }
 
+// A hall over these seats, its usher and its first pass.
+fn opened_hall(alloc: Global) -> Result<(Hall<Table>, Usher<Table>, Pass<Table>), Fail>
+    ensures opening { IfOk result (λ made. IsOpening made.0.origin) }
+    ensures usher { IfOk result (λ made. IsUsherOf made.0 made.1 × (made.1.count ≡ 1)) }
+    ensures pass { IfOk result (λ made. IsPassOf made.0 made.2 × (made.2.number ≡ 0)) }
+{
+    match Hall::open(alloc, opened(alloc)?) {
+        Ok(made) => Ok(made),
+        Err(_) => Err(Fail::from("memory")),
+    }
+}
+
 // Two passes of one.
 fn two_of(
     hall: &Hall<Table>,

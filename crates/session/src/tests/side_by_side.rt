@@ -3,7 +3,7 @@ ghost use Rattle.std.specs.Prelude.{◌≤◌, length, IfOk};
 ghost use Rattle.turn_lock.specs.Pass.{IsPassOf};
 ghost use Rattle.campaign_law.specs.Law.{IsOpening};
 
-use crate::tests::{opened, two_of};
+use crate::tests::{opened_hall, two_of};
 use crate::{Ended, Table, serve_session};
 use line_io::{Failed, Sink, Source};
 use std::alloc::Global;
@@ -144,9 +144,7 @@ fn two_sessions(alloc: Global) -> Result<(Hall<Table>, Passes, Passes), Fail>
     ensures anns { IfOk result (λ made. IsPassOf made.0 made.1.reader × IsPassOf made.0 made.1.writer) }
     ensures bobs { IfOk result (λ made. IsPassOf made.0 made.2.reader × IsPassOf made.0 made.2.writer) }
 {
-    let Ok((hall, mut usher, first)) = Hall::open(alloc, opened(alloc)?) else {
-        return Err(Fail::from("memory"));
-    };
+    let (hall, mut usher, first) = opened_hall(alloc)?;
     let (first, second) = two_of(&hall, &mut usher, first)?;
     let (first, third) = two_of(&hall, &mut usher, first)?;
     let (first, fourth) = two_of(&hall, &mut usher, first)?;

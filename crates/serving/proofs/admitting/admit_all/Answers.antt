@@ -1,7 +1,6 @@
-use Rattle.std.proofs.Common.{rules, ◌≡◌, ◌≤◌, ◌<◌, ◌+◌, ◌*◌, ◌++◌, ◌∷◌, [], ℕ, length, subst, sym, ap, ◌∙◌, arith, length-append}
+use Rattle.std.proofs.Common.{◌+◌, ◌*◌, ◌∷◌, [], length, subst, sym, ap, ◌∙◌, arith, length-append}
 use Rattle.std.specs.Arc.{arc_value}
-use Rattle.serving.specs.Guests.{Takes, HasTaken, Admits}
-use Rattle.serving.specs.declared.guests.Stop.TheVariants as stops
+use Rattle.serving.specs.Guests.{HasTaken, Admits}
 use Rattle.serving.proofs.Admissions.{takes_stopped, takes_none, took_more, split_more}
 use Rattle.serving.proofs.admitting.admit_all.Goals as goal
 

@@ -1,12 +1,10 @@
-use Rattle.std.proofs.Common.{rules, ◌≡◌, ◌≤◌, ◌+◌, ℕ, true, false, All, length, List, [], ◌∷◌, ◌++◌, subst, sym, ap, ◌∙◌, refl, arith, append_assoc, length-append}
+use Rattle.std.proofs.Common.{rules, ◌≡◌, ◌+◌, All, [], ◌∷◌, ◌++◌, subst, sym, ap, ◌∙◌, refl, arith, append_assoc, length-append}
 use Rattle.std.proofs.lemmas.List.Elements.{All-head, All-tail}
 use Rattle.std.specs.Arc.{arc_value}
-use mathlib.Core.List.{IsPrefix}
 use Rattle.line_io.specs.Connections.{IsAtLeast}
 use Rattle.turn_lock.proofs.Prefixes.{prefix_self, prefix_trans}
-use Rattle.serving.specs.Guests.{IsGuestOf, one_sitting, sitting_in}
+use Rattle.serving.specs.Guests.{IsGuestOf, sitting_in}
 use Rattle.serving.specs.Runs.{IsRunOf}
-use Rattle.serving.specs.Fates.{HasGathered}
 use Rattle.serving.proofs.PrintedLines.{fault_more}
 use Rattle.serving.proofs.Gatherings.{gathered_none, gathered_more}
 use Rattle.serving.proofs.gathering.gather_all.Goals as goal

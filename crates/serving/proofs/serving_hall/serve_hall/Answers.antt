@@ -1,4 +1,3 @@
-use Rattle.std.proofs.Common.{rules, ◌≡◌, ◌≤◌}
 use Rattle.std.specs.Arc.{arc_value}
 use Rattle.serving.specs.Runs.{IsRunOf}
 use Rattle.serving.proofs.Servings.{served}
