@@ -1,7 +1,7 @@
 -- The lines that close a seat: a bye, and the last of all.
 use Rattle.std.proofs.Common.{◌≡◌, ℕ, ◌+◌, Bool, true, false, cond, ◌||◌, ◌&&◌, eqb, List, [], ◌∷◌, ◌++◌, length, refl, sym, ◌∙◌, ap, subst, eq-eqb, ◌⊎◌, inl, inr}
 use Rattle.std.specs.Prelude.{Option, Some, None, option_map, unwrap_or, Result, Ok, Err}
-use Rattle.seats.specs.Book.{Book, counted}
+use Rattle.seats.specs.Book.{Book, counted, left}
 use Rattle.seats.specs.SeatState.{is_free, is_joined, closed}
 use Rattle.seats.specs.declared.seat_state.SeatState.{SeatState}
 use Rattle.seats.specs.declared.seat_state.SeatState.TheVariants.{Free, Joined, Closing}
@@ -10,13 +10,17 @@ use Rattle.command_json.specs.declared.command.Command.{Command}
 use Rattle.command_json.specs.declared.command.LineFault.{LineFault}
 use Rattle.command_json.specs.Commands.{command_of}
 use Rattle.command_rules.specs.declared.refusal.Refusal.{Refusal}
+use Rattle.command_rules.specs.declared.calls.Called.{Called}
+use Rattle.command_rules.specs.declared.calls.Called.TheVariants.{NoRun, Stopped, Ran}
+use Rattle.command_rules.specs.MacroRules.{NewText, new_text_in}
+use Rattle.command_effects.specs.MacroEffects.{drawing, setting_text, with_text}
 use Rattle.command_effects.specs.Tags.{tag_made, using_tag}
 use Rattle.player_view.specs.View.{view_of}
 use Rattle.player_view.specs.Asked.{Asked}
 use Rattle.campaign_law.specs.declared.entry.Entry.{Entry}
 use Rattle.campaign_law.specs.declared.entry.Entry.TheVariants.{Line}
 use Rattle.campaign_law.specs.Seat.{Seat, freed_seat, is_let_go, settled}
-use Rattle.campaign_law.specs.Outcome.{Outcome, is_bye, dice_in, rolling, decided, broken_rule, read_outcome, outcome_at}
+use Rattle.campaign_law.specs.Outcome.{Outcome, is_bye, dice_in, rolling, called_by, decided, broken_rule, read_outcome, outcome_at}
 use Rattle.campaign_law.specs.World.{World, seat_at, asked_of, steps_of, outcome_of, scene_after, changed, queued_lines, seat_after, step, replay}
 use Rattle.campaign_law.specs.Session.{standing, standing_after, is_held_by}
 use Rattle.campaign_law.proofs.Seats.{grown}
@@ -52,22 +56,39 @@ dice_counted : (b c : Book) (dice : Option (List ℕ)) → IsCounted b c → IsC
 dice_counted b c None is = is
 dice_counted b c (Some dice) is = record { state = is.state; lines = is.lines }
 
+text_counted : (b c : Book) (name : List ℕ) (text : Option (List ℕ)) → IsCounted b c → IsCounted b (with_text name text c)
+text_counted b c name None is = record { state = is.state; lines = is.lines }
+text_counted b c name (Some text) is = record { state = is.state; lines = is.lines }
+
+setting_counted : (b c : Book) (new : Option NewText) → IsCounted b c → IsCounted b (setting_text new c)
+setting_counted b c None is = is
+setting_counted b c (Some new) is = text_counted b c new.name new.text is
+
+-- the line being counted, the words of a run are drawn
+drawing_counted : (b : Book) (run : Called) → IsCounted b (drawing run (counted b))
+drawing_counted b NoRun = record { state = refl; lines = refl }
+drawing_counted b (Stopped refusal) = record { state = refl; lines = refl }
+drawing_counted b (Ran run) = record { state = refl; lines = refl }
+
 abbrev book_after : Outcome → Book → Book
 book_after o b = unwrap_or o.book b
 
 -- what a Joined seat's line does to its book, but for a bye
-by_rule : (steps seat : ℕ) (b : Book) (c : Command) (r : Option Refusal) → is_bye c ≡ false → IsCounted b (book_after (decided steps seat b c r) b)
-by_rule steps seat b c (Some refusal) other = record { state = refl; lines = refl }
-by_rule steps seat b c None other =
-    subst (λ t. IsCounted b (cond t (record (counted b) { state = closed (counted b).state }) (using_tag (tag_made c) (rolling (dice_in c) (counted b))))) (sym other)
-    (tag_counted b (rolling (dice_in c) (counted b)) (tag_made c) (dice_counted b (counted b) (dice_in c) (record { state = refl; lines = refl })))
+by_rule : (asked : Asked) (steps seat : ℕ) (b : Book) (c : Command) (r : Option Refusal) → is_bye c ≡ false → IsCounted b (book_after (decided asked steps seat b c r) b)
+by_rule asked steps seat b c (Some refusal) other = record { state = refl; lines = refl }
+by_rule asked steps seat b c None other =
+    let drawn : Book = drawing (called_by asked seat b c) (counted b) in
+    subst (λ t. IsCounted b (cond t (left drawn) (using_tag (tag_made c) (setting_text (new_text_in c) (rolling (dice_in c) drawn))))) (sym other)
+    (tag_counted b (setting_text (new_text_in c) (rolling (dice_in c) drawn)) (tag_made c)
+    (setting_counted b (rolling (dice_in c) drawn) (new_text_in c) (dice_counted b drawn (dice_in c) (drawing_counted b (called_by asked seat b c)))))
 
 -- a bye closes it, unless it is refused
-by_bye : (steps seat : ℕ) (b : Book) (c : Command) (r : Option Refusal) → is_bye c ≡ true → IsLined b (book_after (decided steps seat b c r) b)
-by_bye steps seat b c (Some refusal) bye = record { state = λ _. refl; lines = refl }
-by_bye steps seat b c None bye =
-    subst (λ t. IsLined b (cond t (record (counted b) { state = closed (counted b).state }) (using_tag (tag_made c) (rolling (dice_in c) (counted b))))) (sym bye)
-    (record { state = λ is. absurd (closed_never (counted b).state is); lines = refl })
+by_bye : (asked : Asked) (steps seat : ℕ) (b : Book) (c : Command) (r : Option Refusal) → is_bye c ≡ true → IsLined b (book_after (decided asked steps seat b c r) b)
+by_bye asked steps seat b c (Some refusal) bye = record { state = λ _. refl; lines = refl }
+by_bye asked steps seat b c None bye =
+    let drawn : Book = drawing (called_by asked seat b c) (counted b) in
+    subst (λ t. IsLined b (cond t (left drawn) (using_tag (tag_made c) (setting_text (new_text_in c) (rolling (dice_in c) drawn))))) (sym bye)
+    (record { state = λ is. absurd (closed_never drawn.state is); lines = (drawing_counted b (called_by asked seat b c)).lines })
 
 -- what a Joined seat's line did: it is a bye, or counted
 record Lined (seat : ℕ) (bytes : List ℕ) (b c : Book) : Type 0 where
@@ -79,8 +100,8 @@ by_reading asked steps seat b bytes (Err fault) reads = record { lined = record 
 by_reading asked steps seat b bytes (Ok c) reads = by_kind (is_bye c) refl
   where
     by_kind : (t : Bool) → is_bye c ≡ t → Lined seat bytes b (book_after (read_outcome asked steps seat b (Ok c)) b)
-    by_kind true is = record { lined = by_bye steps seat b c (broken_rule asked seat b c) is; which = inl (record { command = c; reads = reads; bye = is }) }
-    by_kind false is = let counts = by_rule steps seat b c (broken_rule asked seat b c) is in record { lined = counted_lined b _ counts; which = inr counts }
+    by_kind true is = record { lined = by_bye asked steps seat b c (broken_rule asked seat b c) is; which = inl (record { command = c; reads = reads; bye = is }) }
+    by_kind false is = let counts = by_rule asked steps seat b c (broken_rule asked seat b c) is in record { lined = counted_lined b _ counts; which = inr counts }
 
 line_counts : (asked : Asked) (steps seat : ℕ) (s : Seat) (bytes : List ℕ) → is_joined s.book.state ≡ true → Lined seat bytes s.book (book_after (outcome_at asked steps (Some s) (Line seat bytes)) s.book)
 line_counts asked steps seat s bytes joined =

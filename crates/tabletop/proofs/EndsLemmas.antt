@@ -406,7 +406,7 @@ file_done D Ends ended told campaign out after is small no_read ends (inr f) =
 pub play_completes : (status : ℕ) (job : Option Asked) (texts : List ℕ → Option (List ℕ)) (script left out after : Option (List ℕ)) (D S OutFailed : Type 0) (file : List ℕ) (end : Bool) (campaign text : List ℕ) (origin : World) → HasEnded status job texts script left out after D S OutFailed → job ≡ Some (Play file end) → texts file ≡ Some campaign → length campaign ≤ campaign_limit → world_of_text campaign ≡ Some origin → script ≡ Some text → (script_of origin text).ending ≡ done → ¬ (status ≡ 4) → ¬ (status ≡ 5) → DoneOrMemory status
 play_completes status job texts script left out after D S OutFailed file end campaign text origin h j t small is s script_done no_read no_write =
     let ends : JobEnds D S h.ended (Some (Play file end)) texts (Some text) left out h.before_line =
-            subst (λ x. JobEnds D S h.ended (Some (Play file end)) texts x left out h.before_line) s (subst (λ j. JobEnds D S h.ended j texts script left out h.before_line) j h.ends) in
+    subst (λ x. JobEnds D S h.ended (Some (Play file end)) texts x left out h.before_line) s (subst (λ j. JobEnds D S h.ended j texts script left out h.before_line) j h.ends) in
     subst DoneOrMemory (sym h.status_is)
     (file_done D (λ text'. PlayEnds S end h.ended text' (Some text) left out h.before_line) h.ended (texts file) campaign out h.before_line t small (λ e. no_read (h.status_is ∙ e))
     (play_done S end h.ended campaign origin text left out h.before_line is script_done (λ e. no_read (h.status_is ∙ e)) (λ e. no_write (h.status_is ∙ e))) ends)

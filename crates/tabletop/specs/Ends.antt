@@ -25,7 +25,6 @@ use Rattle.tabletop.specs.Endings.{status_of, last_line, HasOwnLine}
 use Rattle.tabletop.specs.Counts.{count_line}
 use Rattle.command_words.specs.Words.{Asked, Play, Check, Drill, Serve}
 
-
 -- how a played script ends the run
 abbrev pub ended_by : Played → Ended
 ended_by played.Done = Done

@@ -76,7 +76,10 @@ fn a_breach_is_told_with_its_path(rt: HostRuntime) -> Result<(), Fail> {
     for words in [["check", "table.json"], ["play", "table.json"]] {
         let (status, output) = played(alloc, &words, &plain_run(&campaign, ""))?;
         assert_eq!(rt; status, 3);
-        assert_eq!(rt; output.as_str(), "tabletop: bad campaign at /tokens/0/owners/0: cross\n");
+        assert_eq!(rt;
+            output.as_str(),
+            "tabletop: bad campaign at /tokens/0/owners/0: cross\n"
+        );
     }
     Ok(())
 }

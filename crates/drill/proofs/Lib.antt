@@ -1,4 +1,0 @@
-pub mod Tags
-pub mod Tokens
-pub mod Lines
-pub mod Walls
