@@ -2,3 +2,4 @@ pub mod PrintedLines
 pub mod Admissions
 pub mod Gatherings
 pub mod Servings
+pub mod Hostings

@@ -5,8 +5,10 @@
 #![tactic(auto)]
 
 mod admitting;
+mod endings;
 mod gathering;
 mod guests;
+mod hosting;
 mod printing;
 mod runs;
 mod serving_hall;
@@ -14,6 +16,7 @@ mod sittings;
 mod threads;
 
 pub use guests::Guest;
+pub use hosting::{Hosted, host};
 pub use runs::SessionSource;
 pub use serving_hall::{Served, serve_hall};
 pub use sittings::Sitting;

@@ -36,8 +36,8 @@ fn text_of_refusal(refusal: JoinRefusal) -> &'static str
     }
 }
 
-// More bytes, where all were printed before.
-fn print_more<O: Sink>(out: &mut O, printed: bool, bytes: &[u8]) -> bool
+/// More bytes, where all were printed before.
+pub(crate) fn print_more<O: Sink>(out: &mut O, printed: bool, bytes: &[u8]) -> bool
     ensures prints { PrintsMore printed result bytes.now (O.written out.old) (O.written out.new) }
     ensures count { O.faults_of out.old ≤ O.faults_of out.new }
     ensures failed { printed ≡ true → result ≡ false → CountRose (O.faults_of out.old) (O.faults_of out.new) }

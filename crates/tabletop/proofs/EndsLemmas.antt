@@ -30,7 +30,7 @@ use Rattle.script_play.proofs.Fronts.{prefix_all, all_part}
 use Rattle.script_play.proofs.Reading.{told_weaker}
 use Rattle.script_play.proofs.Behind.{sent_behind}
 use Rattle.tabletop.specs.declared.endings.Ended.{Ended}
-use Rattle.tabletop.specs.declared.endings.Ended.TheVariants.{Done, Usage, BadCampaign, ReadFault, WriteFault, Memory, BadLine, TooLarge}
+use Rattle.tabletop.specs.declared.endings.Ended.TheVariants.{Done, Usage, BadCampaign, ReadFault, WriteFault, Memory, BadLine, TooLarge, DoorFault}
 use Rattle.tabletop.specs.Endings.{status_of, last_line, HasOwnLine}
 use Rattle.tabletop.specs.Ends.{PlaysOn, ScriptEnds, PrintsLine, EndsByLine, end_line, PlayEnds, FollowsPlay, CheckEnds, NotFetched, FileEnds, JobEnds, HasEnded, IsToldAs, ended_by, unfetched, campaign_limit}
 
@@ -99,6 +99,7 @@ by_line S WriteFault text script left out after e = inr e
 by_line S Memory text script left out after e = inr e
 by_line S (BadLine number) text script left out after e = inr e
 by_line S TooLarge text script left out after e = inr e
+by_line S DoorFault text script left out after e = inr e
 
 -- a stop ends the run whether the campaign was to be written or not
 stopped : (S : Type 0) (end : Bool) (answer : Played) (text : List ℕ) (script left out after : Option (List ℕ)) → (answer ≡ played.Done → ⊥) → ScriptEnds S (ended_by answer) text script left out after → PlayEnds S end (ended_by answer) text script left out after
@@ -198,6 +199,7 @@ script_less S ReadFault text script left out after own p = absurd own
 script_less S WriteFault text script left out after own p = absurd own
 script_less S Memory text script left out after own p = absurd own
 script_less S TooLarge text script left out after own p = absurd own
+script_less S DoorFault text script left out after own p = absurd own
 
 play_less : (S : Type 0) (end : Bool) (ended : Ended) (text : List ℕ) (script left out after : Option (List ℕ)) → HasOwnLine ended → PlayEnds S end ended text script left out after → PlayEnds S end Memory text script left out after
 play_less S false ended text script left out after own p = script_less S ended text script left out after own p
@@ -211,6 +213,7 @@ play_less S true ReadFault text script left out after own p = absurd own
 play_less S true WriteFault text script left out after own p = absurd own
 play_less S true Memory text script left out after own p = absurd own
 play_less S true TooLarge text script left out after own p = absurd own
+play_less S true DoorFault text script left out after own p = absurd own
 
 check_less : (ended : Ended) (text : List ℕ) (out after : Option (List ℕ)) → HasOwnLine ended → CheckEnds ended text out after → CheckEnds Memory text out after
 check_less (BadCampaign breach) text out after own p = p.1
@@ -221,6 +224,7 @@ check_less ReadFault text out after own p = absurd own
 check_less WriteFault text out after own p = absurd own
 check_less Memory text out after own p = absurd own
 check_less TooLarge text out after own p = absurd own
+check_less DoorFault text out after own p = absurd own
 
 file_less : (D : Type 0) (Ends Less : List ℕ → Type 0) (ended : Ended) (campaign out after : Option (List ℕ)) → ((text : List ℕ) → Ends text → Less text) → FileEnds D Ends ended campaign out after → FileEnds D Less Memory campaign out after
 file_less D Ends Less ended campaign out after less (inl none) = inl (tt, none.1)
@@ -253,7 +257,7 @@ count_after a b c le rose lt = omega (arith, rose lt)
 
 -- ---- statuses
 
-two_is_usage : (ended : Ended) → status_of ended ≡ 2 → ended ≡ Usage
+pub two_is_usage : (ended : Ended) → status_of ended ≡ 2 → ended ≡ Usage
 two_is_usage Usage s = refl
 two_is_usage Done s = absurd (omega (arith, s))
 two_is_usage (BadCampaign breach) s = absurd (omega (arith, s))
@@ -262,6 +266,7 @@ two_is_usage WriteFault s = absurd (omega (arith, s))
 two_is_usage Memory s = absurd (omega (arith, s))
 two_is_usage (BadLine number) s = absurd (omega (arith, s))
 two_is_usage TooLarge s = absurd (omega (arith, s))
+two_is_usage DoorFault s = absurd (omega (arith, s))
 
 used_file : (D : Type 0) (Ends : List ℕ → Type 0) (campaign out after : Option (List ℕ)) → ((text : List ℕ) → Ends text → ⊥) → FileEnds D Ends Usage campaign out after → ⊥
 used_file D Ends campaign out after never (inl none) = none.0
@@ -316,6 +321,7 @@ read_fault_of status ended WriteFault s t h = absurd (omega (arith, s, h))
 read_fault_of status ended Memory s t h = absurd (omega (arith, s, h))
 read_fault_of status ended (BadLine number) s t h = absurd (omega (arith, s, h))
 read_fault_of status ended TooLarge s t h = absurd (omega (arith, s, h))
+read_fault_of status ended DoorFault s t h = absurd (omega (arith, s, h))
 
 pub write_fault_of : (status : ℕ) (ended told : Ended) → status ≡ status_of told → IsToldAs ended told → status ≡ 5 → ended ≡ WriteFault
 write_fault_of status ended WriteFault s (inl same) h = sym same
@@ -327,6 +333,7 @@ write_fault_of status ended ReadFault s t h = absurd (omega (arith, s, h))
 write_fault_of status ended Memory s t h = absurd (omega (arith, s, h))
 write_fault_of status ended (BadLine number) s t h = absurd (omega (arith, s, h))
 write_fault_of status ended TooLarge s t h = absurd (omega (arith, s, h))
+write_fault_of status ended DoorFault s t h = absurd (omega (arith, s, h))
 
 -- ---- completeness
 
@@ -344,11 +351,11 @@ ends_done answer ending world origin text left out after is script says p =
     told_some None h = absurd h
     told_some (Some rest) h = h
 
-abbrev DoneOrMemory : ℕ → Type 0
+abbrev pub DoneOrMemory : ℕ → Type 0
 DoneOrMemory status = (status ≡ 0) ⊎ (status ≡ 6)
 
 -- the world of a text that is off the format
-breach_world : (text : List ℕ) (breach : Breach) (origin : World) → world_of_text text ≡ Some origin → campaign_of text ≡ Err breach → ⊥
+pub breach_world : (text : List ℕ) (breach : Breach) (origin : World) → world_of_text text ≡ Some origin → campaign_of text ≡ Err breach → ⊥
 breach_world text breach origin is bad = let z : None ≡ Some origin = sym (ap read_world bad) ∙ is in cc
 
 script_done : (S : Type 0) (ended : Ended) (campaign : List ℕ) (origin : World) (text : List ℕ) (left out after : Option (List ℕ)) → world_of_text campaign ≡ Some origin → (script_of origin text).ending ≡ done → ¬ (status_of ended ≡ 4) → ¬ (status_of ended ≡ 5) → ScriptEnds S ended campaign (Some text) left out after → DoneOrMemory (status_of ended)
@@ -362,6 +369,7 @@ script_done S (BadLine number) campaign origin text left out after is script no_
     let z : done ≡ bad_line number = ends_done (played.BadLine number) (bad_line number) (world_of_text campaign) origin text left out after is script (λ w es e. ap (λ (s : Script). s.ending) e) h in cc
 script_done S TooLarge campaign origin text left out after is script no_read no_write h =
     let z : done ≡ too_large = ends_done played.TooLarge too_large (world_of_text campaign) origin text left out after is script (λ w es e. ap (λ (s : Script). s.ending) e) h in cc
+script_done S DoorFault campaign origin text left out after is script no_read no_write h = absurd h
 
 play_done : (S : Type 0) (end : Bool) (ended : Ended) (campaign : List ℕ) (origin : World) (text : List ℕ) (left out after : Option (List ℕ)) → world_of_text campaign ≡ Some origin → (script_of origin text).ending ≡ done → ¬ (status_of ended ≡ 4) → ¬ (status_of ended ≡ 5) → PlayEnds S end ended campaign (Some text) left out after → DoneOrMemory (status_of ended)
 play_done S false ended campaign origin text left out after is script no_read no_write h = script_done S ended campaign origin text left out after is script no_read no_write h
@@ -376,6 +384,8 @@ play_done S true (BadLine number) campaign origin text left out after is script 
 play_done S true (BadLine number) campaign origin text left out after is script no_read no_write (inr h) = absurd h.printed
 play_done S true TooLarge campaign origin text left out after is script no_read no_write (inl h) = script_done S TooLarge campaign origin text left out after is script no_read no_write h
 play_done S true TooLarge campaign origin text left out after is script no_read no_write (inr h) = absurd h.printed
+play_done S true DoorFault campaign origin text left out after is script no_read no_write (inl h) = script_done S DoorFault campaign origin text left out after is script no_read no_write h
+play_done S true DoorFault campaign origin text left out after is script no_read no_write (inr h) = absurd h.printed
 
 check_done : (ended : Ended) (campaign : List ℕ) (world : Opened) (out after : Option (List ℕ)) → campaign_of campaign ≡ Ok world → ¬ (status_of ended ≡ 4) → ¬ (status_of ended ≡ 5) → CheckEnds ended campaign out after → DoneOrMemory (status_of ended)
 check_done Done campaign world out after is no_read no_write h = inl refl
@@ -386,11 +396,13 @@ check_done WriteFault campaign world out after is no_read no_write h = absurd (n
 check_done Usage campaign world out after is no_read no_write h = absurd h.2
 check_done (BadLine number) campaign world out after is no_read no_write h = absurd h.2
 check_done TooLarge campaign world out after is no_read no_write h = absurd h.2
+check_done DoorFault campaign world out after is no_read no_write h = absurd h.2
 
-not_fetched_done : (D : Type 0) (ended : Ended) (campaign : List ℕ) → length campaign ≤ campaign_limit → ¬ (status_of ended ≡ 4) → NotFetched D ended (Some campaign) → DoneOrMemory (status_of ended)
+pub not_fetched_done : (D : Type 0) (ended : Ended) (campaign : List ℕ) → length campaign ≤ campaign_limit → ¬ (status_of ended ≡ 4) → NotFetched D ended (Some campaign) → DoneOrMemory (status_of ended)
 not_fetched_done D ReadFault campaign small no_read h = absurd (no_read refl)
 not_fetched_done D Memory campaign small no_read h = inr refl
 not_fetched_done D TooLarge campaign small no_read h = absurd (omega (arith, h, small))
+not_fetched_done D DoorFault campaign small no_read h = absurd h
 not_fetched_done D Done campaign small no_read h = absurd h
 not_fetched_done D Usage campaign small no_read h = absurd h
 not_fetched_done D (BadCampaign breach) campaign small no_read h = absurd h

@@ -1,1 +1,3 @@
 pub mod EndsLemmas
+mod Services
+mod ServeLemmas

@@ -3,7 +3,7 @@ use Rattle.std.specs.Prelude.{◌≡◌, ℕ, List, [], ◌∷◌, ◌++◌, cod
 use Rattle.campaign_json.specs.declared.faults.Rule.{Rule}
 use Rattle.campaign_json.specs.declared.faults.Rule.TheVariants.{Json, Missing, Unknown, Kind, Range, Form, Twice, Cross}
 use Rattle.tabletop.specs.declared.endings.Ended.{Ended}
-use Rattle.tabletop.specs.declared.endings.Ended.TheVariants.{Done, Usage, BadCampaign, ReadFault, WriteFault, Memory, BadLine, TooLarge}
+use Rattle.tabletop.specs.declared.endings.Ended.TheVariants.{Done, Usage, BadCampaign, ReadFault, WriteFault, Memory, BadLine, TooLarge, DoorFault}
 
 abbrev pub status_of : Ended → ℕ
 status_of Done = 0
@@ -14,6 +14,7 @@ status_of WriteFault = 5
 status_of Memory = 6
 status_of (BadLine number) = 7
 status_of TooLarge = 8
+status_of DoorFault = 9
 
 -- the name of a rule of the campaign text
 abbrev pub rule_word : Rule → List ℕ
@@ -35,6 +36,7 @@ last_line WriteFault = []
 last_line Memory = codes "tabletop: out of memory" ++ 10 ∷ []
 last_line (BadLine number) = codes "tabletop: bad script line " ++ (decimal number ++ 10 ∷ [])
 last_line TooLarge = codes "tabletop: too large" ++ 10 ∷ []
+last_line DoorFault = codes "tabletop: door fault" ++ 10 ∷ []
 
 -- the last line has a path or a number of the run's own
 abbrev pub HasOwnLine : Ended → Type 0

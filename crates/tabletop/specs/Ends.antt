@@ -20,7 +20,7 @@ use Rattle.script_play.specs.Tagged.{tagged, lines_behind}
 use Rattle.script_play.specs.Played.{HasEntered, HasRead, HasWritten, AreWrittenOf}
 use Rattle.script_play.specs.Sending.{WroteFront}
 use Rattle.tabletop.specs.declared.endings.Ended.{Ended}
-use Rattle.tabletop.specs.declared.endings.Ended.TheVariants.{Done, Usage, BadCampaign, ReadFault, WriteFault, Memory, BadLine, TooLarge}
+use Rattle.tabletop.specs.declared.endings.Ended.TheVariants.{Done, Usage, BadCampaign, ReadFault, WriteFault, Memory, BadLine, TooLarge, DoorFault}
 use Rattle.tabletop.specs.Endings.{status_of, last_line, HasOwnLine}
 use Rattle.tabletop.specs.Counts.{count_line}
 use Rattle.command_words.specs.Words.{Asked, Play, Check, Drill, Serve}
@@ -78,6 +78,8 @@ ScriptEnds ScriptFailed WriteFault text script left out after = PlaysOn played.W
 ScriptEnds ScriptFailed Memory text script left out after = (after ≡ out) ⊎ PlaysOn played.Memory (world_of_text text) script left out after
 ScriptEnds ScriptFailed (BadLine number) text script left out after = PlaysOn (played.BadLine number) (world_of_text text) script left out after
 ScriptEnds ScriptFailed TooLarge text script left out after = PlaysOn played.TooLarge (world_of_text text) script left out after
+ScriptEnds ScriptFailed DoorFault text script left out after = ⊥
+
 
 -- a line was to be printed; after a write fault a front of it was
 abbrev pub PrintsLine : Ended → List ℕ → (out after : Option (List ℕ)) → Type 0
@@ -131,6 +133,7 @@ NotFetched DeskFailed WriteFault campaign = ⊥
 NotFetched DeskFailed Memory campaign = Unit {0}
 NotFetched DeskFailed (BadLine number) campaign = ⊥
 NotFetched DeskFailed TooLarge campaign = IfSome campaign (λ told. campaign_limit < length told)
+NotFetched DeskFailed DoorFault campaign = ⊥
 
 -- a job on the campaign of a file
 abbrev pub FileEnds : (DeskFailed : Type 0) → (Ends : List ℕ → Type 0) → Ended → (campaign out after : Option (List ℕ)) → Type 0

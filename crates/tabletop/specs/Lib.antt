@@ -2,3 +2,4 @@ pub mod Jobs
 pub mod Counts
 pub mod Endings
 pub mod Ends
+pub mod ServeEnds

@@ -23,6 +23,8 @@ pub enum Ended {
     BadLine(u64),
     /// The campaign or the script is too large.
     TooLarge,
+    /// The door failed, and counted it.
+    DoorFault,
 }
 
 /// The program's status.
@@ -38,6 +40,7 @@ pub(crate) fn status_of(ended: &Ended) -> u8
         Ended::Memory => 6,
         Ended::BadLine(_) => 7,
         Ended::TooLarge => 8,
+        Ended::DoorFault => 9,
     }
 }
 
@@ -52,6 +55,7 @@ pub(crate) fn fixed_line(ended: &Ended) -> &'static str
         Ended::ReadFault => "tabletop: read fault\n",
         Ended::Memory => "tabletop: out of memory\n",
         Ended::TooLarge => "tabletop: too large\n",
+        Ended::DoorFault => "tabletop: door fault\n",
         Ended::Done | Ended::WriteFault | Ended::BadCampaign(_) | Ended::BadLine(_) => "",
     }
 }

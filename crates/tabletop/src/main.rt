@@ -1,6 +1,8 @@
 //! A campaign server for a virtual tabletop that keeps secrets by proof: the program.
 #![tactic(auto)]
 
+ghost use Rattle.std.specs.Prelude.{◌≡◌, IfOk};
+
 mod checking;
 mod endings;
 mod files;
@@ -9,15 +11,19 @@ mod last_line;
 mod look_tests;
 mod playing;
 mod printing;
+mod serve;
 #[cfg(test)]
 mod tests;
 mod top;
 
 pub use endings::Ended;
-use line_io::{FileDesk, ReaderSource, WriterSink};
+use line_io::{CallSpawner, Failed, FileDesk, ReaderSource, TcpDoor, WriterSink};
 use names::Memory;
 pub use script_play::play;
+pub use serve::tabletop_serve;
+use serving::{Sitting, SittingThread, start_sitting};
 use std::env::Env;
+use std::net::TcpStream;
 use std::process::ExitCode;
 use std::{env, io};
 pub use top::tabletop;
@@ -35,12 +41,45 @@ fn words_of(rt: &(impl Env + AllocGlobal)) -> Result<Vec<String>, Memory> {
     }
 }
 
+// Whether the first word asks for connections to be served.
+fn asks_to_serve(words: &[String]) -> bool {
+    match words {
+        [first, ..] => first.as_str() == "serve",
+        [] => false,
+    }
+}
+
+// A session over TCP, and a thread that serves one.
+type TcpSitting<R> = Sitting<R, ReaderSource<TcpStream>, WriterSink<TcpStream>>;
+
+type TcpThread<R> = SittingThread<R, ReaderSource<TcpStream>, WriterSink<TcpStream>>;
+
 fn main(rt: HostRuntime) -> ExitCode {
     let mut desk = FileDesk::new(&rt, rt.alloc());
-    let mut script = ReaderSource::new(rt.stdin());
     let mut out = WriterSink::new(rt.stdout());
     let status = match words_of(&rt) {
-        Ok(words) => tabletop(rt.alloc(), &words, &mut desk, &mut script, &mut out),
+        Ok(words) if asks_to_serve(&words) => {
+            let mut door = TcpDoor::new(&rt);
+            let mut threads = CallSpawner::new(
+                |sitting: TcpSitting<HostRuntime>| -> Result<TcpThread<HostRuntime>, Failed>
+                    ensures { IfOk result (λ task. task.promise.0.value ≡ sitting) }
+                { start_sitting(&rt, sitting) },
+                &rt,
+            );
+            tabletop_serve(
+                &rt,
+                rt.alloc(),
+                &words,
+                &mut desk,
+                &mut out,
+                &mut door,
+                &mut threads,
+            )
+        }
+        Ok(words) => {
+            let mut script = ReaderSource::new(rt.stdin());
+            tabletop(rt.alloc(), &words, &mut desk, &mut script, &mut out)
+        }
         Err(_) => top::out_of_memory(rt.alloc(), &mut out),
     };
     ExitCode::from(status)

@@ -7,6 +7,7 @@ mod evening;
 mod macros;
 mod plays;
 mod refusals;
+mod serves;
 mod stops;
 
 use crate::tabletop;

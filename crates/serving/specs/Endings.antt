@@ -1,0 +1,31 @@
+-- The campaign's text at the end.
+use Rattle.std.specs.Prelude.{◌≡◌, ℕ, Bool, true, false, List, [], ◌∷◌, ◌++◌, Option}
+use mathlib.Core.List.{IsPrefix}
+use Rattle.campaign_law.specs.declared.entry.Entry.{Entry}
+use Rattle.campaign_law.specs.World.{World, replay}
+use Rattle.campaign_law.specs.Worlds.{opened_of}
+use Rattle.campaign_writing.specs.Canonical.{canonical}
+use Rattle.serving.specs.declared.serving_hall.Served.{Served}
+use Rattle.serving.specs.declared.serving_hall.Served.TheVariants as answers
+use Rattle.serving.specs.Fates.{IsPrinted}
+
+-- the line was printed, or after a fault a front of it
+abbrev pub PrintsText : Served → List ℕ → Option (List ℕ) → Option (List ℕ) → Type 0
+PrintsText answers.Done text before after = IsPrinted true (text ++ 10 ∷ []) before after
+PrintsText answers.WriteFault text before after = IsPrinted false (text ++ 10 ∷ []) before after
+PrintsText answers.DoorFault text before after = ⊥
+PrintsText answers.Memory text before after = after ≡ before
+
+-- the canonical text of the campaign was printed, as it is behind a history that begins with this one
+pub record PrintsEnd (served : Served) (origin : World) (G : List Entry) (before after : Option (List ℕ)) : Type 0 where
+  pub last : List Entry
+  pub longer : IsPrefix G last
+  pub printed : PrintsText served (canonical (opened_of (replay origin last))) before after
+
+-- Serving the hall ended so, and the run then so: with `end`, and where all was done, the campaign's text was printed
+abbrev pub EndsWith : Bool → Served → Served → World → List Entry → Option (List ℕ) → Option (List ℕ) → Type 0
+EndsWith true answers.Done served origin G before after = PrintsEnd served origin G before after
+EndsWith true answers.WriteFault served origin G before after = (served ≡ answers.WriteFault) × (after ≡ before)
+EndsWith true answers.DoorFault served origin G before after = (served ≡ answers.DoorFault) × (after ≡ before)
+EndsWith true answers.Memory served origin G before after = (served ≡ answers.Memory) × (after ≡ before)
+EndsWith false told served origin G before after = (served ≡ told) × (after ≡ before)

@@ -1,0 +1,98 @@
+-- The number of connections that words ask for is in its range.
+use Rattle.std.proofs.Common.{◌≡◌, ◌≤◌, ℕ, Bool, true, false, List, [], ◌∷◌, Some, None, refl, sym, subst, ap, ◌∙◌}
+use Rattle.std.specs.Prelude.{Option, ◌&&◌, nat_le, if◌then◌else◌, codes, option_and_then}
+use Rattle.std.proofs.lemmas.Bool.{leb-true}
+use Rattle.std.specs.Str.{bytes_eq}
+use Rattle.std.specs.Str.Parse.{digits_value}
+use Rattle.command_words.specs.Words.{Text, Asked, Play, Check, Drill, Serve, is_file, is_whole, is_in, is_end, play, check, drill, serve, play_words, check_words, drill_words, serve_words, job_of}
+use Rattle.tabletop.specs.ServeEnds.{Service, served_here, service_in}
+
+-- so many may be served, where any are asked for
+abbrev IsServable : Option Asked → Type 0
+IsServable None = Unit {0}
+IsServable (Some (Play file end)) = Unit {0}
+IsServable (Some (Check file)) = Unit {0}
+IsServable (Some (Drill number lines)) = Unit {0}
+IsServable (Some (Serve file port count end)) = (1 ≤ count) × (count ≤ 1024)
+
+by_if : (b : Bool) (x y : Option Asked) → (b ≡ true → IsServable x) → IsServable y → IsServable (if b then x else y)
+by_if true x y first second = first refl
+by_if false x y first second = second
+
+last_of : (a b : Bool) → a && b ≡ true → b ≡ true
+last_of true b both = both
+last_of false b both = absurd cc
+
+first_of : (a b : Bool) → a && b ≡ true → a ≡ true
+first_of true b both = refl
+first_of false b both = absurd cc
+
+count_in : (text : Text) → is_in 1 1024 text ≡ true → (1 ≤ digits_value 10 text) × (digits_value 10 text ≤ 1024)
+count_in text is =
+    let both = last_of (is_whole text) (nat_le 1 (digits_value 10 text) && nat_le (digits_value 10 text) 1024) is in
+    (leb-true 1 (digits_value 10 text) (first_of (nat_le 1 (digits_value 10 text)) (nat_le (digits_value 10 text) 1024) both), leb-true (digits_value 10 text) 1024 (last_of (nat_le 1 (digits_value 10 text)) (nat_le (digits_value 10 text) 1024) both))
+
+serve_servable : (file port count : Text) (end : Bool) → IsServable (serve file port count end)
+serve_servable file port count end =
+    by_if (is_file file && (is_in 1 65535 port && is_in 1 1024 count)) (Some (Serve file (digits_value 10 port) (digits_value 10 count) end)) None
+    (λ is. count_in count (last_of (is_in 1 65535 port) (is_in 1 1024 count) (last_of (is_file file) (is_in 1 65535 port && is_in 1 1024 count) is))) tt
+
+play_servable : (file : Text) (end : Bool) → IsServable (play file end)
+play_servable file end = by_if (is_file file) (Some (Play file end)) None (λ is. tt) tt
+
+check_servable : (file : Text) → IsServable (check file)
+check_servable file = by_if (is_file file) (Some (Check file)) None (λ is. tt) tt
+
+drill_servable : (n lines : Text) → IsServable (drill n lines)
+drill_servable n lines = by_if (is_in 0 4294967295 n && is_in 5 10000 lines) (Some (Drill (digits_value 10 n) (digits_value 10 lines))) None (λ is. tt) tt
+
+plays_servable : (words : List Text) → IsServable (play_words words)
+plays_servable [] = tt
+plays_servable (a ∷ []) = play_servable a false
+plays_servable (a ∷ b ∷ []) = by_if (is_end a) (play b true) (if is_end b then play a true else None) (λ is. play_servable b true) (by_if (is_end b) (play a true) None (λ is. play_servable a true) tt)
+plays_servable (a ∷ b ∷ c ∷ words) = tt
+
+checks_servable : (words : List Text) → IsServable (check_words words)
+checks_servable [] = tt
+checks_servable (a ∷ []) = check_servable a
+checks_servable (a ∷ b ∷ words) = tt
+
+drills_servable : (words : List Text) → IsServable (drill_words words)
+drills_servable [] = tt
+drills_servable (a ∷ []) = tt
+drills_servable (a ∷ b ∷ []) = drill_servable a b
+drills_servable (a ∷ b ∷ c ∷ words) = tt
+
+serves_servable : (words : List Text) → IsServable (serve_words words)
+serves_servable [] = tt
+serves_servable (a ∷ []) = tt
+serves_servable (a ∷ b ∷ []) = tt
+serves_servable (a ∷ b ∷ c ∷ []) = serve_servable a b c false
+serves_servable (a ∷ b ∷ c ∷ d ∷ []) =
+    by_if (is_end a) (serve b c d true) (if is_end b then serve a c d true else (if is_end c then serve a b d true else (if is_end d then serve a b c true else None))) (λ is. serve_servable b c d true)
+    (by_if (is_end b) (serve a c d true) (if is_end c then serve a b d true else (if is_end d then serve a b c true else None)) (λ is. serve_servable a c d true)
+    (by_if (is_end c) (serve a b d true) (if is_end d then serve a b c true else None) (λ is. serve_servable a b d true)
+    (by_if (is_end d) (serve a b c true) None (λ is. serve_servable a b c true) tt)))
+serves_servable (a ∷ b ∷ c ∷ d ∷ e ∷ words) = tt
+
+all_servable : (words : List Text) → IsServable (job_of words)
+all_servable [] = tt
+all_servable (command ∷ words) =
+    by_if (bytes_eq command (codes "play")) (play_words words) (if bytes_eq command (codes "check") then check_words words else (if bytes_eq command (codes "drill") then drill_words words else (if bytes_eq command (codes "serve") then serve_words words else None)))
+    (λ is. plays_servable words)
+    (by_if (bytes_eq command (codes "check")) (check_words words) (if bytes_eq command (codes "drill") then drill_words words else (if bytes_eq command (codes "serve") then serve_words words else None))
+    (λ is. checks_servable words)
+    (by_if (bytes_eq command (codes "drill")) (drill_words words) (if bytes_eq command (codes "serve") then serve_words words else None)
+    (λ is. drills_servable words)
+    (by_if (bytes_eq command (codes "serve")) (serve_words words) None (λ is. serves_servable words) tt)))
+
+-- so many are from 1 to 1,024
+pub count_is : (words : List Text) (file : Text) (port count : ℕ) (end : Bool) → job_of words ≡ Some (Serve file port count end) → (1 ≤ count) × (count ≤ 1024)
+count_is words file port count end is = subst IsServable is (all_servable words)
+
+-- what the words ask to be served, by their job
+pub service_of : (words : List Text) (asked : Asked) (service : Option Service) → job_of words ≡ Some asked → served_here asked ≡ service → service_in words ≡ service
+service_of words asked service is here = ap (option_and_then served_here) is ∙ here
+
+pub no_service : (words : List Text) → job_of words ≡ None → service_in words ≡ None
+no_service words is = ap (option_and_then served_here) is
