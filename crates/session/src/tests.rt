@@ -5,6 +5,7 @@ ghost use Rattle.campaign_law.specs.Law.{IsOpening};
 
 mod guests;
 mod side_by_side;
+mod waiting;
 
 use crate::Table;
 use campaign_core::Campaign;

@@ -80,7 +80,6 @@ ScriptEnds ScriptFailed (BadLine number) text script left out after = PlaysOn (p
 ScriptEnds ScriptFailed TooLarge text script left out after = PlaysOn played.TooLarge (world_of_text text) script left out after
 ScriptEnds ScriptFailed DoorFault text script left out after = ⊥
 
-
 -- a line was to be printed; after a write fault a front of it was
 abbrev pub PrintsLine : Ended → List ℕ → (out after : Option (List ℕ)) → Type 0
 PrintsLine Done line out after = after ≡ append_known out line
