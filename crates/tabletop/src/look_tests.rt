@@ -8,28 +8,28 @@ use std::process::Abort;
 use std::test::Fail;
 
 // The game master and one player, whose token stands in a cave that a wall cuts in two.
-const CAVE: &[u8] =
+pub(crate) const CAVE: &[u8] =
     br#"{"format":1,"lights":{},"maps":[{"h":3,"mbl":[],"mode":"day","name":"cave","rows":["...","...","..."],"shown":true,"vbl":[[2,0,2,4]],"w":3}],"seats":[{"drawn":0,"fog":{},"key":"g","macros":{},"seed":"0000000000000000000000000000000000000000000000000000000000000000","tags":[]},{"drawn":0,"fog":{},"key":"a","macros":{},"seed":"0000000000000000000000000000000000000000000000000000000000000000","tags":["ann"]}],"sights":{"human":[10,0,2]},"tokens":[{"cell":[0,0],"id":"1:ann","layer":"token","light":null,"map":"cave","name":"Ann","own":[],"owners":[1],"props":[],"secret":[],"sight":"human","size":1,"visible":true}]}"#;
 
-fn seat(number: u8) -> Result<SeatNo, Fail> {
+pub(crate) fn seat(number: u8) -> Result<SeatNo, Fail> {
     Ok(SeatNo::new(number).ok_or("a seat")?)
 }
 
-fn opened(alloc: Global) -> Result<Campaign<SweepEye>, Fail> {
-    match Campaign::open(alloc, CAVE, SweepEye::new(alloc)) {
+pub(crate) fn opened(alloc: Global, text: &[u8]) -> Result<Campaign<SweepEye>, Fail> {
+    match Campaign::open(alloc, text, SweepEye::new(alloc)) {
         Ok(campaign) => Ok(campaign),
         Err(_) => Err(Fail::from("no campaign")),
     }
 }
 
-fn step(campaign: &mut Campaign<SweepEye>, entry: Entry) -> Result<Answer, Fail> {
+pub(crate) fn step(campaign: &mut Campaign<SweepEye>, entry: Entry) -> Result<Answer, Fail> {
     match campaign.step(entry) {
         Ok(answer) => Ok(answer),
         Err(_) => Err(Fail::from("want of memory")),
     }
 }
 
-fn join(
+pub(crate) fn join(
     alloc: Global,
     campaign: &mut Campaign<SweepEye>,
     number: u8,
@@ -125,7 +125,7 @@ fn ask(
 
 // Both seats have joined.
 fn joined(rt: &impl Abort, alloc: Global) -> Result<Campaign<SweepEye>, Fail> {
-    let mut campaign = opened(alloc)?;
+    let mut campaign = opened(alloc, CAVE)?;
     assert_eq!(rt; campaign.looks(), 1);
     join(alloc, &mut campaign, 0, b"g")?;
     join(alloc, &mut campaign, 1, b"a")?;

@@ -1,6 +1,8 @@
 //! A campaign server for a virtual tabletop that keeps secrets by proof: the program.
 #![tactic(auto)]
 
+#[cfg(test)]
+mod dump_tests;
 mod endings;
 #[cfg(test)]
 mod look_tests;
