@@ -4,7 +4,7 @@ ghost use Rattle.campaign_file.specs.Campaign.{IsOpening as IsOpeningList};
 ghost use Rattle.mails.specs.Texts.{text_of};
 ghost use Rattle.campaign_law.specs.Worlds.{opening_world};
 ghost use Rattle.campaign_law.specs.Written.{IsWritten};
-ghost use Rattle.campaign_core.specs.Opening.{world_of_text, IsOpenFault, IsBadForm};
+ghost use Rattle.campaign_core.specs.Opening.{world_of_text, IsOpenFault};
 ghost use Rattle.std.specs.Option.{option_copied};
 ghost use Rattle.command_looks.specs.Fields.{field_for};
 ghost use Rattle.command_looks.specs.Touched.{looks_of, looks_of_opening};
@@ -16,13 +16,13 @@ ghost use Rattle.campaign_law.specs.Law.{IsOpening, IsSentAsMachine, ChangesLitt
 use crate::next::{Prepared, act, leave, made_by};
 use crate::state::{Post, State};
 use crate::tables::open_tables;
-use campaign_file::{BadCampaign, FileFault, Rule, read_campaign};
+use campaign_file::{BadCampaign, FileFault, read_campaign};
 use campaign_law::{Answer, Entry};
 use cells::CellSet;
 use command_effects::settle;
 use command_looks::{Touched, fields_after, serve};
 use mails::Mail;
-use names::{LineText, Memory, SeatNo, Text, TokenId};
+use names::{LineText, Memory, SeatNo, TokenId};
 use seats::SeatState;
 use std::alloc::Global;
 use std::marker::Model;
@@ -120,21 +120,9 @@ pub enum OpenFault {
     Memory,
 }
 
-fn bad_form(alloc: Global) -> OpenFault
-    ensures { IsBadForm result }
-{
-    match Text::copy(alloc, "") {
-        Ok(path) => OpenFault::Bad(BadCampaign {
-            path,
-            rule: Rule::Form,
-        }),
-        Err(_) => OpenFault::Memory,
-    }
-}
-
 impl<E: Eye + Drop> Campaign<E> {
     /// The campaign of a text: its world, and no entry. `Bad` exactly where the text is off the format
-    /// (`docs/CAMPAIGN.md`), with an empty path and the rule `Form` until the whole format is read.
+    /// (`docs/CAMPAIGN.md`), with the path and the rule of its first breach.
     pub fn open(alloc: Global, text: &[u8], eye: E) -> Result<Campaign<E>, OpenFault>
         ensures world { IfOk result (λ c. world_of_text text.now ≡ Some c.origin) }
         ensures opening { IfOk result (λ c. IsOpening c.origin) }
@@ -142,14 +130,14 @@ impl<E: Eye + Drop> Campaign<E> {
         ensures staged { IfOk result (λ c. c.staged ≡ None) }
         ensures seats { IfOk result (λ c. (1 ≤ length c.origin.seats) × (length c.origin.seats ≤ 33)) }
         ensures looks { IfOk result (λ c. c.looks ≤ E.looks_made eye + looks_of_opening c.origin.scene) }
-        ensures bad { IfErr result (IsOpenFault (world_of_text text.now)) }
+        ensures bad { IfErr result (IsOpenFault text.now) }
     {
         match read_campaign(alloc, text) {
             Ok(world) => match Campaign::of_world(alloc, world, eye) {
                 Ok(campaign) => Ok(campaign),
                 Err(_) => Err(OpenFault::Memory),
             },
-            Err(FileFault::Bad(_)) => Err(bad_form(alloc)),
+            Err(FileFault::Bad(breach)) => Err(OpenFault::Bad(breach)),
             Err(FileFault::Memory) => Err(OpenFault::Memory),
         }
     }

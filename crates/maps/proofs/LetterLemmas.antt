@@ -1,7 +1,9 @@
 -- The letters of a map after a rectangle of them is set.
-use Rattle.std.proofs.Common.{◌≡◌, ◌≢◌, ℕ, ◌+◌, ◌*◌, ◌/◌, ◌%◌, ◌<◌, ◌≤◌, Bool, true, false, cond, List, ◌++◌, length, get_or, set, take, drop, append-nil, ap, sym, ◌∙◌, arith, inl, inr, get_or-set_other, get_or-set_same}
+use Rattle.std.proofs.Common.{◌≡◌, ◌≢◌, ℕ, ◌+◌, ◌*◌, ◌/◌, ◌%◌, ◌<◌, ◌≤◌, Bool, true, false, cond, List, ◌++◌, length, get_or, set, take, drop, append-nil, ap, sym, ◌∙◌, arith, inl, inr, get_or-set_other, get_or-set_same, min}
 use Rattle.std.specs.Prelude.{All, IsTrue}
-use Rattle.std.proofs.lemmas.Bool.{cases_eq}
+use Rattle.std.proofs.lemmas.Bool.{cases_eq, cases_lt, cond-false}
+use Rattle.std.proofs.lemmas.Bool.Decides.{nat_tests}
+use Rattle.std.proofs.Math.Nat.{le-div_iff_mul-le}
 use Rattle.std.proofs.lemmas.List.{drop_all, get_or_default, same_lists, take_all}
 use Rattle.std.proofs.lemmas.List.Elements.{All-from_get_or, All-get_or}
 use Rattle.std.proofs.lemmas.List.FromFn.{get_or-map-range_with_len, length-map-range_with_len}
@@ -69,13 +71,32 @@ pub length-with_rect : (size : Extent) (rect : Rect) (letter : ℕ) (old : List 
 length-with_rect size rect letter old =
     length-map-range_with_len (λ k. cond (is_in_at size rect k) letter (letter_of size old (k % size.w) (k / size.w))) 0 (size.h * size.w)
 
-pub all_set : (size : Extent) (rect : Rect) (letter : ℕ) (old now : List ℕ) (place : ℕ) → length now ≡ size.h * size.w → length now ≤ place
-    → AreSetBefore size rect letter old now place → now ≡ with_rect size rect letter old
-all_set size rect letter old now place count end are =
+all_set : (size : Extent) (rect : Rect) (letter : ℕ) (old now : List ℕ) → length now ≡ size.h * size.w
+    → ((k : ℕ) → k < length now → get_or now k 0 ≡ cond (is_in_at size rect k) letter (get_or old k 0)) → now ≡ with_rect size rect letter old
+all_set size rect letter old now count are =
     same_lists now (with_rect size rect letter old) (count ∙ sym (length-with_rect size rect letter old))
     (λ k d h.
-    get_or_default now k d 0 h ∙ are.before k (omega arith) ∙ sym (with_rect_at size rect letter old k (omega arith))
+    get_or_default now k d 0 h ∙ are k h ∙ sym (with_rect_at size rect letter old k (omega arith))
     ∙ get_or_default (with_rect size rect letter old) k 0 d (omega (arith, length-with_rect size rect letter old)))
+
+-- ---- the rows of the rectangle alone
+
+-- no cell of a row below is in the rectangle
+below_is_out : (rect : Rect) (x y : ℕ) → rect.y + rect.h ≤ y → is_in rect x y ≡ false
+below_is_out rect x y h = grind (arith, nat_tests)
+
+-- behind the rectangle's last row nothing is to be set
+pub ends_at_rows : (size : Extent) (rect : Rect) (letter : ℕ) (old now : List ℕ) (place end : ℕ) → 0 < size.w → length now ≡ size.h * size.w
+    → end ≡ min (length now) ((rect.y + rect.h) * size.w) → end ≤ place
+    → AreSetBefore size rect letter old now place → now ≡ with_rect size rect letter old
+ends_at_rows size rect letter old now place end wide count is far are =
+    all_set size rect letter old now count
+    (λ k h. elim (cases_lt k place) [
+      | inl before ↦ are.before k before
+      | inr past ↦
+          are.after k past
+          ∙ sym (cond-false (is_in_at size rect k) letter (get_or old k 0) (below_is_out rect (k % size.w) (k / size.w) ((le-div_iff_mul-le wide).1 (omega arith))))
+    ])
 
 -- ---- letters stay letters
 

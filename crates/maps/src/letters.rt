@@ -28,15 +28,17 @@ fn copies_of_blank(alloc: Global, count: usize) -> Result<Vec<u8>, AllocError>
     Ok(vec![in alloc; BLANK; count]?)
 }
 
-/// Gives each cell of the rectangle the letter.
+/// Gives each cell of the rectangle the letter. Only the rectangle's rows are gone through.
 pub(crate) fn set_letters(letters: &mut [u8], size: Size, rect: Rect, letter: u8)
     requires { length letters.old ≡ size.h * size.w }
     ensures { letters.new ≡ with_rect size rect letter letters.old }
 {
     let width = usize::from(size.w());
-    for (place, slot) in letters.iter_mut().enumerate() {
+    let top = usize::from(rect.y);
+    let end = letters.len().min((top + usize::from(rect.h)) * width);
+    for place in top * width..end {
         if is_in(rect, place % width, place / width) {
-            *slot = letter;
+            letters[place] = letter;
         }
     }
 }

@@ -5,6 +5,7 @@ pub mod WritingEnds
 pub mod Byes
 pub mod ReadingTurns
 pub mod GoneSessions
+pub mod MachineLines
 pub mod ServedSessions
 pub mod Joinings
 pub mod SatSessions

@@ -36,6 +36,7 @@ use Rattle.session.specs.Spoken.{is_spent}
 use Rattle.session.specs.Written.{IsTakenOf, IsWriters, IsFirst, IsPart, WroteBy, HasWritten}
 use Rattle.session.specs.Served.{is_of_session, IsUndisturbed, IsSessions, IsFront, IsCause, IsServed}
 use Rattle.session.proofs.Alone.{joined_in_front, stands_longer, over_when_gone}
+use Rattle.session.proofs.MachineLines.{printed_by_machine}
 use Rattle.session.proofs.ReadingTurns.{lines_at-longer}
 use Rattle.session.proofs.WritingTurns.{bytes_of-append, bytes_of-parts, lines_longer}
 
@@ -224,6 +225,7 @@ served w h hold p q s t read gone wrote ended text reader left before after open
           let done = subst (λ x. WroteBy x (lines_of w t.front hold) written.count written.text) all.0 by in
           let still : lines_of w h hold ≡ lines_of w t.front hold = subst (λ l. lines_of w l hold ≡ lines_of w t.front hold) writes.1 (session_stays w t.front writes.0 hold.place hold.seat (let l = written.long in omega arith) over_there) in
           done.1 ∙ ap bytes_of (sym still);
+      player = λ player. printed_by_machine w h hold opening player;
       all_read = λ quiet so.
           let all = whole_of read wrote (ap is_whole (sym end) ∙ so) in
           subst (λ l. WhereTold text (bytes_to_come reader left) (Came l)) (sym same) (heard.all (never_gone w h hold p q s t read gone wrote text (bytes_to_come reader left) before after joined begun heard written all.0 long reads writes quiet) all.1);

@@ -1,4 +1,5 @@
 pub mod Held
+pub mod Among
 pub mod Exchanged
 pub mod Own
 pub mod Inputs

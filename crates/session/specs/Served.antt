@@ -10,6 +10,7 @@ use Rattle.campaign_law.specs.declared.entry.Entry.{Entry}
 use Rattle.campaign_law.specs.declared.entry.Entry.TheVariants.{Join, Line, Leave, Taken}
 use Rattle.campaign_law.specs.World.{World}
 use Rattle.campaign_law.specs.Law.{bytes_of}
+use Rattle.campaign_law.specs.Player.{opening, trace, machine}
 use Rattle.campaign_law.specs.Session.{NoneRejoins}
 use Rattle.session.specs.declared.hold.Hold.{Hold}
 use Rattle.session.specs.declared.sitting.Ended.{Ended}
@@ -21,6 +22,7 @@ use Rattle.session.specs.Own.{StandsAt}
 use Rattle.session.specs.Heard.{lines_at, Came, AreFirst, IsByeAt, IsSpentAt, IsUnspent}
 use Rattle.session.specs.Written.{HasLines}
 use Rattle.session.specs.Ends.{is_whole}
+use Rattle.session.specs.Among.{AreAmong}
 
 -- a Line, a Leave or a Taken of the seat
 abbrev pub is_of_session : ℕ → Entry → Bool
@@ -68,6 +70,8 @@ pub record IsServed (w : World) (h : List Entry) (hold : Hold) (readers writers 
   pub over : is_over w h hold ≡ true
   pub written : IsUndisturbed w h (readers ++ writers) hold → IsFront (lines_of w h hold) count output
   pub whole : IsUndisturbed w h (readers ++ writers) hold → is_whole ended ≡ true → output ≡ bytes_of (lines_of w h hold)
+  -- a player's session has none but lines that the player machine prints, which holds no world
+  pub player : 1 ≤ hold.seat → AreAmong (lines_of w h hold) (machine (opening w hold.seat) (trace w h hold.seat))
   -- and all that came
   pub all_read : IsUndisturbed w h (readers ++ writers) hold → is_whole ended ≡ true → WhereTold text (bytes_to_come reader left) (Came (lines_at h readers))
   pub cause : IsCause ended w h hold readers reader left

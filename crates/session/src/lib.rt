@@ -25,3 +25,6 @@ pub use sitting::Ended;
 
 /// The campaign that sessions share.
 pub type Table = Campaign<SweepEye>;
+
+#[cfg(test)]
+mod tests;

@@ -1,17 +1,23 @@
 -- How a run ends, from what its parts did.
 use Rattle.std.proofs.Common.{◌≡◌, ℕ, ◌≤◌, true, false, List, [], ◌∷◌, ◌++◌, length, Some, None, refl, sym, ◌∙◌, ap, subst, arith, ◌⊎◌, inl, inr}
-use Rattle.std.specs.Prelude.{Option, option_and_then, unwrap_or, IsSome, IfSome, Result, Ok, Err, OnOk, OnErr}
+use Rattle.std.specs.Prelude.{Option, unwrap_or, IfSome, Bool, Result, Ok, Err, OnOk, OnErr}
 use Rattle.std.specs.List.{AllByRecursion}
 use Rattle.std.specs.Io.KnownBytes.{append_known}
 use Rattle.line_io.specs.Counts.{CountRose}
 use Rattle.line_io.specs.Told.{WhereTold}
 use Rattle.line_io.specs.declared.faults.Failed.{Failed}
+use Rattle.line_io.specs.declared.desks.DeskFault.{DeskFault}
+use Rattle.line_io.specs.declared.desks.DeskFault.TheVariants as desk
 use Rattle.campaign_law.specs.declared.entry.Entry.{Entry}
 use Rattle.campaign_law.specs.Seat.{Seat, IsFreshSeat}
 use Rattle.campaign_law.specs.World.{World, replay, sent}
 use Rattle.campaign_law.specs.Player.{opening, trace, machine}
 use Rattle.campaign_law.specs.Law.{Course, IsOpening, IsSentAsMachine, world_of}
-use Rattle.campaign_core.specs.Opening.{world_of_text}
+use Rattle.world.specs.World.{World as Opened}
+use Rattle.campaign_json.specs.declared.faults.BadCampaign.{BadCampaign as Breach}
+use Rattle.campaign_file.specs.Campaign.{campaign_of}
+use Rattle.campaign_core.specs.Opening.{world_of, world_of_text}
+use Rattle.command_words.specs.Words.{Asked, Play, Check, Drill, Serve}
 use Rattle.script_play.specs.declared.run.Played.{Played}
 use Rattle.script_play.specs.declared.run.Played.TheVariants as played
 use Rattle.script_play.specs.Script.{Script, Ending, done, bad_line, too_large, script_of, NothingWaits}
@@ -23,8 +29,8 @@ use Rattle.script_play.proofs.Reading.{told_weaker}
 use Rattle.script_play.proofs.Behind.{sent_behind}
 use Rattle.tabletop.specs.declared.endings.Ended.{Ended}
 use Rattle.tabletop.specs.declared.endings.Ended.TheVariants.{Done, Usage, BadCampaign, ReadFault, WriteFault, Memory, BadLine, TooLarge}
-use Rattle.tabletop.specs.Endings.{status_of, last_line, IsFixedLine}
-use Rattle.tabletop.specs.Ends.{PlaysOn, WorldEnds, NotFetched, JobEnds, HasEnded, IsToldAs, ended_by, campaign_limit}
+use Rattle.tabletop.specs.Endings.{status_of, last_line, HasOwnLine}
+use Rattle.tabletop.specs.Ends.{PlaysOn, PlayEnds, CheckEnds, NotFetched, FileEnds, JobEnds, HasEnded, IsToldAs, ended_by, unfetched, campaign_limit}
 
 -- ---- a campaign that opens
 
@@ -66,15 +72,33 @@ plays_on answer c new world script left out after is opens none g entered read w
       };
     }
 
-pub ends_by : (S : Type 0) (answer : Played) (world : Option World) (script left out after : Option (List ℕ)) → (answer ≡ played.ReadFault → S) → PlaysOn answer world script left out after → WorldEnds S (ended_by answer) world script left out after
-ends_by S played.Done world script left out after fault p = p
-ends_by S played.ReadFault world script left out after fault p = (fault refl, p)
-ends_by S played.WriteFault world script left out after fault p = p
-ends_by S (played.BadLine number) world script left out after fault p = p
-ends_by S played.TooLarge world script left out after fault p = p
-ends_by S played.Memory world script left out after fault p = inr p
+pub ends_by : (S : Type 0) (answer : Played) (text : List ℕ) (script left out after : Option (List ℕ)) → (answer ≡ played.ReadFault → S) → PlaysOn answer (world_of_text text) script left out after → PlayEnds S (ended_by answer) text script left out after
+ends_by S played.Done text script left out after fault p = p
+ends_by S played.ReadFault text script left out after fault p = (fault refl, p)
+ends_by S played.WriteFault text script left out after fault p = p
+ends_by S (played.BadLine number) text script left out after fault p = p
+ends_by S played.TooLarge text script left out after fault p = p
+ends_by S played.Memory text script left out after fault p = inr p
 
--- ---- want of memory for a bad line's number
+-- ---- a file that wasn't fetched
+
+pub unfetched_ends : (D : Type 0) (Ends : List ℕ → Type 0) (fault : DeskFault) (campaign out after : Option (List ℕ)) → (fault ≡ desk.Failed → D) → (fault ≡ desk.TooLarge → IfSome campaign (λ told. campaign_limit < length told)) → after ≡ out
+    → FileEnds D Ends (unfetched fault) campaign out after
+unfetched_ends D Ends desk.Failed campaign out after failed large same = inl (failed refl, same)
+unfetched_ends D Ends desk.TooLarge campaign out after failed large same = inl (large refl, same)
+unfetched_ends D Ends desk.Memory campaign out after failed large same = inl (tt, same)
+
+pub unfetched_fault : (fault : DeskFault) → unfetched fault ≡ ReadFault → fault ≡ desk.Failed
+unfetched_fault desk.Failed e = refl
+unfetched_fault desk.TooLarge e = cc
+unfetched_fault desk.Memory e = cc
+
+pub unfetched_wrote : (fault : DeskFault) → unfetched fault ≡ WriteFault → ⊥
+unfetched_wrote desk.Failed e = cc
+unfetched_wrote desk.TooLarge e = cc
+unfetched_wrote desk.Memory e = cc
+
+-- ---- want of memory for a line of its own
 
 prefix_of_bad : (script : Script) (es : List Entry) (number : ℕ) → script ≡ record { entries = es; ending = bad_line number } → IsPrefix es script.entries
 prefix_of_bad script es number h = subst (λ xs. IsPrefix es xs) (sym (ap (λ (s : Script). s.entries) h)) (prefix_all es)
@@ -99,32 +123,48 @@ plays_less number world script left out after p =
       };
     }
 
-told_less : (D S : Type 0) (number : ℕ) (file campaign script left out after : Option (List ℕ)) → JobEnds D S (BadLine number) file campaign script left out after → JobEnds D S Memory file campaign script left out after
-told_less D S number file campaign script left out after (inl none) = let z : BadLine number ≡ Usage = none.1 in cc
-told_less D S number file campaign script left out after (inr (some, inl none)) = absurd none.0
-told_less D S number file campaign script left out after (inr (some, inr f)) = inr (some, inr (record { text = f.text; told = f.told; small = f.small; ends = inr (plays_less number (world_of_text f.text) script left out after f.ends) }))
+play_less : (S : Type 0) (ended : Ended) (text : List ℕ) (script left out after : Option (List ℕ)) → HasOwnLine ended → PlayEnds S ended text script left out after → PlayEnds S Memory text script left out after
+play_less S (BadCampaign breach) text script left out after own p = inl p.1
+play_less S (BadLine number) text script left out after own p = inr (plays_less number (world_of_text text) script left out after p)
+play_less S Done text script left out after own p = absurd own
+play_less S Usage text script left out after own p = absurd own
+play_less S ReadFault text script left out after own p = absurd own
+play_less S WriteFault text script left out after own p = absurd own
+play_less S Memory text script left out after own p = absurd own
+play_less S TooLarge text script left out after own p = absurd own
 
-pub told_as : (D S : Type 0) (ended told : Ended) (file campaign script left out after : Option (List ℕ)) → IsToldAs ended told → JobEnds D S ended file campaign script left out after → JobEnds D S told file campaign script left out after
-told_as D S ended told file campaign script left out after (inl same) h = subst (λ e. JobEnds D S e file campaign script left out after) (sym same) h
-told_as D S ended told file campaign script left out after (inr less) h =
-    subst (λ e. JobEnds D S e file campaign script left out after) (sym less.2)
-    (told_less D S less.0 file campaign script left out after (subst (λ e. JobEnds D S e file campaign script left out after) less.1 h))
+check_less : (ended : Ended) (text : List ℕ) (out after : Option (List ℕ)) → HasOwnLine ended → CheckEnds ended text out after → CheckEnds Memory text out after
+check_less (BadCampaign breach) text out after own p = p.1
+check_less (BadLine number) text out after own p = absurd p.2
+check_less Done text out after own p = absurd own
+check_less Usage text out after own p = absurd own
+check_less ReadFault text out after own p = absurd own
+check_less WriteFault text out after own p = absurd own
+check_less Memory text out after own p = absurd own
+check_less TooLarge text out after own p = absurd own
+
+file_less : (D : Type 0) (Ends Less : List ℕ → Type 0) (ended : Ended) (campaign out after : Option (List ℕ)) → ((text : List ℕ) → Ends text → Less text) → FileEnds D Ends ended campaign out after → FileEnds D Less Memory campaign out after
+file_less D Ends Less ended campaign out after less (inl none) = inl (tt, none.1)
+file_less D Ends Less ended campaign out after less (inr f) = inr (record { text = f.text; told = f.told; small = f.small; ends = less f.text f.ends })
+
+told_less : (D S : Type 0) (ended : Ended) (job : Option Asked) (texts : List ℕ → Option (List ℕ)) (script left out after : Option (List ℕ)) → HasOwnLine ended → JobEnds D S ended job texts script left out after → JobEnds D S Memory job texts script left out after
+told_less D S ended None texts script left out after own h = (inr refl, h.1)
+told_less D S ended (Some (Play file end)) texts script left out after own h =
+    file_less D (λ text. PlayEnds S ended text script left out after) (λ text. PlayEnds S Memory text script left out after) ended (texts file) out after (λ text. play_less S ended text script left out after own) h
+told_less D S ended (Some (Check file)) texts script left out after own h =
+    file_less D (λ text. CheckEnds ended text out after) (λ text. CheckEnds Memory text out after) ended (texts file) out after (λ text. check_less ended text out after own) h
+told_less D S ended (Some (Drill number lines)) texts script left out after own h = absurd h
+told_less D S ended (Some (Serve file port count end)) texts script left out after own h = absurd h
+
+pub told_as : (D S : Type 0) (ended told : Ended) (job : Option Asked) (texts : List ℕ → Option (List ℕ)) (script left out after : Option (List ℕ)) → IsToldAs ended told → JobEnds D S ended job texts script left out after → JobEnds D S told job texts script left out after
+told_as D S ended told job texts script left out after (inl same) h = subst (λ e. JobEnds D S e job texts script left out after) (sym same) h
+told_as D S ended told job texts script left out after (inr less) h = subst (λ e. JobEnds D S e job texts script left out after) (sym less.1) (told_less D S ended job texts script left out after less.0 h)
 
 -- ---- a line that is printed
 
 pub printed : (r : Result (Unit {0}) Failed) {Whole Rose Took Front : Type 0} → (Took → Front) → OnOk r Whole → OnErr r Rose → OnErr r Took → Whole ⊎ (Rose × Front)
 printed (Ok value) f whole rose took = inl whole
 printed (Err failed) f whole rose took = inr (rose, f took)
-
-pub fixed_is : (ended : Ended) (line : List ℕ) → ((number : ℕ) → ended ≡ BadLine number → ⊥) → IsFixedLine ended line → line ≡ last_line ended
-fixed_is (BadLine number) line other h = absurd (other number refl)
-fixed_is Done line other h = h
-fixed_is Usage line other h = h
-fixed_is BadCampaign line other h = h
-fixed_is ReadFault line other h = h
-fixed_is WriteFault line other h = h
-fixed_is Memory line other h = h
-fixed_is TooLarge line other h = h
 
 pub count_before : (a b c : ℕ) → b ≤ c → CountRose a b → CountRose a c
 count_before a b c le rose lt = omega (arith, rose (omega arith))
@@ -134,54 +174,60 @@ count_after a b c le rose lt = omega (arith, rose lt)
 
 -- ---- statuses
 
-usage_first : (D S : Type 0) (ended : Ended) (file campaign script left out after : Option (List ℕ)) → status_of ended ≡ 2 → JobEnds D S ended file campaign script left out after → file ≡ None
-usage_first D S ended file campaign script left out after s (inl none) = none.0
-usage_first D S Usage file campaign script left out after s (inr (some, inl none)) = absurd none.0
-usage_first D S Usage file campaign script left out after s (inr (some, inr f)) = absurd f.ends
-usage_first D S Done file campaign script left out after s (inr h) = absurd (omega (arith, s))
-usage_first D S BadCampaign file campaign script left out after s (inr h) = absurd (omega (arith, s))
-usage_first D S ReadFault file campaign script left out after s (inr h) = absurd (omega (arith, s))
-usage_first D S WriteFault file campaign script left out after s (inr h) = absurd (omega (arith, s))
-usage_first D S Memory file campaign script left out after s (inr h) = absurd (omega (arith, s))
-usage_first D S (BadLine number) file campaign script left out after s (inr h) = absurd (omega (arith, s))
-usage_first D S TooLarge file campaign script left out after s (inr h) = absurd (omega (arith, s))
+two_is_usage : (ended : Ended) → status_of ended ≡ 2 → ended ≡ Usage
+two_is_usage Usage s = refl
+two_is_usage Done s = absurd (omega (arith, s))
+two_is_usage (BadCampaign breach) s = absurd (omega (arith, s))
+two_is_usage ReadFault s = absurd (omega (arith, s))
+two_is_usage WriteFault s = absurd (omega (arith, s))
+two_is_usage Memory s = absurd (omega (arith, s))
+two_is_usage (BadLine number) s = absurd (omega (arith, s))
+two_is_usage TooLarge s = absurd (omega (arith, s))
 
-pub usage_if : (status : ℕ) (file campaign script left out after : Option (List ℕ)) (D S OutFailed : Type 0) → HasEnded status file campaign script left out after D S OutFailed → status ≡ 2 → file ≡ None
-usage_if status file campaign script left out after D S OutFailed h s = usage_first D S h.ended file campaign script left out h.before_line (sym h.status_is ∙ s) h.job
+used_file : (D : Type 0) (Ends : List ℕ → Type 0) (campaign out after : Option (List ℕ)) → ((text : List ℕ) → Ends text → ⊥) → FileEnds D Ends Usage campaign out after → ⊥
+used_file D Ends campaign out after never (inl none) = none.0
+used_file D Ends campaign out after never (inr f) = never f.text f.ends
 
-usage_second : (D S : Type 0) (ended : Ended) (file campaign script left out after : Option (List ℕ)) → file ≡ None → JobEnds D S ended file campaign script left out after → ended ≡ Usage
-usage_second D S ended file campaign script left out after n (inl none) = none.1
-usage_second D S ended file campaign script left out after n (inr h) = let z : false ≡ true = subst IsSome n h.0 in cc
+-- no job ends as words without one
+used_job : (D S : Type 0) (job : Option Asked) (texts : List ℕ → Option (List ℕ)) (script left out after : Option (List ℕ)) → JobEnds D S Usage job texts script left out after → job ≡ None
+used_job D S None texts script left out after h = refl
+used_job D S (Some (Play file end)) texts script left out after h = absurd (used_file D (λ text. PlayEnds S Usage text script left out after) (texts file) out after (λ text p. p) h)
+used_job D S (Some (Check file)) texts script left out after h = absurd (used_file D (λ text. CheckEnds Usage text out after) (texts file) out after (λ text p. p.2) h)
+used_job D S (Some (Drill number lines)) texts script left out after h = absurd h
+used_job D S (Some (Serve file port count end)) texts script left out after h = absurd h
 
-pub usage_only : (status : ℕ) (file campaign script left out after : Option (List ℕ)) (D S OutFailed : Type 0) → HasEnded status file campaign script left out after D S OutFailed → file ≡ None → status ≡ 2
-usage_only status file campaign script left out after D S OutFailed h n = h.status_is ∙ ap status_of (usage_second D S h.ended file campaign script left out h.before_line n h.job)
+pub usage_if : (status : ℕ) (job : Option Asked) (texts : List ℕ → Option (List ℕ)) (script left out after : Option (List ℕ)) (D S OutFailed : Type 0) → HasEnded status job texts script left out after D S OutFailed → status ≡ 2 → job ≡ None
+usage_if status job texts script left out after D S OutFailed h s =
+    used_job D S job texts script left out h.before_line (subst (λ e. JobEnds D S e job texts script left out h.before_line) (two_is_usage h.ended (sym h.status_is ∙ s)) h.ends)
+
+pub no_job_only : (status : ℕ) (job : Option Asked) (texts : List ℕ → Option (List ℕ)) (script left out after : Option (List ℕ)) (D S OutFailed : Type 0) → HasEnded status job texts script left out after D S OutFailed → job ≡ None → (status ≡ 2) ⊎ (status ≡ 6)
+no_job_only status job texts script left out after D S OutFailed h none = by (subst (λ j. JobEnds D S h.ended j texts script left out h.before_line) none h.ends).0
+  where
+    by : (h.ended ≡ Usage) ⊎ (h.ended ≡ Memory) → (status ≡ 2) ⊎ (status ≡ 6)
+    by (inl usage) = inl (h.status_is ∙ ap status_of usage)
+    by (inr memory) = inr (h.status_is ∙ ap status_of memory)
+
+pub told_usage : (status : ℕ) (ended told : Ended) → status ≡ status_of told → IsToldAs ended told → ended ≡ Usage → status ≡ 2
+told_usage status ended told s (inl same) is = s ∙ ap status_of (same ∙ is)
+told_usage status ended told s (inr less) is = absurd (subst HasOwnLine is less.0)
 
 -- ---- the whole run
 
-pub run_ended : (D S : Type 0) (status : ℕ) (ended told : Ended) (file campaign script left out middle after : Option (List ℕ)) (a b c : ℕ) → status ≡ status_of told → IsToldAs ended told → JobEnds D S ended file campaign script left out middle → a ≤ b → (after ≡ append_known middle (last_line told)) ⊎ (CountRose b c × WroteFront middle (last_line told) after) → HasEnded status file campaign script left out after D S (CountRose a c)
-run_ended D S status ended told file campaign script left out middle after a b c s t job le line = record {
+pub run_ended : (D S : Type 0) (status : ℕ) (ended told : Ended) (job : Option Asked) (texts : List ℕ → Option (List ℕ)) (script left out middle after : Option (List ℕ)) (a b c : ℕ) → status ≡ status_of told → IsToldAs ended told → JobEnds D S ended job texts script left out middle → a ≤ b → (after ≡ append_known middle (last_line told)) ⊎ (CountRose b c × WroteFront middle (last_line told) after) → HasEnded status job texts script left out after D S (CountRose a c)
+run_ended D S status ended told job texts script left out middle after a b c s t ends le line = record {
   ended = told;
   status_is = s;
   before_line = middle;
-  job = told_as D S ended told file campaign script left out middle t job;
+  ends = told_as D S ended told job texts script left out middle t ends;
   line = elim line [ inl whole ↦ inl whole | inr front ↦ inr (count_after a b c le front.0, front.1) ];
 }
 
--- the words were a form, and the text was fetched or not
-pub fetched_ends : (D S : Type 0) (ended : Ended) (file : List ℕ → Option (List ℕ)) (found : Option (List ℕ)) (name text : List ℕ) (script left out after : Option (List ℕ)) → found ≡ Some name → IfSome (file name) (λ told. text ≡ told) → length text ≤ campaign_limit → WorldEnds S ended (world_of_text text) script left out after → JobEnds D S ended found (option_and_then file found) script left out after
-fetched_ends D S ended file found name text script left out after is told small ends =
-    subst (λ f. JobEnds D S ended f (option_and_then file f) script left out after) (sym is) (inr (refl, inr (record { text = text; told = told; small = small; ends = ends })))
-
-pub not_fetched_ends : (D S : Type 0) (ended : Ended) (file : List ℕ → Option (List ℕ)) (found : Option (List ℕ)) (name : List ℕ) (script left out after : Option (List ℕ)) → found ≡ Some name → NotFetched D ended (file name) → after ≡ out → JobEnds D S ended found (option_and_then file found) script left out after
-not_fetched_ends D S ended file found name script left out after is not same =
-    subst (λ f. JobEnds D S ended f (option_and_then file f) script left out after) (sym is) (inr (refl, inl (not, same)))
-
 pub read_fault_of : (status : ℕ) (ended told : Ended) → status ≡ status_of told → IsToldAs ended told → status ≡ 4 → ended ≡ ReadFault
 read_fault_of status ended ReadFault s (inl same) h = sym same
-read_fault_of status ended ReadFault s (inr less) h = let z : ReadFault ≡ Memory = less.2 in cc
+read_fault_of status ended ReadFault s (inr less) h = let z : ReadFault ≡ Memory = less.1 in cc
 read_fault_of status ended Done s t h = absurd (omega (arith, s, h))
 read_fault_of status ended Usage s t h = absurd (omega (arith, s, h))
-read_fault_of status ended BadCampaign s t h = absurd (omega (arith, s, h))
+read_fault_of status ended (BadCampaign breach) s t h = absurd (omega (arith, s, h))
 read_fault_of status ended WriteFault s t h = absurd (omega (arith, s, h))
 read_fault_of status ended Memory s t h = absurd (omega (arith, s, h))
 read_fault_of status ended (BadLine number) s t h = absurd (omega (arith, s, h))
@@ -189,10 +235,10 @@ read_fault_of status ended TooLarge s t h = absurd (omega (arith, s, h))
 
 pub write_fault_of : (status : ℕ) (ended told : Ended) → status ≡ status_of told → IsToldAs ended told → status ≡ 5 → ended ≡ WriteFault
 write_fault_of status ended WriteFault s (inl same) h = sym same
-write_fault_of status ended WriteFault s (inr less) h = let z : WriteFault ≡ Memory = less.2 in cc
+write_fault_of status ended WriteFault s (inr less) h = let z : WriteFault ≡ Memory = less.1 in cc
 write_fault_of status ended Done s t h = absurd (omega (arith, s, h))
 write_fault_of status ended Usage s t h = absurd (omega (arith, s, h))
-write_fault_of status ended BadCampaign s t h = absurd (omega (arith, s, h))
+write_fault_of status ended (BadCampaign breach) s t h = absurd (omega (arith, s, h))
 write_fault_of status ended ReadFault s t h = absurd (omega (arith, s, h))
 write_fault_of status ended Memory s t h = absurd (omega (arith, s, h))
 write_fault_of status ended (BadLine number) s t h = absurd (omega (arith, s, h))
@@ -217,17 +263,31 @@ ends_done answer ending world origin text left out after is script says p =
 abbrev DoneOrMemory : ℕ → Type 0
 DoneOrMemory status = (status ≡ 0) ⊎ (status ≡ 6)
 
-world_done : (S : Type 0) (ended : Ended) (world : Option World) (origin : World) (text : List ℕ) (left out after : Option (List ℕ)) → world ≡ Some origin → (script_of origin text).ending ≡ done → ¬ (status_of ended ≡ 4) → ¬ (status_of ended ≡ 5) → WorldEnds S ended world (Some text) left out after → DoneOrMemory (status_of ended)
-world_done S Done world origin text left out after is script no_read no_write h = inl refl
-world_done S Usage world origin text left out after is script no_read no_write h = absurd h
-world_done S BadCampaign world origin text left out after is script no_read no_write h = let z : None ≡ Some origin = sym h.0 ∙ is in cc
-world_done S ReadFault world origin text left out after is script no_read no_write h = absurd (no_read refl)
-world_done S WriteFault world origin text left out after is script no_read no_write h = absurd (no_write refl)
-world_done S Memory world origin text left out after is script no_read no_write h = inr refl
-world_done S (BadLine number) world origin text left out after is script no_read no_write h =
-    let z : done ≡ bad_line number = ends_done (played.BadLine number) (bad_line number) world origin text left out after is script (λ w es e. ap (λ (s : Script). s.ending) e) h in cc
-world_done S TooLarge world origin text left out after is script no_read no_write h =
-    let z : done ≡ too_large = ends_done played.TooLarge too_large world origin text left out after is script (λ w es e. ap (λ (s : Script). s.ending) e) h in cc
+-- the world of a text that is off the format
+breach_world : (text : List ℕ) (breach : Breach) (origin : World) → world_of_text text ≡ Some origin → campaign_of text ≡ Err breach → ⊥
+breach_world text breach origin is bad = let z : None ≡ Some origin = sym (ap world_of bad) ∙ is in cc
+
+play_done : (S : Type 0) (ended : Ended) (campaign : List ℕ) (origin : World) (text : List ℕ) (left out after : Option (List ℕ)) → world_of_text campaign ≡ Some origin → (script_of origin text).ending ≡ done → ¬ (status_of ended ≡ 4) → ¬ (status_of ended ≡ 5) → PlayEnds S ended campaign (Some text) left out after → DoneOrMemory (status_of ended)
+play_done S Done campaign origin text left out after is script no_read no_write h = inl refl
+play_done S Usage campaign origin text left out after is script no_read no_write h = absurd h
+play_done S (BadCampaign breach) campaign origin text left out after is script no_read no_write h = absurd (breach_world campaign breach origin is h.0)
+play_done S ReadFault campaign origin text left out after is script no_read no_write h = absurd (no_read refl)
+play_done S WriteFault campaign origin text left out after is script no_read no_write h = absurd (no_write refl)
+play_done S Memory campaign origin text left out after is script no_read no_write h = inr refl
+play_done S (BadLine number) campaign origin text left out after is script no_read no_write h =
+    let z : done ≡ bad_line number = ends_done (played.BadLine number) (bad_line number) (world_of_text campaign) origin text left out after is script (λ w es e. ap (λ (s : Script). s.ending) e) h in cc
+play_done S TooLarge campaign origin text left out after is script no_read no_write h =
+    let z : done ≡ too_large = ends_done played.TooLarge too_large (world_of_text campaign) origin text left out after is script (λ w es e. ap (λ (s : Script). s.ending) e) h in cc
+
+check_done : (ended : Ended) (campaign : List ℕ) (world : Opened) (out after : Option (List ℕ)) → campaign_of campaign ≡ Ok world → ¬ (status_of ended ≡ 4) → ¬ (status_of ended ≡ 5) → CheckEnds ended campaign out after → DoneOrMemory (status_of ended)
+check_done Done campaign world out after is no_read no_write h = inl refl
+check_done Memory campaign world out after is no_read no_write h = inr refl
+check_done (BadCampaign breach) campaign world out after is no_read no_write h = let z : Err breach ≡ Ok world = sym h.0 ∙ is in cc
+check_done ReadFault campaign world out after is no_read no_write h = absurd (no_read refl)
+check_done WriteFault campaign world out after is no_read no_write h = absurd (no_write refl)
+check_done Usage campaign world out after is no_read no_write h = absurd h.2
+check_done (BadLine number) campaign world out after is no_read no_write h = absurd h.2
+check_done TooLarge campaign world out after is no_read no_write h = absurd h.2
 
 not_fetched_done : (D : Type 0) (ended : Ended) (campaign : List ℕ) → length campaign ≤ campaign_limit → ¬ (status_of ended ≡ 4) → NotFetched D ended (Some campaign) → DoneOrMemory (status_of ended)
 not_fetched_done D ReadFault campaign small no_read h = absurd (no_read refl)
@@ -235,19 +295,27 @@ not_fetched_done D Memory campaign small no_read h = inr refl
 not_fetched_done D TooLarge campaign small no_read h = absurd (omega (arith, h, small))
 not_fetched_done D Done campaign small no_read h = absurd h
 not_fetched_done D Usage campaign small no_read h = absurd h
-not_fetched_done D BadCampaign campaign small no_read h = absurd h
+not_fetched_done D (BadCampaign breach) campaign small no_read h = absurd h
 not_fetched_done D WriteFault campaign small no_read h = absurd h
 not_fetched_done D (BadLine number) campaign small no_read h = absurd h
 
-job_done : (D S : Type 0) (ended : Ended) (texts : List ℕ → Option (List ℕ)) (file : Option (List ℕ)) (campaign text : List ℕ) (origin : World) (told left out after : Option (List ℕ)) → option_and_then texts file ≡ Some campaign → told ≡ Some campaign → length campaign ≤ campaign_limit → world_of_text campaign ≡ Some origin → (script_of origin text).ending ≡ done → ¬ (status_of ended ≡ 4) → ¬ (status_of ended ≡ 5) → JobEnds D S ended file told (Some text) left out after → DoneOrMemory (status_of ended)
-job_done D S ended texts file campaign text origin told left out after t t' small is script no_read no_write (inl none) = let z : None ≡ Some campaign = sym (ap (option_and_then texts) none.0) ∙ t in cc
-job_done D S ended texts file campaign text origin told left out after t t' small is script no_read no_write (inr (some, inl none)) = not_fetched_done D ended campaign small no_read (subst (NotFetched D ended) t' none.0)
-job_done D S ended texts file campaign text origin told left out after t t' small is script no_read no_write (inr (some, inr f)) =
-    let same : f.text ≡ campaign = subst (λ c. IfSome c (λ told. f.text ≡ told)) t' f.told in
-    world_done S ended (world_of_text f.text) origin text left out after (ap world_of_text same ∙ is) script no_read no_write f.ends
+file_done : (D : Type 0) (Ends : List ℕ → Type 0) (ended : Ended) (told : Option (List ℕ)) (campaign : List ℕ) (out after : Option (List ℕ)) → told ≡ Some campaign → length campaign ≤ campaign_limit → ¬ (status_of ended ≡ 4) → (Ends campaign → DoneOrMemory (status_of ended)) → FileEnds D Ends ended told out after → DoneOrMemory (status_of ended)
+file_done D Ends ended told campaign out after is small no_read ends (inl none) = not_fetched_done D ended campaign small no_read (subst (NotFetched D ended) is none.0)
+file_done D Ends ended told campaign out after is small no_read ends (inr f) =
+    let same : f.text ≡ campaign = subst (λ c. IfSome c (λ told. f.text ≡ told)) is f.told in
+    ends (subst Ends same f.ends)
 
-pub completes : (status : ℕ) (texts : List ℕ → Option (List ℕ)) (file script left out after : Option (List ℕ)) (D S OutFailed : Type 0) (campaign text : List ℕ) (origin : World) → HasEnded status file (option_and_then texts file) script left out after D S OutFailed → option_and_then texts file ≡ Some campaign → length campaign ≤ campaign_limit → world_of_text campaign ≡ Some origin → script ≡ Some text → (script_of origin text).ending ≡ done → ¬ (status ≡ 4) → ¬ (status ≡ 5) → DoneOrMemory status
-completes status texts file script left out after D S OutFailed campaign text origin h t small is s script_done no_read no_write =
+pub play_completes : (status : ℕ) (job : Option Asked) (texts : List ℕ → Option (List ℕ)) (script left out after : Option (List ℕ)) (D S OutFailed : Type 0) (file : List ℕ) (end : Bool) (campaign text : List ℕ) (origin : World) → HasEnded status job texts script left out after D S OutFailed → job ≡ Some (Play file end) → texts file ≡ Some campaign → length campaign ≤ campaign_limit → world_of_text campaign ≡ Some origin → script ≡ Some text → (script_of origin text).ending ≡ done → ¬ (status ≡ 4) → ¬ (status ≡ 5) → DoneOrMemory status
+play_completes status job texts script left out after D S OutFailed file end campaign text origin h j t small is s script_done no_read no_write =
+    let ends : JobEnds D S h.ended (Some (Play file end)) texts (Some text) left out h.before_line =
+            subst (λ x. JobEnds D S h.ended (Some (Play file end)) texts x left out h.before_line) s (subst (λ j. JobEnds D S h.ended j texts script left out h.before_line) j h.ends) in
     subst DoneOrMemory (sym h.status_is)
-    (job_done D S h.ended texts file campaign text origin (option_and_then texts file) left out h.before_line t t small is script_done (λ e. no_read (h.status_is ∙ e)) (λ e. no_write (h.status_is ∙ e))
-    (subst (λ x. JobEnds D S h.ended file (option_and_then texts file) x left out h.before_line) s h.job))
+    (file_done D (λ text'. PlayEnds S h.ended text' (Some text) left out h.before_line) h.ended (texts file) campaign out h.before_line t small (λ e. no_read (h.status_is ∙ e))
+    (play_done S h.ended campaign origin text left out h.before_line is script_done (λ e. no_read (h.status_is ∙ e)) (λ e. no_write (h.status_is ∙ e))) ends)
+
+pub check_completes : (status : ℕ) (job : Option Asked) (texts : List ℕ → Option (List ℕ)) (script left out after : Option (List ℕ)) (D S OutFailed : Type 0) (file campaign : List ℕ) (world : Opened) → HasEnded status job texts script left out after D S OutFailed → job ≡ Some (Check file) → texts file ≡ Some campaign → length campaign ≤ campaign_limit → campaign_of campaign ≡ Ok world → ¬ (status ≡ 4) → ¬ (status ≡ 5) → DoneOrMemory status
+check_completes status job texts script left out after D S OutFailed file campaign world h j t small is no_read no_write =
+    subst DoneOrMemory (sym h.status_is)
+    (file_done D (λ text. CheckEnds h.ended text out h.before_line) h.ended (texts file) campaign out h.before_line t small (λ e. no_read (h.status_is ∙ e))
+    (check_done h.ended campaign world out h.before_line is (λ e. no_read (h.status_is ∙ e)) (λ e. no_write (h.status_is ∙ e)))
+    (subst (λ j. JobEnds D S h.ended j texts script left out h.before_line) j h.ends))

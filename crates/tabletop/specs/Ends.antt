@@ -1,7 +1,11 @@
 -- What a run of the program did, by how it ended.
-use Rattle.std.specs.Prelude.{◌≡◌, ◌≤◌, ◌<◌, ◌⊎◌, ℕ, List, length, IsSome, IfSome, Option, Some, None}
+use Rattle.std.specs.Prelude.{◌≡◌, ◌≤◌, ◌<◌, ◌⊎◌, ℕ, List, length, IfSome, Bool, Option, Some, None, Result, Ok, Err}
 use Rattle.std.specs.Io.KnownBytes.{append_known}
 use Rattle.line_io.specs.Told.{WhereTold}
+use Rattle.line_io.specs.declared.desks.DeskFault.{DeskFault}
+use Rattle.line_io.specs.declared.desks.DeskFault.TheVariants as desk
+use Rattle.world.specs.World.{World as Opened}
+use Rattle.campaign_file.specs.Campaign.{campaign_of}
 use Rattle.campaign_law.specs.declared.entry.Entry.{Entry}
 use Rattle.campaign_law.specs.World.{World}
 use Rattle.campaign_law.specs.Player.{opening, trace, machine}
@@ -15,7 +19,10 @@ use Rattle.script_play.specs.Played.{HasEntered, HasRead, HasWritten, AreWritten
 use Rattle.script_play.specs.Sending.{WroteFront}
 use Rattle.tabletop.specs.declared.endings.Ended.{Ended}
 use Rattle.tabletop.specs.declared.endings.Ended.TheVariants.{Done, Usage, BadCampaign, ReadFault, WriteFault, Memory, BadLine, TooLarge}
-use Rattle.tabletop.specs.Endings.{status_of, last_line}
+use Rattle.tabletop.specs.Endings.{status_of, last_line, HasOwnLine}
+use Rattle.tabletop.specs.Counts.{count_line}
+use Rattle.command_words.specs.Words.{Asked, Play, Check, Drill, Serve}
+
 
 -- how a played script ends the run
 abbrev pub ended_by : Played → Ended
@@ -26,9 +33,15 @@ ended_by (played.BadLine number) = BadLine number
 ended_by played.TooLarge = TooLarge
 ended_by played.Memory = Memory
 
--- as what an ending is told; for want of memory for a line's number as that
+-- as what a file that wasn't fetched ends the run
+abbrev pub unfetched : DeskFault → Ended
+unfetched desk.Failed = ReadFault
+unfetched desk.TooLarge = TooLarge
+unfetched desk.Memory = Memory
+
+-- as what an ending is told; where memory is wanting for a line of its own, as that
 abbrev pub IsToldAs : Ended → Ended → Type 0
-IsToldAs ended told = (told ≡ ended) ⊎ ((number : ℕ) × (ended ≡ BadLine number) × (told ≡ Memory))
+IsToldAs ended told = (told ≡ ended) ⊎ (HasOwnLine ended × (told ≡ Memory))
 
 -- the greatest number of bytes of a campaign
 abbrev pub campaign_limit : ℕ
@@ -54,46 +67,67 @@ pub record PlaysOn (answer : Played) (world : Option World) (script left out aft
   pub is : world ≡ Some origin
   pub plays : Plays answer origin script left out after
 
--- once the campaign's text was there, which has this world or none. A read fault is the script's
-abbrev pub WorldEnds : (ScriptFailed : Type 0) → Ended → Option World → (script left out after : Option (List ℕ)) → Type 0
-WorldEnds ScriptFailed Done world script left out after = PlaysOn played.Done world script left out after
-WorldEnds ScriptFailed Usage world script left out after = ⊥
-WorldEnds ScriptFailed BadCampaign world script left out after = (world ≡ None) × (after ≡ out)
-WorldEnds ScriptFailed ReadFault world script left out after = ScriptFailed × PlaysOn played.ReadFault world script left out after
-WorldEnds ScriptFailed WriteFault world script left out after = PlaysOn played.WriteFault world script left out after
-WorldEnds ScriptFailed Memory world script left out after = (after ≡ out) ⊎ PlaysOn played.Memory world script left out after
-WorldEnds ScriptFailed (BadLine number) world script left out after = PlaysOn (played.BadLine number) world script left out after
-WorldEnds ScriptFailed TooLarge world script left out after = PlaysOn played.TooLarge world script left out after
+-- `play`, once the campaign's text was there. A read fault is the script's
+abbrev pub PlayEnds : (ScriptFailed : Type 0) → Ended → List ℕ → (script left out after : Option (List ℕ)) → Type 0
+PlayEnds ScriptFailed Done text script left out after = PlaysOn played.Done (world_of_text text) script left out after
+PlayEnds ScriptFailed Usage text script left out after = ⊥
+PlayEnds ScriptFailed (BadCampaign breach) text script left out after = (campaign_of text ≡ Err breach) × (after ≡ out)
+PlayEnds ScriptFailed ReadFault text script left out after = ScriptFailed × PlaysOn played.ReadFault (world_of_text text) script left out after
+PlayEnds ScriptFailed WriteFault text script left out after = PlaysOn played.WriteFault (world_of_text text) script left out after
+PlayEnds ScriptFailed Memory text script left out after = (after ≡ out) ⊎ PlaysOn played.Memory (world_of_text text) script left out after
+PlayEnds ScriptFailed (BadLine number) text script left out after = PlaysOn (played.BadLine number) (world_of_text text) script left out after
+PlayEnds ScriptFailed TooLarge text script left out after = PlaysOn played.TooLarge (world_of_text text) script left out after
+
+-- the counts of a campaign's world were printed; after a write fault a front of the line
+abbrev pub PrintsCounts : Ended → Opened → (out after : Option (List ℕ)) → Type 0
+PrintsCounts Done world out after = after ≡ append_known out (count_line world)
+PrintsCounts WriteFault world out after = WroteFront out (count_line world) after
+PrintsCounts Memory world out after = after ≡ out
+PrintsCounts ended world out after = ⊥
+
+-- `check`, once the campaign's text was there
+abbrev pub CheckEnds : Ended → List ℕ → (out after : Option (List ℕ)) → Type 0
+CheckEnds (BadCampaign breach) text out after = (campaign_of text ≡ Err breach) × (after ≡ out)
+CheckEnds Memory text out after = after ≡ out
+CheckEnds ended text out after = (world : Opened) × (campaign_of text ≡ Ok world) × PrintsCounts ended world out after
 
 -- the campaign's text was fetched: this one, where it is told
-pub record Fetched (ScriptFailed : Type 0) (ended : Ended) (campaign script left out after : Option (List ℕ)) : Type 0 where
+pub record Fetched (Ends : List ℕ → Type 0) (campaign : Option (List ℕ)) : Type 0 where
   pub text : List ℕ
   pub told : IfSome campaign (λ told. text ≡ told)
   pub small : length text ≤ campaign_limit
-  pub ends : WorldEnds ScriptFailed ended (world_of_text text) script left out after
+  pub ends : Ends text
 
 -- it wasn't: the desk failed, memory was wanting, or the text is too large
 abbrev pub NotFetched : (DeskFailed : Type 0) → Ended → Option (List ℕ) → Type 0
 NotFetched DeskFailed Done campaign = ⊥
 NotFetched DeskFailed Usage campaign = ⊥
-NotFetched DeskFailed BadCampaign campaign = ⊥
+NotFetched DeskFailed (BadCampaign breach) campaign = ⊥
 NotFetched DeskFailed ReadFault campaign = DeskFailed
 NotFetched DeskFailed WriteFault campaign = ⊥
 NotFetched DeskFailed Memory campaign = Unit {0}
 NotFetched DeskFailed (BadLine number) campaign = ⊥
 NotFetched DeskFailed TooLarge campaign = IfSome campaign (λ told. campaign_limit < length told)
 
--- the words were this form or none. Where nothing was played, a read fault is the desk's
-abbrev pub JobEnds : (DeskFailed ScriptFailed : Type 0) → Ended → (file campaign script left out after : Option (List ℕ)) → Type 0
-JobEnds DeskFailed ScriptFailed ended file campaign script left out after =
-    ((file ≡ None) × (ended ≡ Usage) × (after ≡ out))
-    ⊎ (IsSome file × ((NotFetched DeskFailed ended campaign × (after ≡ out)) ⊎ Fetched ScriptFailed ended campaign script left out after))
+-- a job on the campaign of a file
+abbrev pub FileEnds : (DeskFailed : Type 0) → (Ends : List ℕ → Type 0) → Ended → (campaign out after : Option (List ℕ)) → Type 0
+FileEnds DeskFailed Ends ended campaign out after = (NotFetched DeskFailed ended campaign × (after ≡ out)) ⊎ Fetched Ends campaign
+
+-- the job was done, as far as its ending allows, or the words were no job. The desk has a text of some names. Where nothing was
+-- played, a read fault is the desk's
+abbrev pub JobEnds : (DeskFailed ScriptFailed : Type 0) → Ended → Option Asked → (texts : List ℕ → Option (List ℕ)) → (script left out after : Option (List ℕ)) → Type 0
+JobEnds DeskFailed ScriptFailed ended None texts script left out after = ((ended ≡ Usage) ⊎ (ended ≡ Memory)) × (after ≡ out)
+JobEnds DeskFailed ScriptFailed ended (Some (Play file end)) texts script left out after =
+    FileEnds DeskFailed (λ text. PlayEnds ScriptFailed ended text script left out after) ended (texts file) out after
+JobEnds DeskFailed ScriptFailed ended (Some (Check file)) texts script left out after = FileEnds DeskFailed (λ text. CheckEnds ended text out after) ended (texts file) out after
+JobEnds DeskFailed ScriptFailed ended (Some (Drill number lines)) texts script left out after = ⊥
+JobEnds DeskFailed ScriptFailed ended (Some (Serve file port count end)) texts script left out after = ⊥
 
 -- the whole run: how it ended, by its status, and the last line printed, of which a fault leaves a front
-pub record HasEnded (status : ℕ) (file campaign script left out after : Option (List ℕ)) (DeskFailed ScriptFailed OutFailed : Type 0) : Type 0 where
+pub record HasEnded (status : ℕ) (job : Option Asked) (texts : List ℕ → Option (List ℕ)) (script left out after : Option (List ℕ)) (DeskFailed ScriptFailed OutFailed : Type 0) : Type 0 where
   pub ended : Ended
   pub status_is : status ≡ status_of ended
   -- what was written before the last line
   pub before_line : Option (List ℕ)
-  pub job : JobEnds DeskFailed ScriptFailed ended file campaign script left out before_line
+  pub ends : JobEnds DeskFailed ScriptFailed ended job texts script left out before_line
   pub line : (after ≡ append_known before_line (last_line ended)) ⊎ (OutFailed × WroteFront before_line (last_line ended) after)

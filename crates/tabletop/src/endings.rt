@@ -1,16 +1,18 @@
 //! How a run of the program ends.
 ghost use Rattle.std.specs.Prelude.{◌≡◌};
-ghost use Rattle.tabletop.specs.Endings.{IsFixedLine, status_of as status_of_lem};
+ghost use Rattle.tabletop.specs.Endings.{IsFixedLine, status_of as status_of_lem, rule_word as rule_word_lem};
+
+use campaign_json::{BadCampaign, Rule};
 
 /// How a run of the program ends, in the order of its statuses.
-#[derive(Clone, Copy, Debug, PartialEq, Eq)]
+#[derive(Drop)]
 pub enum Ended {
     /// The job was done, and the script was read to its end.
     Done,
     /// The words are none of the program's forms.
     Usage,
-    /// The campaign's text is off the format.
-    BadCampaign,
+    /// The campaign's text is off the format: this is its first breach.
+    BadCampaign(BadCampaign),
     /// The desk or the script failed, and counted it.
     ReadFault,
     /// The output failed, and counted it.
@@ -24,13 +26,13 @@ pub enum Ended {
 }
 
 /// The program's status.
-pub(crate) fn status_of(ended: Ended) -> u8
-    ensures { result ≡ status_of_lem ended }
+pub(crate) fn status_of(ended: &Ended) -> u8
+    ensures { result ≡ status_of_lem ended.now }
 {
     match ended {
         Ended::Done => 0,
         Ended::Usage => 2,
-        Ended::BadCampaign => 3,
+        Ended::BadCampaign(_) => 3,
         Ended::ReadFault => 4,
         Ended::WriteFault => 5,
         Ended::Memory => 6,
@@ -40,17 +42,32 @@ pub(crate) fn status_of(ended: Ended) -> u8
 }
 
 /// The last line, where it is the same in each run.
-pub(crate) fn fixed_line(ended: Ended) -> &'static str
-    ensures { IsFixedLine ended result.now }
+pub(crate) fn fixed_line(ended: &Ended) -> &'static str
+    ensures { IsFixedLine ended.now result.now }
 {
     match ended {
         Ended::Usage => {
             "tabletop: usage: play FILE [--end], check FILE, drill N LINES, serve FILE PORT COUNT [--end]\n"
         }
-        Ended::BadCampaign => "tabletop: bad campaign at : form\n",
         Ended::ReadFault => "tabletop: read fault\n",
         Ended::Memory => "tabletop: out of memory\n",
         Ended::TooLarge => "tabletop: too large\n",
-        Ended::Done | Ended::WriteFault | Ended::BadLine(_) => "",
+        Ended::Done | Ended::WriteFault | Ended::BadCampaign(_) | Ended::BadLine(_) => "",
+    }
+}
+
+/// The name of a rule of the campaign text.
+pub(crate) fn rule_word(rule: Rule) -> &'static str
+    ensures { result.now ≡ rule_word_lem rule }
+{
+    match rule {
+        Rule::Json => "json",
+        Rule::Missing => "missing",
+        Rule::Unknown => "unknown",
+        Rule::Kind => "kind",
+        Rule::Range => "range",
+        Rule::Form => "form",
+        Rule::Twice => "twice",
+        Rule::Cross => "cross",
     }
 }

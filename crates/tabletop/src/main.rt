@@ -1,15 +1,18 @@
 //! A campaign server for a virtual tabletop that keeps secrets by proof: the program.
 #![tactic(auto)]
 
+mod checking;
 #[cfg(test)]
 mod dump_tests;
 mod endings;
+mod files;
+mod last_line;
 #[cfg(test)]
 mod look_tests;
+mod playing;
 #[cfg(test)]
 mod tests;
 mod top;
-mod words;
 
 pub use endings::Ended;
 use line_io::{FileDesk, ReaderSource, WriterSink};

@@ -2,6 +2,7 @@
 //! for want of it.
 
 mod campaigns;
+mod checks;
 mod evening;
 mod macros;
 mod plays;
@@ -15,7 +16,7 @@ use std::alloc::Global;
 use std::process::Abort;
 use std::test::Fail;
 
-// A run of `play table.json`: the calls of the desk, the script and the output that fail, and what is wanted. The wanted
+// A run on `table.json`: the calls of the desk, the script and the output that fail, and what is wanted. The wanted
 // output has a space where a TAB is printed behind a seat's number.
 #[derive(Clone, Copy)]
 struct Run<'a> {

@@ -40,7 +40,7 @@ tabletop: bad script line 2
         campaign: "{}",
         script: "",
         status: 3,
-        output: "tabletop: bad campaign at : form\n",
+        output: "tabletop: bad campaign at /format: missing\n",
         ..PLAIN
     },
     Run {
@@ -157,15 +157,17 @@ fn a_campaign_has_a_limit(rt: HostRuntime) -> Result<(), Fail> {
 }
 
 #[test]
-fn words_are_play_and_a_file(rt: HostRuntime) -> Result<(), Fail> {
+fn other_words_are_a_usage_fault(rt: HostRuntime) -> Result<(), Fail> {
     let alloc = rt.alloc();
     let usage =
         "tabletop: usage: play FILE [--end], check FILE, drill N LINES, serve FILE PORT COUNT [--end]\n";
-    let faulty: [&[&str]; 4] = [
+    let faulty: [&[&str]; 6] = [
         &["play"],
-        &["play", ""],
         &["play", "-table.json"],
         &["play", "table.json", "--end"],
+        &["check", "table.json", "--end"],
+        &["drill", "7", "25"],
+        &["serve", "table.json", "80", "1"],
     ];
     for words in faulty {
         let (status, output) = played(alloc, words, &PLAIN)?;

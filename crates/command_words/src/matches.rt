@@ -1,0 +1,115 @@
+//! What `clap` makes of the words: one level of commands, without help and version.
+ghost use Rattle.std.specs.Prelude.{◌≡◌, false, IfOk};
+ghost use Rattle.clap.specs.Words.{app_of, rule_of};
+ghost use Rattle.clap.specs.declared.builder.command.Command.TheViews.{out-Command as fields_of};
+ghost use Rattle.command_words.specs.Program.{value_rule, end_rule, plain_app, play_app, check_app, drill_app, serve_app, program_app};
+
+use crate::forms::{Job, check, drill, play, serve};
+use clap::{Arg, ArgAction, ArgMatches, Command, Error};
+use std::alloc::Global;
+
+fn value<'a>(alloc: Global, name: &'a str) -> Arg<'a>
+    ensures rule { rule_of result ≡ value_rule name.now }
+    ensures local { result.global ≡ false }
+{
+    Arg::new(alloc, name).required(true).action(ArgAction::Set)
+}
+
+fn end<'a>(alloc: Global) -> Arg<'a>
+    ensures rule { rule_of result ≡ end_rule }
+    ensures local { result.global ≡ false }
+{
+    Arg::new(alloc, "end")
+        .long("end")
+        .action(ArgAction::SetTrue)
+}
+
+fn plain<'a>(alloc: Global, name: &'a str) -> Command<'a>
+    ensures app { app_of result ≡ plain_app name.now }
+    ensures local { (fields_of result).has_globals ≡ false }
+{
+    Command::new(alloc, name)
+        .disable_help_flag(true)
+        .disable_help_subcommand(true)
+        .disable_version_flag(true)
+}
+
+fn play_command<'a>(alloc: Global) -> Result<Command<'a>, Error>
+    ensures app { IfOk result (λ command. app_of command ≡ play_app) }
+    ensures local { IfOk result (λ command. (fields_of command).has_globals ≡ false) }
+{
+    Ok(
+        plain(alloc, "play")
+            .arg(value(alloc, "file"))?
+            .arg(end(alloc))?,
+    )
+}
+
+fn check_command<'a>(alloc: Global) -> Result<Command<'a>, Error>
+    ensures app { IfOk result (λ command. app_of command ≡ check_app) }
+    ensures local { IfOk result (λ command. (fields_of command).has_globals ≡ false) }
+{
+    Ok(plain(alloc, "check").arg(value(alloc, "file"))?)
+}
+
+fn drill_command<'a>(alloc: Global) -> Result<Command<'a>, Error>
+    ensures app { IfOk result (λ command. app_of command ≡ drill_app) }
+    ensures local { IfOk result (λ command. (fields_of command).has_globals ≡ false) }
+{
+    Ok(
+        plain(alloc, "drill")
+            .arg(value(alloc, "number"))?
+            .arg(value(alloc, "lines"))?,
+    )
+}
+
+fn serve_command<'a>(alloc: Global) -> Result<Command<'a>, Error>
+    ensures app { IfOk result (λ command. app_of command ≡ serve_app) }
+    ensures local { IfOk result (λ command. (fields_of command).has_globals ≡ false) }
+{
+    Ok(
+        plain(alloc, "serve")
+            .arg(value(alloc, "file"))?
+            .arg(value(alloc, "port"))?
+            .arg(value(alloc, "count"))?
+            .arg(end(alloc))?,
+    )
+}
+
+fn program<'a>(alloc: Global) -> Result<Command<'a>, Error>
+    ensures { IfOk result (λ command. app_of command ≡ program_app) }
+{
+    Ok(
+        plain(alloc, "tabletop")
+            .no_binary_name(true)
+            .subcommand_required(true)
+            .subcommand(play_command(alloc)?)?
+            .subcommand(check_command(alloc)?)?
+            .subcommand(drill_command(alloc)?)?
+            .subcommand(serve_command(alloc)?)?,
+    )
+}
+
+fn job_in<'a>(command: &str, matches: &ArgMatches<'a>) -> Option<Job<'a>> {
+    match command {
+        "play" => play(matches.get_str("file")?, matches.get_flag("end")),
+        "check" => check(matches.get_str("file")?),
+        "drill" => drill(matches.get_str("number")?, matches.get_str("lines")?),
+        "serve" => serve(
+            matches.get_str("file")?,
+            matches.get_str("port")?,
+            matches.get_str("count")?,
+            matches.get_flag("end"),
+        ),
+        _ => None,
+    }
+}
+
+/// The job that `clap` reads, if it takes the words and their values are in their ranges.
+pub(crate) fn matched<'a>(alloc: Global, words: &'a [String]) -> Result<Option<Job<'a>>, Error> {
+    let matches = program(alloc)?.try_get_matches_from(words)?;
+    match matches.subcommand() {
+        Some((command, matches)) => Ok(job_in(command, matches)),
+        None => Ok(None),
+    }
+}

@@ -1,0 +1,4 @@
+pub mod Tags
+pub mod Tokens
+pub mod Lines
+pub mod Walls

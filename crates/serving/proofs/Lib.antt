@@ -1,0 +1,4 @@
+pub mod PrintedLines
+pub mod Admissions
+pub mod Gatherings
+pub mod Servings

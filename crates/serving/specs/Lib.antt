@@ -1,0 +1,4 @@
+pub mod Runs
+pub mod Guests
+pub mod Fates
+pub mod Served

@@ -1,0 +1,102 @@
+//! Sessions as works.
+ghost use Rattle.std.specs.Prelude.{◌≡◌, ◌≤◌};
+ghost use denote.Param.Send.{IsSync};
+ghost use Rattle.turn_lock.specs.Pass.{IsPassOf};
+ghost use Rattle.campaign_law.specs.Law.{IsOpening};
+ghost use Rattle.serving.specs.Runs.{HasRun, IsRunOf};
+
+use crate::sittings::Sitting;
+use line_io::{MemSink, MemSource, ReaderSource, Sink, Source, Work, WriterSink};
+use session::{Sat, Table, serve_session};
+use std::alloc::Global;
+use std::net::TcpStream;
+use std::sync::Wait;
+use std::thread::Threads;
+use turn_lock::{Hall, Pass};
+
+/// A source that a session reads in a thread of its own, beside another that writes a sink of this type.
+pub trait SessionSource<O: Sink>: Source + Sized {
+    /// Serves a session, as `serve_session` does.
+    fn serve<R: Threads + Wait + Sync>(
+        rt: &R,
+        alloc: Global,
+        hall: &Hall<Table>,
+        reader: Pass<Table>,
+        writer: Pass<Table>,
+        input: &mut Self,
+        output: &mut O,
+    ) -> Sat
+        requires sync { IsSync R.row }
+        requires passes { IsPassOf hall.now reader × IsPassOf hall.now writer }
+        requires opening { IsOpening hall.now.origin }
+        ensures { HasRun hall.now reader result.reader writer result.writer (Self.Source.left input.old) (Self.Source.left input.new) (O.written output.old) (O.written output.new)
+            (Self.Source.faults_of input.old) (Self.Source.faults_of input.new) (O.faults_of output.old) (O.faults_of output.new) result.ended };
+}
+
+impl SessionSource<MemSink> for MemSource {
+    ghost use Rattle.std.specs.Prelude.{Some};
+
+    fn serve<R: Threads + Wait + Sync>(
+        rt: &R,
+        alloc: Global,
+        hall: &Hall<Table>,
+        reader: Pass<Table>,
+        writer: Pass<Table>,
+        input: &mut MemSource,
+        output: &mut MemSink,
+    ) -> Sat
+        requires sync { IsSync R.row }
+        requires passes { IsPassOf hall.now reader × IsPassOf hall.now writer }
+        requires opening { IsOpening hall.now.origin }
+        ensures { HasRun hall.now reader result.reader writer result.writer (Some input.old.left) (Some input.new.left) (Some output.old.written) (Some output.new.written)
+            input.old.plan.faults input.new.plan.faults output.old.plan.faults output.new.plan.faults result.ended }
+    {
+        serve_session(rt, alloc, hall, reader, writer, input, output)
+    }
+}
+
+// It tells nothing of its bytes.
+impl SessionSource<WriterSink<TcpStream>> for ReaderSource<TcpStream> {
+    ghost use Rattle.std.specs.Prelude.{None};
+
+    fn serve<R: Threads + Wait + Sync>(
+        rt: &R,
+        alloc: Global,
+        hall: &Hall<Table>,
+        reader: Pass<Table>,
+        writer: Pass<Table>,
+        input: &mut ReaderSource<TcpStream>,
+        output: &mut WriterSink<TcpStream>,
+    ) -> Sat
+        requires sync { IsSync R.row }
+        requires passes { IsPassOf hall.now reader × IsPassOf hall.now writer }
+        requires opening { IsOpening hall.now.origin }
+        ensures { HasRun hall.now reader result.reader writer result.writer None None None None input.old input.new output.old output.new result.ended }
+    {
+        serve_session(rt, alloc, hall, reader, writer, input, output)
+    }
+}
+
+impl<R: Threads + Wait + Sync + Drop, I: SessionSource<O> + Drop, O: Sink + Drop> Work
+    for Sitting<R, I, O> {
+    type Done = ((I, O), Sat);
+
+    ghost ready = { λ s. IsSync R.row };
+
+    ghost done = { λ s r. IsRunOf I.left O.written I.faults_of O.faults_of s r };
+
+    /// Serves the session over its two ends, and gives them back.
+    fn run(self) -> ((I, O), Sat) {
+        let Sitting {
+            rt,
+            alloc,
+            hall,
+            reader,
+            writer,
+            mut input,
+            mut output,
+        } = self;
+        let sat = I::serve(&rt, alloc, &hall, reader, writer, &mut input, &mut output);
+        ((input, output), sat)
+    }
+}

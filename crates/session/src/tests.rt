@@ -1,0 +1,46 @@
+//! Sessions over memory, one after another, and by threads, side by side.
+ghost use Rattle.std.specs.Prelude.{◌≡◌, ◌<◌, ◌+◌, IfOk};
+ghost use Rattle.turn_lock.specs.Pass.{IsPassOf, IsUsherOf};
+ghost use Rattle.campaign_law.specs.Law.{IsOpening};
+
+mod guests;
+mod side_by_side;
+mod waiting;
+
+use crate::Table;
+use campaign_core::Campaign;
+use sight_sweep::SweepEye;
+use std::alloc::Global;
+use std::test::Fail;
+use turn_lock::{Hall, Pass, Usher};
+
+// The game master and two players, with the keys g, a and b.
+const THREE_SEATS: &[u8] =
+    br#"{"format":1,"lights":{},"maps":[],"seats":[{"drawn":0,"fog":{},"key":"g","macros":{},"seed":"0000000000000000000000000000000000000000000000000000000000000000","tags":[]},{"drawn":0,"fog":{},"key":"a","macros":{},"seed":"0000000000000000000000000000000000000000000000000000000000000000","tags":[]},{"drawn":0,"fog":{},"key":"b","macros":{},"seed":"0000000000000000000000000000000000000000000000000000000000000000","tags":[]}],"sights":{},"tokens":[]}"#;
+
+fn opened(alloc: Global) -> Result<Table, Fail>
+    ensures { IfOk result (λ table. IsOpening table.origin) }
+{
+    match Campaign::open(alloc, THREE_SEATS, SweepEye::new(alloc)) {
+        Ok(table) => Ok(table),
+        Err(_) => Err(Fail::from("no campaign")),
+    }
+}
+
+// Two passes of one.
+fn two_of(
+    hall: &Hall<Table>,
+    usher: &mut Usher<Table>,
+    pass: Pass<Table>,
+) -> Result<(Pass<Table>, Pass<Table>), Fail>
+    requires hall { IsPassOf hall.now pass × IsUsherOf hall.now usher.old }
+    requires number { (pass.number < usher.old.count) × (usher.old.count < 9) }
+    ensures left { IfOk result (λ both. IsPassOf hall.now both.0 × (both.0.number ≡ pass.number)) }
+    ensures right { IfOk result (λ both. IsPassOf hall.now both.1) }
+    ensures usher { IfOk result (λ _. IsUsherOf hall.now usher.new × (usher.new.count ≡ usher.old.count + 1)) }
+{
+    match hall.split(usher, pass) {
+        Ok(both) => Ok(both),
+        Err(_) => Err(Fail::from("memory")),
+    }
+}

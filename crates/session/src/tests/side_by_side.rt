@@ -1,0 +1,253 @@
+//! Two sessions side by side by threads, each of which goes on only once the other's lines were written.
+ghost use Rattle.std.specs.Prelude.{◌≤◌, length, IfOk};
+ghost use Rattle.turn_lock.specs.Pass.{IsPassOf};
+ghost use Rattle.campaign_law.specs.Law.{IsOpening};
+
+use crate::tests::{opened, two_of};
+use crate::{Ended, Table, serve_session};
+use line_io::{Failed, Sink, Source};
+use std::alloc::Global;
+use std::sync::Wait;
+use std::sync::atomic::{AtomicU64, Ordering};
+use std::test::Fail;
+use std::thread::{self, Threads, join};
+use turn_lock::{Hall, Pass};
+
+const ANNS_HELLO: &[u8] = b"{\"do\":\"hello\",\"seat\":1,\"key\":\"a\"}\n";
+
+const BOBS_HELLO: &[u8] = b"{\"do\":\"hello\",\"seat\":2,\"key\":\"b\"}\n";
+
+const BYE: &[u8] = b"{\"do\":\"bye\"}\n";
+
+// So often a gate is looked at before it is given up.
+const YIELDS: u32 = 1_000_000;
+
+// The lines that an output took, of which so many are waited for.
+#[derive(Clone, Copy)]
+struct Gate<'a> {
+    lines: &'a AtomicU64,
+    least: u64,
+}
+
+impl<'a> Gate<'a> {
+    fn is_open(&self) -> bool {
+        self.lines.load(Ordering::SeqCst) >= self.least
+    }
+
+    fn opens(&self) -> bool {
+        for _ in 0..YIELDS {
+            if self.is_open() {
+                return true;
+            }
+            thread::yield_now();
+        }
+        false
+    }
+}
+
+#[derive(Clone, Copy, PartialEq, Eq)]
+enum Stage {
+    Hello,
+    Bye,
+    End,
+}
+
+// Gives a hello, and a bye once both gates are open. Where one doesn't open it fails.
+#[derive(Drop)]
+struct Gated<'a> {
+    hello: &'a [u8],
+    stage: Stage,
+    anns: Gate<'a>,
+    bobs: Gate<'a>,
+    faults: u64,
+}
+
+impl<'a> Gated<'a> {
+    fn of(hello: &'a [u8], anns: Gate<'a>, bobs: Gate<'a>) -> Gated<'a> {
+        Gated {
+            hello,
+            stage: Stage::Hello,
+            anns,
+            bobs,
+            faults: 0,
+        }
+    }
+}
+
+fn copied(line: &[u8], piece: &mut [u8]) -> usize
+    ensures { result ≤ length piece.new }
+{
+    let count = line.len().min(piece.len());
+    piece[..count].copy_from_slice(&line[..count]);
+    count
+}
+
+impl<'a> Source for Gated<'a> {
+    ghost faults_of = { λ s. s.faults };
+
+    fn read(&mut self, piece: &mut [u8]) -> Result<usize, Failed> {
+        match self.stage {
+            Stage::Hello => {
+                self.stage = Stage::Bye;
+                Ok(copied(self.hello, piece))
+            }
+            Stage::Bye => {
+                if !(self.anns.opens() && self.bobs.opens()) {
+                    self.faults = self.faults.saturating_add(1);
+                    return Err(Failed);
+                }
+                self.stage = Stage::End;
+                Ok(copied(BYE, piece))
+            }
+            Stage::End => Ok(0),
+        }
+    }
+
+    fn faults(&self) -> u64 {
+        self.faults
+    }
+}
+
+// Counts the lines that it takes.
+#[derive(Drop)]
+struct Counted<'a> {
+    lines: &'a AtomicU64,
+}
+
+impl<'a> Sink for Counted<'a> {
+    ghost faults_of = { λ s. 0 };
+
+    fn write(&mut self, piece: &[u8]) -> Result<usize, Failed> {
+        for byte in piece {
+            if *byte == b'\n' {
+                self.lines.fetch_add(1, Ordering::SeqCst);
+            }
+        }
+        Ok(piece.len())
+    }
+
+    fn faults(&self) -> u64 {
+        0
+    }
+}
+
+// A session's two passes.
+#[derive(Drop)]
+struct Passes {
+    reader: Pass<Table>,
+    writer: Pass<Table>,
+}
+
+// A hall for two sessions.
+fn two_sessions(alloc: Global) -> Result<(Hall<Table>, Passes, Passes), Fail>
+    ensures opening { IfOk result (λ made. IsOpening made.0.origin) }
+    ensures anns { IfOk result (λ made. IsPassOf made.0 made.1.reader × IsPassOf made.0 made.1.writer) }
+    ensures bobs { IfOk result (λ made. IsPassOf made.0 made.2.reader × IsPassOf made.0 made.2.writer) }
+{
+    let Ok((hall, mut usher, first)) = Hall::open(alloc, opened(alloc)?) else {
+        return Err(Fail::from("memory"));
+    };
+    let (first, second) = two_of(&hall, &mut usher, first)?;
+    let (first, third) = two_of(&hall, &mut usher, first)?;
+    let (first, fourth) = two_of(&hall, &mut usher, first)?;
+    let anns = Passes {
+        reader: first,
+        writer: second,
+    };
+    let bobs = Passes {
+        reader: third,
+        writer: fourth,
+    };
+    Ok((hall, anns, bobs))
+}
+
+// Anna says bye once Bob has a line.
+fn serve_ann<R: Threads + Wait + Sync>(
+    rt: &R,
+    alloc: Global,
+    hall: &Hall<Table>,
+    passes: Passes,
+    anns: &AtomicU64,
+    bobs: &AtomicU64,
+) -> Ended
+    requires reader { IsPassOf hall.now passes.reader }
+    requires writer { IsPassOf hall.now passes.writer }
+    requires opening { IsOpening hall.now.origin }
+{
+    let anns_gate = Gate {
+        lines: anns,
+        least: 0,
+    };
+    let bobs_gate = Gate {
+        lines: bobs,
+        least: 1,
+    };
+    let mut input = Gated::of(ANNS_HELLO, anns_gate, bobs_gate);
+    let mut output = Counted { lines: anns };
+    let Passes { reader, writer } = passes;
+    serve_session(rt, alloc, hall, reader, writer, &mut input, &mut output).ended
+}
+
+// Bob says bye once he has two lines and Anna has one.
+fn serve_bob<R: Threads + Wait + Sync>(
+    rt: &R,
+    alloc: Global,
+    hall: &Hall<Table>,
+    passes: Passes,
+    anns: &AtomicU64,
+    bobs: &AtomicU64,
+) -> Ended
+    requires reader { IsPassOf hall.now passes.reader }
+    requires writer { IsPassOf hall.now passes.writer }
+    requires opening { IsOpening hall.now.origin }
+{
+    let anns_gate = Gate {
+        lines: anns,
+        least: 1,
+    };
+    let bobs_gate = Gate {
+        lines: bobs,
+        least: 2,
+    };
+    let mut input = Gated::of(BOBS_HELLO, anns_gate, bobs_gate);
+    let mut output = Counted { lines: bobs };
+    let Passes { reader, writer } = passes;
+    serve_session(rt, alloc, hall, reader, writer, &mut input, &mut output).ended
+}
+
+fn serve_both<R: Threads + Wait + Sync>(
+    rt: &R,
+    alloc: Global,
+    anns: &AtomicU64,
+    bobs: &AtomicU64,
+) -> Result<(Ended, Ended), Fail> {
+    let (hall, first, second) = two_sessions(alloc)?;
+    Ok(join(
+        rt,
+        || -> Ended
+            requires { IsPassOf hall first.reader × IsPassOf hall first.writer × IsOpening hall.origin }
+        { serve_ann(rt, alloc, &hall, first, anns, bobs) },
+        || -> Ended
+            requires { IsPassOf hall second.reader × IsPassOf hall second.writer × IsOpening hall.origin }
+        { serve_bob(rt, alloc, &hall, second, anns, bobs) },
+    ))
+}
+
+#[test]
+fn two_sessions_run_side_by_side(rt: HostRuntime) -> Result<(), Fail> {
+    let (anns, bobs) = (AtomicU64::new(0), AtomicU64::new(0));
+    let (ann, bob) = serve_both(&rt, rt.alloc(), &anns, &bobs)?;
+    assert!(rt; ann == Ended::Left);
+    assert!(rt; bob == Ended::Left);
+    Ok(())
+}
+
+// The gates tell sessions apart that run one after another: Anna's then fails before Bob's begins.
+#[test]
+fn a_session_that_waits_for_one_behind_it_fails(rt: HostRuntime) -> Result<(), Fail> {
+    let (anns, bobs) = (AtomicU64::new(0), AtomicU64::new(0));
+    let (hall, first, second) = two_sessions(rt.alloc())?;
+    assert!(rt; serve_ann(&rt, rt.alloc(), &hall, first, &anns, &bobs) == Ended::ReadFault);
+    assert!(rt; serve_bob(&rt, rt.alloc(), &hall, second, &anns, &bobs) == Ended::Left);
+    Ok(())
+}

@@ -1,0 +1,16 @@
+-- The jobs of the words that `tabletop` does.
+use Rattle.std.specs.Prelude.{ℕ, List, Bool, true, false, Option, Some, None, option_and_then}
+use Rattle.command_words.specs.Words.{Asked, Play, Check, Drill, Serve, job_of}
+
+-- a script is played and a campaign checked. For now no campaign is written at the end, and no drill is made; connections
+-- are served by another call
+abbrev pub done_here : Asked → Option Asked
+done_here (Play file false) = Some (Play file false)
+done_here (Play file true) = None
+done_here (Check file) = Some (Check file)
+done_here (Drill number lines) = None
+done_here (Serve file port count end) = None
+
+-- the job of the words; none, where they are no form, or not one of these
+abbrev pub job_in : List (List ℕ) → Option Asked
+job_in words = option_and_then done_here (job_of words)
