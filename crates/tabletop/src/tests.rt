@@ -4,6 +4,7 @@
 mod campaigns;
 mod checks;
 mod evening;
+mod macros;
 mod plays;
 mod refusals;
 mod stops;
@@ -101,6 +102,14 @@ fn plays_scripts(rt: HostRuntime) -> Result<(), Fail> {
     let evening = [evening::EVENING];
     let tables: [&[Run<'_>]; 3] = [&plays::PLAYS, &stops::STOPS, &evening];
     for run in tables.into_iter().flatten() {
+        check(&rt, rt.alloc(), run)?;
+    }
+    Ok(())
+}
+
+#[test]
+fn plays_macros(rt: HostRuntime) -> Result<(), Fail> {
+    for run in &macros::MACROS {
         check(&rt, rt.alloc(), run)?;
     }
     Ok(())
