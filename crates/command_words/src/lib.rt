@@ -13,8 +13,6 @@
 mod forms;
 mod matches;
 mod read;
-#[cfg(test)]
-mod tests;
 
 pub use forms::Job;
 pub use read::{WordsFault, read_words};
