@@ -29,7 +29,7 @@ use Rattle.session.specs.declared.writing.Wrote.{Wrote}
 use Rattle.session.specs.Inputs.{Stops}
 use Rattle.session.specs.Own.{Grew}
 use Rattle.session.specs.Held.{is_read, HasJoined}
-use Rattle.session.specs.Heard.{Came, AreFirst, HasHeard}
+use Rattle.session.specs.Heard.{CameBut, AreFirst, HasHeard}
 use Rattle.session.specs.Written.{HasWritten}
 use Rattle.session.specs.Served.{IsServed}
 use Rattle.session.specs.JoinTurn.{TakesSeat}
@@ -184,7 +184,7 @@ module _ (w : World) (seat : ℕ) (key : List ℕ) (joined : Joined) (p r s : Pa
     none_first None = tt
     none_first (Some text) = (_, refl)
 
-    none_came : (text : Option (List ℕ)) → WhereTold text text (Came [])
+    none_came : (text : Option (List ℕ)) → WhereTold text text (CameBut [] [])
     none_came None = tt
     none_came (Some text) = refl
 
@@ -194,6 +194,8 @@ module _ (w : World) (seat : ℕ) (key : List ℕ) (joined : Joined) (p r s : Pa
       more = [];
       got = record { front = prefix_self r.front; number = refl; own = sym (append-nil r.own); each = All-nil _ };
       first = none_first text;
+      hand = [];
+      behind = λ some. absurd (some refl);
       all = λ g n. none_came text;
       closed = sym taken.reads_is ∙ none;
       kept = λ g. cc;

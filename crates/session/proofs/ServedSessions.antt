@@ -26,7 +26,7 @@ use Rattle.session.specs.declared.writing.Wrote.{Wrote}
 use Rattle.session.specs.declared.writing.Wrote.TheVariants.{All as AllWritten, Memory, WriteFault}
 use Rattle.session.specs.Held.{is_held, is_read, is_over, lines_of, HasJoined}
 use Rattle.session.specs.Own.{StandsAt, Got, takes_from, IsAlone}
-use Rattle.session.specs.Heard.{IsReaders, lines_at, Came, AreFirst, IsByeAt, IsSpentAt, IsUnspent, ClosedBy, HasHeard}
+use Rattle.session.specs.Heard.{IsReaders, lines_at, CameBut, AreFirst, IsByeAt, IsSpentAt, IsUnspent, IsClosedBy, ClosedBy, HasHeard}
 use Rattle.campaign_law.specs.Outcome.{seat_of}
 use Rattle.campaign_law.specs.Session.{closes}
 use Rattle.session.proofs.GoneSessions.{taken_never_closes, read_throughout}
@@ -191,6 +191,9 @@ module _ (w : World) (f h : List Entry) (hold : Hold) (own : List ℕ) (reader :
   cause_of (Stopped ReadFault) AllWritten closed stops = tt
   cause_of (Stopped NoMemory) AllWritten closed stops = tt
 
+  closed_longer : IsClosedBy w f hold own → IsClosedBy w h hold own
+  closed_longer closed = (closed.0, closed.1, elim closed.2 [ | inl bye ↦ inl (bye_longer closed.0 bye) | inr spent ↦ inr (spent_longer closed.0 (All-contains (λ k. k < length f) own closed.0 within closed.1) spent) ])
+
 stands_within : (rule : List Entry → Entry → Type 0) (f : List Entry) (own : List ℕ) → All (StandsAt rule f) own → All (λ k. k < length f) own
 stands_within rule f own each = λ i d lt. let at = each i d lt in slice_get_within f (get_or own i d) at.entry at.there
 
@@ -228,7 +231,11 @@ served w h hold p q s t read gone wrote ended text reader left before after open
       player = λ player. printed_by_machine w h hold opening player;
       all_read = λ quiet so.
           let all = whole_of read wrote (ap is_whole (sym end) ∙ so) in
-          subst (λ l. WhereTold text (bytes_to_come reader left) (Came l)) (sym same) (heard.all (never_gone w h hold p q s t read gone wrote text (bytes_to_come reader left) before after joined begun heard written all.0 long reads writes quiet) all.1);
+          record {
+            hand = heard.hand;
+            came = subst (λ l. WhereTold text (bytes_to_come reader left) (CameBut heard.hand l)) (sym same) (heard.all (never_gone w h hold p q s t read gone wrote text (bytes_to_come reader left) before after joined begun heard written all.0 long reads writes quiet) all.1);
+            closed = λ some. closed_longer w q.front h hold heard.more reader left reads long (stands_within (IsReaders w hold) q.front heard.more heard.got.each) (heard.behind some);
+          };
       cause = subst (λ x. IsCause x w h hold heard.more reader left) (sym end) (cause_of w q.front h hold heard.more reader left reads long (stands_within (IsReaders w hold) q.front heard.more heard.got.each) read wrote heard.cause stops);
       unspent = λ left_so.
           let other = left_of read wrote (sym end ∙ left_so) in

@@ -1,5 +1,5 @@
 -- What the reading half read and entered.
-use Rattle.std.specs.Prelude.{◌≡◌, ◌≢◌, ◌==◌, ℕ, Bool, true, false, List, [], ◌∷◌, ◌++◌, take, suc, All, Contains, slice_get, Option, Some, None, IfSome, Ok}
+use Rattle.std.specs.Prelude.{◌≡◌, ◌≢◌, ◌==◌, ◌⊎◌, ℕ, Bool, true, false, List, [], ◌∷◌, ◌++◌, take, suc, All, Contains, slice_get, Option, Some, None, IfSome, Ok}
 use mathlib.Core.List.{IsPrefix}
 use Rattle.line_io.specs.Lines.{lines_of as text_lines}
 use Rattle.line_io.specs.Told.{WhereTold}
@@ -41,6 +41,10 @@ lines_at h (place ∷ places) = line_in (slice_get h place) ++ lines_at h places
 abbrev pub Came : List (List ℕ) → List ℕ → List ℕ → Type 0
 Came lines text rest = text_lines text ≡ lines ++ text_lines rest
 
+-- of which the lines in hand, the last ones, weren't entered
+abbrev pub CameBut : List (List ℕ) → List (List ℕ) → List ℕ → List ℕ → Type 0
+CameBut hand lines text rest = Came (lines ++ hand) text rest
+
 -- they are the first lines of the text, where it is told
 abbrev pub AreFirst : List (List ℕ) → Option (List ℕ) → Type 0
 AreFirst lines text = IfSome text (λ text. IsPrefix lines (text_lines text))
@@ -48,6 +52,10 @@ AreFirst lines text = IfSome text (λ text. IsPrefix lines (text_lines text))
 -- the session's passes hold the seat as Joined behind this place
 abbrev pub IsReadAfter : World → Hold → List Entry → ℕ → Type 0
 IsReadAfter w hold h place = is_read w (take (suc place) h) hold ≡ true
+
+-- they hold it so behind the entry
+abbrev pub IsReadBehind : World → Hold → List Entry → Entry → Type 0
+IsReadBehind w hold before e = is_read w (before ++ e ∷ []) hold ≡ true
 
 -- a line that the seat reads as a bye
 pub record IsBye (seat : ℕ) (bytes : List ℕ) : Type 0 where
@@ -78,21 +86,27 @@ ClosedBy Bye w h hold own = (k : ℕ) × Contains own k × IsByeAt h hold.seat k
 ClosedBy Spent w h hold own = (k : ℕ) × Contains (hold.place ∷ own) k × IsSpentAt w h hold.seat k
 ClosedBy (Stopped stop) w h hold own = Unit {0}
 
--- between two turns of the reading half, which began with the pass p when this text was to come: all lines that came were entered
-pub record IsReading (w : World) (hold : Hold) (p q : PassState Entry World) (text rest : Option (List ℕ)) : Type 0 where
+-- a line at one of these places closed the seat: a bye, or the seat's last
+abbrev pub IsClosedBy : World → List Entry → Hold → List ℕ → Type 0
+IsClosedBy w h hold own = (k : ℕ) × Contains own k × (IsByeAt h hold.seat k ⊎ IsSpentAt w h hold.seat k)
+
+-- between two turns of the reading half, which began with the pass p when this text was to come: all lines that came were entered but those in hand
+pub record IsReading (w : World) (hold : Hold) (p q : PassState Entry World) (hand : List (List ℕ)) (text rest : Option (List ℕ)) : Type 0 where
   pub more : List ℕ
   pub got : Got (IsReaders w hold) p q more
-  pub came : WhereTold text rest (Came (lines_at q.front more))
-  pub kept : All (IsReadAfter w hold q.front) more
+  pub came : WhereTold text rest (CameBut hand (lines_at q.front more))
+  pub kept : All (StandsAt (IsReadBehind w hold) q.front) more
   pub unspent : All (StandsAt (IsUnspent w hold) q.front) more
 
 -- The reading half ended. Where it was gone, a line found that the passes no longer held the seat as Joined
 pub record HasHeard (w : World) (hold : Hold) (p q : PassState Entry World) (end : ReadEnd) (gone : Bool) (text rest : Option (List ℕ)) : Type 0 where
   pub more : List ℕ
   pub got : Got (IsReaders w hold) p q more
-  -- its lines are the first ones of the text, and all that came
+  -- its lines are the first ones of the text, and all that came, but those in hand behind one that closed the seat
   pub first : AreFirst (lines_at q.front more) text
-  pub all : gone ≡ false → end ≢ Stopped Memory → WhereTold text rest (Came (lines_at q.front more))
+  pub hand : List (List ℕ)
+  pub behind : hand ≢ [] → IsClosedBy w q.front hold more
+  pub all : gone ≡ false → end ≢ Stopped Memory → WhereTold text rest (CameBut hand (lines_at q.front more))
   -- the seat isn't Joined by its passes any more
   pub closed : is_read w q.front hold ≡ false
   -- where it was gone, none of its own entries closed the seat

@@ -1,24 +1,16 @@
 -- The first line of a session.
-use Rattle.std.specs.Prelude.{◌≡◌, ℕ, false, List, Option, Some, None, Result, Ok, Err}
-use Rattle.command_json.specs.declared.command.Command.{Command}
-use Rattle.command_json.specs.declared.command.Command.TheVariants.{Hello}
-use Rattle.command_json.specs.declared.command.LineFault.{LineFault}
+use Rattle.std.specs.Prelude.{◌≡◌, ℕ, false, List, [], ◌∷◌, Option, Some, None}
 use Rattle.command_json.specs.Commands.{command_of}
+use Rattle.campaign_law.specs.Hellos.{hello_part}
 use Rattle.session.specs.declared.first_line.FirstLine.{FirstLine}
 use Rattle.session.specs.declared.first_line.FirstLine.TheVariants as first
 use Rattle.session.specs.declared.input.Stop.{Stop}
 use Rattle.session.specs.declared.input.Stop.TheVariants.{Memory}
 use Rattle.session.specs.Inputs.{CameFirst, StopsBefore}
 
--- the seat and key of a hello
-abbrev pub hello_of : Result Command LineFault → Option (ℕ × List ℕ)
-hello_of (Ok (Hello seat key)) = Some (seat, key)
-hello_of (Ok command) = None
-hello_of (Err fault) = None
-
--- of a line; a hello reads alike for each seat
+-- the seat and key of a line that is a hello; it reads alike for each seat
 abbrev pub hello_in : List ℕ → Option (ℕ × List ℕ)
-hello_in line = hello_of (command_of line false)
+hello_in line = hello_part (command_of line false)
 
 -- it is that hello, or none, or memory was wanting
 abbrev pub Greets : Option (ℕ × List ℕ) → FirstLine → Type 0
@@ -30,7 +22,7 @@ Greets hello (first.Missing stop) = stop ≡ Memory
 pub record CameWith (hello : Option (ℕ × List ℕ)) (text rest : Option (List ℕ)) : Type 0 where
   pub line : List ℕ
   pub reads : hello_in line ≡ hello
-  pub first : CameFirst line text rest
+  pub first : CameFirst (line ∷ []) text rest
 
 -- what the first line of a text is, where the rest is to come
 abbrev pub Begins : FirstLine → Option (List ℕ) → Option (List ℕ) → Type 0

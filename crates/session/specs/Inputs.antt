@@ -1,5 +1,5 @@
 -- The lines of an input, and why no further one is read.
-use Rattle.std.specs.Prelude.{◌≡◌, ◌≢◌, ℕ, true, List, ◌∷◌, length, Option}
+use Rattle.std.specs.Prelude.{◌≡◌, ◌≢◌, ℕ, true, List, ◌++◌, length, Option}
 use Rattle.std.specs.Io.KnownBytes.{IsAtEnd}
 use Rattle.line_io.specs.Lines.{HasNoLineEnd, lines_of as text_lines}
 use Rattle.line_io.specs.ReaderState.{ReaderState}
@@ -12,9 +12,9 @@ pub record IsReaderOf (reader : ReaderState) (left : Option (List ℕ)) : Type 0
   pub cap : reader.cap ≡ 4096
   pub met : reader.ended ≡ true → IsAtEnd left
 
--- of a text this line came first, and the rest is to come
-abbrev pub CameFirst : List ℕ → Option (List ℕ) → Option (List ℕ) → Type 0
-CameFirst line text rest = WhereTold text rest (λ text rest. text_lines text ≡ line ∷ text_lines rest)
+-- of a text these lines came first, and the rest is to come
+abbrev pub CameFirst : List (List ℕ) → Option (List ℕ) → Option (List ℕ) → Type 0
+CameFirst lines text rest = WhereTold text rest (λ text rest. text_lines text ≡ lines ++ text_lines rest)
 
 -- no line was taken; for want of memory one may be lost
 abbrev pub StopsBefore : Stop → Option (List ℕ) → Option (List ℕ) → Type 0

@@ -1,5 +1,5 @@
 -- What a session did, in a history that both of its passes know a front of.
-use Rattle.std.specs.Prelude.{◌≡◌, ◌<◌, ◌≤◌, ◌==◌, ◌⊎◌, ℕ, Bool, true, false, All, Contains, List, ◌∷◌, ◌++◌, length, take, slice_get, Option, Some}
+use Rattle.std.specs.Prelude.{◌≡◌, ◌≢◌, ◌<◌, ◌≤◌, ◌==◌, ◌⊎◌, ℕ, Bool, true, false, All, Contains, List, [], ◌∷◌, ◌++◌, length, take, slice_get, Option, Some}
 use Rattle.std.specs.Io.KnownBytes.{IsAtEnd}
 use mathlib.Core.List.{IsPrefix}
 use Rattle.line_io.specs.Lines.{HasNoLineEnd}
@@ -19,7 +19,7 @@ use Rattle.session.specs.declared.input.Stop.TheVariants.{TooLong}
 use Rattle.session.specs.Inputs.{Stops}
 use Rattle.session.specs.Held.{is_held, is_read, is_over, lines_of}
 use Rattle.session.specs.Own.{StandsAt}
-use Rattle.session.specs.Heard.{lines_at, Came, AreFirst, IsByeAt, IsSpentAt, IsUnspent}
+use Rattle.session.specs.Heard.{lines_at, CameBut, AreFirst, IsByeAt, IsSpentAt, IsUnspent, IsClosedBy}
 use Rattle.session.specs.Written.{HasLines}
 use Rattle.session.specs.Ends.{is_whole}
 use Rattle.session.specs.Among.{AreAmong}
@@ -58,6 +58,12 @@ IsCause ends.ReadFault w h hold readers reader left = Unit {0}
 IsCause ends.WriteFault w h hold readers reader left = Unit {0}
 IsCause ends.Memory w h hold readers reader left = Unit {0}
 
+-- the Lines at these places are all lines that came of the text, up to one that closed the seat, where the others behind it weren't entered
+pub record AreAll (w : World) (h : List Entry) (hold : Hold) (readers : List ℕ) (text rest : Option (List ℕ)) : Type 0 where
+  pub hand : List (List ℕ)
+  pub came : WhereTold text rest (CameBut hand (lines_at h readers))
+  pub closed : hand ≢ [] → IsClosedBy w h hold readers
+
 -- An accepted session, behind its Join, whose passes got these own places. Its input had this text to come, and the reader and the source have the rest
 pub record IsServed (w : World) (h : List Entry) (hold : Hold) (readers writers : List ℕ) (ended : Ended) (text : Option (List ℕ)) (reader : ReaderState) (left before after : Option (List ℕ)) : Type 0 where
   pub count : ℕ
@@ -72,8 +78,8 @@ pub record IsServed (w : World) (h : List Entry) (hold : Hold) (readers writers 
   pub whole : IsUndisturbed w h (readers ++ writers) hold → is_whole ended ≡ true → output ≡ bytes_of (lines_of w h hold)
   -- a player's session has none but lines that the player machine prints, which holds no world
   pub player : 1 ≤ hold.seat → AreAmong (lines_of w h hold) (machine (opening w hold.seat) (trace w h hold.seat))
-  -- and all that came
-  pub all_read : IsUndisturbed w h (readers ++ writers) hold → is_whole ended ≡ true → WhereTold text (bytes_to_come reader left) (Came (lines_at h readers))
+  -- and all that came, up to one that closed the seat
+  pub all_read : IsUndisturbed w h (readers ++ writers) hold → is_whole ended ≡ true → AreAll w h hold readers text (bytes_to_come reader left)
   pub cause : IsCause ended w h hold readers reader left
   -- and where it just left, neither its Join nor a line of it was the seat's last
   pub unspent : ended ≡ ends.Left → All (StandsAt (IsUnspent w hold) h) (hold.place ∷ readers)

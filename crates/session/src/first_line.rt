@@ -3,7 +3,8 @@ ghost use Rattle.std.specs.Prelude.{◌≡◌, ◌≤◌, Ok, Some};
 ghost use Rattle.line_io.specs.Counts.{CountRose};
 ghost use Rattle.line_io.specs.Reader.{bytes_to_come};
 ghost use Rattle.session.specs.Inputs.{IsReaderOf, Stops};
-ghost use Rattle.session.specs.Hellos.{hello_of, hello_in, Greets, Begins};
+ghost use Rattle.campaign_law.specs.Hellos.{hello_part};
+ghost use Rattle.session.specs.Hellos.{hello_in, Greets, Begins};
 ghost use Rattle.session.specs.declared.first_line.FirstLine.TheVariants.{Missing};
 
 use crate::input::{Stop, next_line};
@@ -54,7 +55,7 @@ fn greeting(alloc: Global, line: &LineText) -> FirstLine
 }
 
 fn hello(alloc: Global, command: &Command) -> FirstLine
-    ensures { Greets (hello_of (Ok command.now)) result }
+    ensures { Greets (hello_part (Ok command.now)) result }
 {
     match command {
         Command::Hello { seat, key } => hello_by(alloc, *seat, key),

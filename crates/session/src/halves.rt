@@ -15,6 +15,7 @@ use crate::hold::Hold;
 use crate::input::Stop;
 use crate::writing::{Wrote, write_half};
 use line_io::{LineReader, Sink, Source};
+use std::alloc::Global;
 use std::sync::Wait;
 use std::thread::{Threads, join_mut};
 use turn_lock::{Hall, Pass};
@@ -22,6 +23,7 @@ use turn_lock::{Hall, Pass};
 /// The two halves of an accepted session, each by its own pass and in a thread of its own.
 pub(crate) fn run_halves<R: Threads + Wait + Sync, I: Source + Send, O: Sink + Send>(
     rt: &R,
+    alloc: Global,
     hall: &Hall<Table>,
     reading: &mut Pass<Table>,
     writing: &mut Pass<Table>,
@@ -47,7 +49,7 @@ pub(crate) fn run_halves<R: Threads + Wait + Sync, I: Source + Send, O: Sink + S
 {
     join_mut(
         rt,
-        &mut || read_half(rt, hall, reading, hold, lines, input),
+        &mut || read_half(rt, alloc, hall, reading, hold, lines, input),
         &mut || write_half(rt, hall, writing, hold, output),
     )
 }

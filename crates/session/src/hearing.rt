@@ -6,15 +6,16 @@ ghost use Rattle.turn_lock.specs.Pass.{IsPassOf};
 ghost use Rattle.session.specs.Inputs.{IsReaderOf, Stops};
 ghost use Rattle.session.specs.declared.hearing.ReadEnd.TheVariants.{Stopped};
 ghost use Rattle.session.specs.Heard.{HasHeard};
-ghost use Rattle.session.specs.Turned.{Speaks, Leaves};
+ghost use Rattle.session.specs.Turned.{SpeaksAll, Leaves};
 
 use crate::Table;
 use crate::hold::Hold;
-use crate::input::{Stop, next_line, read_on};
+use crate::input::{Stop, next_lines, read_on};
 use crate::leaving::Leaving;
 use crate::speaking::{Said, Speaking};
 use line_io::{LineReader, Source};
 use names::LineText;
+use std::alloc::Global;
 use std::sync::Wait;
 use turn_lock::{Hall, Pass};
 
@@ -29,11 +30,12 @@ pub(crate) enum ReadEnd {
     Stopped(Stop),
 }
 
-/// Enters the lines of the input, each in a turn, until the session ends or the input does. Where
+/// Enters the lines of the input, those that came together in one turn, until the session ends or the input does. Where
 /// the session's passes no longer hold the seat as Joined, it reads on to the end and enters nothing
 /// more; the second part of the answer tells that.
 pub(crate) fn read_half<R: Wait, I: Source>(
     rt: &R,
+    alloc: Global,
     hall: &Hall<Table>,
     pass: &mut Pass<Table>,
     hold: &Hold,
@@ -50,14 +52,14 @@ pub(crate) fn read_half<R: Wait, I: Source>(
     ensures read_fault { result.0 ≡ Stopped Stop.ReadFault → CountRose (I.faults_of input.old) (I.faults_of input.new) }
 {
     for _ in rt.forever() {
-        let line = match next_line(reader, input) {
-            Ok(line) => line,
+        let lines = match next_lines(alloc, reader, input) {
+            Ok(lines) => lines,
             Err(stop) => {
                 leave(rt, hall, pass, hold);
                 return (ReadEnd::Stopped(stop), false);
             }
         };
-        match speak(rt, hall, pass, hold, line) {
+        match speak(rt, hall, pass, hold, lines) {
             Said::Goes => {}
             Said::Bye => return (ReadEnd::Bye, false),
             Said::Spent => return (ReadEnd::Spent, false),
@@ -71,23 +73,23 @@ pub(crate) fn read_half<R: Wait, I: Source>(
     unreachable!()
 }
 
-// One turn: the line is entered, where the passes hold the seat as Joined.
+// One turn: the lines are entered, as long as the passes hold the seat as Joined.
 fn speak<R: Wait>(
     rt: &R,
     hall: &Hall<Table>,
     pass: &mut Pass<Table>,
     hold: &Hold,
-    line: LineText,
+    lines: Vec<LineText>,
 ) -> Said
     requires { IsPassOf hall.now pass.old }
     ensures hall { IsPassOf hall.now pass.new }
-    ensures turn { Speaks hall.now.origin hold.now line result pass.old pass.new }
+    ensures turn { SpeaksAll hall.now.origin hold.now lines.items result pass.old pass.new }
 {
     let mut turn = Speaking {
         hold: hold.copy(),
-        line: Some(line),
-        entered: false,
+        lines: Some(lines),
         said: Said::Gone,
+        turn: None,
     };
     hall.act(rt, pass, &mut turn);
     turn.said

@@ -20,6 +20,7 @@ use crate::writing::{Wrote, write_half};
 use line_io::{LineReader, Sink, Source, write_whole};
 use names::{LineText, SeatNo};
 use seats::JoinRefusal;
+use std::alloc::Global;
 use std::sync::Wait;
 use std::thread::Threads;
 use turn_lock::{Hall, Pass};
@@ -47,6 +48,7 @@ pub enum Ended {
 /// Joins by the hello, and then runs both halves.
 pub(crate) fn sit<R: Threads + Wait + Sync, I: Source + Send, O: Sink + Send>(
     rt: &R,
+    alloc: Global,
     hall: &Hall<Table>,
     reader: &mut Pass<Table>,
     writer: &mut Pass<Table>,
@@ -97,7 +99,9 @@ pub(crate) fn sit<R: Threads + Wait + Sync, I: Source + Send, O: Sink + Send>(
         reader: reader.number(),
         writer: number,
     };
-    let ((read, _), wrote) = run_halves(rt, hall, reader, writer, &hold, lines, input, output);
+    let ((read, _), wrote) = run_halves(
+        rt, alloc, hall, reader, writer, &hold, lines, input, output,
+    );
     ended_by(read, wrote)
 }
 
