@@ -377,7 +377,7 @@ pub(crate) fn act(state: &mut State, keep: &mut Keep, entry: &Entry, prepared: P
     answer
 }
 
-/// The entry is a Leave that changes its seat's state. It takes no memory.
+/// The entry is a Leave that changes its seat's state, or a Cut of a Joined seat. It takes no memory.
 pub(crate) fn leave(state: &mut State, entry: &Entry) -> Answer
     requires settled { IsSettled state.old.scene }
     requires sound { AreSound (law state.old).posts }
@@ -390,6 +390,7 @@ pub(crate) fn leave(state: &mut State, entry: &Entry) -> Answer
 {
     match entry {
         Entry::Leave { seat, drop } => state.leave(*seat, *drop),
+        Entry::Cut { seat } => state.leave(*seat, true),
         Entry::Join { .. } | Entry::Line { .. } | Entry::Taken { .. } => unreachable!(),
     }
     Answer {

@@ -20,8 +20,8 @@ use Rattle.command_effects.specs.MacroEffects.{with_text, setting_text, drawing}
 use Rattle.command_effects.specs.Tags.{tag_made, using_tag}
 use Rattle.player_view.specs.Asked.{Asked}
 use Rattle.campaign_law.specs.declared.entry.Entry.{Entry}
-use Rattle.campaign_law.specs.declared.entry.Entry.TheVariants.{Join, Line, Leave, Taken}
-use Rattle.campaign_law.specs.Outcome.{Outcome, join_outcome, present_outcome, read_outcome, broken_rule, called_by, accepted_with, decided, refused_direct, book_done, rolling, dice_in, is_bye}
+use Rattle.campaign_law.specs.declared.entry.Entry.TheVariants.{Join, Line, Leave, Taken, Cut}
+use Rattle.campaign_law.specs.Outcome.{Outcome, nothing, join_outcome, present_outcome, read_outcome, broken_rule, called_by, accepted_with, decided, refused_direct, book_done, rolling, dice_in, is_bye}
 
 -- the second is the same seat's, with the same key, and has the tags of the first
 pub record Follows (b c : Book) : Type 0 where
@@ -117,8 +117,13 @@ leave_follows : (drop : Bool) (b : Book) → Follows b (cond drop (freed b) (lef
 leave_follows true b = record { seat = refl; key = refl; tags = λ tag h. h }
 leave_follows false b = record { seat = refl; key = refl; tags = λ tag h. h }
 
+cut_keeps : (b : Book) (j : Bool) → KeepsBook b (cond j (record nothing { book = Some (freed b) }) nothing)
+cut_keeps b true = record { book = record { seat = refl; key = refl; tags = λ tag h. h }; made = λ d tag is made. absurd cc; done = λ d is. absurd cc }
+cut_keeps b false = record { book = tt; made = λ d tag is made. tt; done = λ d is. absurd cc }
+
 pub present_keeps : (asked : Asked) (steps : ℕ) (b : Book) (e : Entry) → KeepsBook b (present_outcome asked steps b e)
 present_keeps asked steps b (Join seat key reader writer) = join_keeps asked b reader writer (join_refusal b key)
 present_keeps asked steps b (Line seat bytes) = line_keeps asked steps seat b bytes (is_joined b.state)
 present_keeps asked steps b (Leave seat drop) = record { book = leave_follows drop b; made = λ d tag is made. absurd cc; done = λ d is. absurd cc }
 present_keeps asked steps b (Taken seat count) = record { book = tt; made = λ d tag is made. tt; done = λ d is. absurd cc }
+present_keeps asked steps b (Cut seat) = cut_keeps b (is_joined b.state)

@@ -21,9 +21,9 @@ use Rattle.command_effects.specs.MacroEffects.{with_text, setting_text, drawing}
 use Rattle.command_effects.specs.Tags.{tag_made, using_tag}
 use Rattle.player_view.specs.Asked.{Asked}
 use Rattle.campaign_law.specs.declared.entry.Entry.{Entry}
-use Rattle.campaign_law.specs.declared.entry.Entry.TheVariants.{Join, Line, Leave, Taken}
+use Rattle.campaign_law.specs.declared.entry.Entry.TheVariants.{Join, Line, Leave, Taken, Cut}
 use Rattle.campaign_law.specs.Seat.{Seat}
-use Rattle.campaign_law.specs.Outcome.{Outcome, join_outcome, refused_line, refused_direct, accepted_with, called_by, broken_rule, decided, read_outcome, outcome_at, book_done, is_bye, rolling, dice_in}
+use Rattle.campaign_law.specs.Outcome.{Outcome, nothing, join_outcome, refused_line, refused_direct, accepted_with, called_by, broken_rule, decided, read_outcome, outcome_at, book_done, is_bye, rolling, dice_in}
 use Rattle.campaign_law.specs.World.{queued_reply}
 
 -- a book between entries
@@ -156,11 +156,16 @@ leave_lines : (drop : Bool) (b : Book) → KeepsLines b (cond drop (freed b) (le
 leave_lines true b = freed_lines b
 leave_lines false b = left_lines b
 
+cut_counts : (b : Book) (j : Bool) → Counts b (cond j (record nothing { book = Some (freed b) }) nothing)
+cut_counts b true = still (record { reply = refl; messages = refl; full = refl; done = refl }) (freed_lines b)
+cut_counts b false = still (record { reply = refl; messages = refl; full = refl; done = refl }) tt
+
 pub outcome_counts : (asked : Asked) (steps : ℕ) (s : Seat) (e : Entry) → InLimit s.book → Counts s.book (outcome_at asked steps (Some s) e)
 outcome_counts asked steps s (Join seat key reader writer) limit = join_counts asked s.book key reader writer (join_refusal s.book key) limit refl
 outcome_counts asked steps s (Line seat bytes) limit = line_counts asked steps seat s.book (command_of bytes (eqb seat 0)) (is_joined s.book.state) refl limit
 outcome_counts asked steps s (Leave seat drop) limit = still (record { reply = refl; messages = refl; full = refl; done = refl }) (leave_lines drop s.book)
 outcome_counts asked steps s (Taken seat count) limit = still (record { reply = refl; messages = refl; full = refl; done = refl }) tt
+outcome_counts asked steps s (Cut seat) limit = cut_counts s.book (is_joined s.book.state)
 
 -- a seat that isn't there says nothing
 pub absent_quiet : (asked : Asked) (steps : ℕ) (e : Entry) → IsQuiet (outcome_at asked steps None e)
@@ -168,3 +173,4 @@ absent_quiet asked steps (Join seat key reader writer) = record { reply = refl; 
 absent_quiet asked steps (Line seat bytes) = record { reply = refl; messages = refl; full = refl; done = refl }
 absent_quiet asked steps (Leave seat drop) = record { reply = refl; messages = refl; full = refl; done = refl }
 absent_quiet asked steps (Taken seat count) = record { reply = refl; messages = refl; full = refl; done = refl }
+absent_quiet asked steps (Cut seat) = record { reply = refl; messages = refl; full = refl; done = refl }

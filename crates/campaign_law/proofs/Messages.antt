@@ -2,7 +2,7 @@
 use Rattle.std.proofs.Common.{◌≡◌, ℕ, ◌+◌, ◌≤◌, ◌<◌, Bool, true, false, cond, eqb, List, [], ◌∷◌, ◌++◌, length, Some, None, refl, sym, ap, arith, zero-add, ◌⊎◌, inl, inr}
 use Rattle.std.specs.Prelude.{Option, Result, Ok, Err, map, filter}
 use Rattle.std.proofs.lemmas.Bool.Decides.{nat_tests}
-use Rattle.seats.specs.Book.{Book, join_refusal}
+use Rattle.seats.specs.Book.{Book, freed, join_refusal}
 use Rattle.seats.specs.SeatState.{is_joined}
 use Rattle.seats.specs.declared.seat_state.JoinRefusal.{JoinRefusal}
 use Rattle.chat.specs.declared.to.To.{To}
@@ -16,10 +16,10 @@ use Rattle.command_rules.specs.declared.refusal.Refusal.TheVariants.{NoHello}
 use Rattle.command_rules.specs.MacroRules.{Call, call_in}
 use Rattle.player_view.specs.Asked.{Asked}
 use Rattle.campaign_law.specs.declared.entry.Entry.{Entry}
-use Rattle.campaign_law.specs.declared.entry.Entry.TheVariants.{Join, Line, Leave, Taken}
+use Rattle.campaign_law.specs.declared.entry.Entry.TheVariants.{Join, Line, Leave, Taken, Cut}
 use Rattle.campaign_law.specs.Messages.{Message, message_by, texts_in, text_message, text_messages, run_messages}
 use Rattle.campaign_law.specs.Seat.{Seat}
-use Rattle.campaign_law.specs.Outcome.{Outcome, join_outcome, said, called_by, accepted_with, broken_rule, decided, read_outcome, refused_direct, outcome_at}
+use Rattle.campaign_law.specs.Outcome.{Outcome, nothing, join_outcome, said, called_by, accepted_with, broken_rule, decided, read_outcome, refused_direct, outcome_at}
 use Rattle.campaign_law.specs.World.{addressed, is_to, messages_to}
 
 -- how many of these reach the seat
@@ -129,12 +129,18 @@ join_few : (asked : Asked) (b : Book) (reader writer : ℕ) (r : Option JoinRefu
 join_few asked b reader writer None = record { reply = omega arith; messages = none_reaches }
 join_few asked b reader writer (Some r) = record { reply = omega arith; messages = none_reaches }
 
+cut_few : (b : Book) (j : Bool) → SendsFew (cond j (record nothing { book = Some (freed b) }) nothing)
+cut_few b true = record { reply = omega arith; messages = none_reaches }
+cut_few b false = record { reply = omega arith; messages = none_reaches }
+
 pub outcome_few : (asked : Asked) (steps : ℕ) (before : Option Seat) (e : Entry) → SendsFew (outcome_at asked steps before e)
 outcome_few asked steps None (Join seat key reader writer) = record { reply = omega arith; messages = none_reaches }
 outcome_few asked steps None (Line seat bytes) = record { reply = omega arith; messages = none_reaches }
 outcome_few asked steps None (Leave seat drop) = record { reply = omega arith; messages = none_reaches }
 outcome_few asked steps None (Taken seat count) = record { reply = omega arith; messages = none_reaches }
+outcome_few asked steps None (Cut seat) = record { reply = omega arith; messages = none_reaches }
 outcome_few asked steps (Some s) (Join seat key reader writer) = join_few asked s.book reader writer (join_refusal s.book key)
 outcome_few asked steps (Some s) (Line seat bytes) = line_few asked steps seat s.book (command_of bytes (eqb seat 0)) (is_joined s.book.state)
 outcome_few asked steps (Some s) (Leave seat drop) = record { reply = omega arith; messages = none_reaches }
 outcome_few asked steps (Some s) (Taken seat count) = record { reply = omega arith; messages = none_reaches }
+outcome_few asked steps (Some s) (Cut seat) = cut_few s.book (is_joined s.book.state)

@@ -14,7 +14,7 @@ use Rattle.command_effects.specs.Settle.{settled as settled_scene}
 use Rattle.command_effects.proofs.Players.{players_kept}
 use Rattle.player_view.specs.View.{view_of}
 use Rattle.campaign_law.specs.declared.entry.Entry.{Entry}
-use Rattle.campaign_law.specs.declared.entry.Entry.TheVariants.{Join, Line, Leave, Taken}
+use Rattle.campaign_law.specs.declared.entry.Entry.TheVariants.{Join, Line, Leave, Taken, Cut}
 use Rattle.campaign_law.specs.Seat.{Seat, let_go, is_let_go, freed_seat, fresh_seat}
 use Rattle.campaign_law.specs.Outcome.{outcome_at, seat_of}
 use Rattle.campaign_law.specs.World.{World, seat_at, asked_of, steps_of, outcome_of, made_by, scene_after, seat_after, changed, mapped_from, step, replay, queued_lines}
@@ -115,6 +115,7 @@ module _ (w : World) (e : Entry) where
       absent asked steps (Line seat bytes) h = cc
       absent asked steps (Leave seat drop) h = cc
       absent asked steps (Taken seat count) h = cc
+      absent asked steps (Cut seat) h = cc
 
       of_next : (s : Seat) (o : Option Book) → IfSome o (λ next. tag_used next.tags tag ≡ true) → ((next : Book) × (o ≡ Some next)) → tag_used (unwrap_or o s.book).tags tag ≡ true
       of_next s None h some = absurd (let e = some.1 in cc)

@@ -33,8 +33,8 @@ use Rattle.command_rules.specs.MacroRules.{Macros, name_rule, spelling_rule, new
 use Rattle.command_effects.specs.MacroEffects.{with_text, setting_text, drawing}
 use Rattle.player_view.specs.Asked.{Asked}
 use Rattle.campaign_law.specs.declared.entry.Entry.{Entry}
-use Rattle.campaign_law.specs.declared.entry.Entry.TheVariants.{Join, Line, Leave, Taken}
-use Rattle.campaign_law.specs.Outcome.{Outcome, join_outcome, present_outcome, read_outcome, roll_rule, dice_in, macro_rule, broken_rule, called_by, accepted_with, decided, refused_direct, book_done}
+use Rattle.campaign_law.specs.declared.entry.Entry.TheVariants.{Join, Line, Leave, Taken, Cut}
+use Rattle.campaign_law.specs.Outcome.{Outcome, nothing, join_outcome, present_outcome, read_outcome, roll_rule, dice_in, macro_rule, broken_rule, called_by, accepted_with, decided, refused_direct, book_done}
 use Rattle.campaign_law.specs.Written.{is_written_text, are_written_texts}
 
 -- ---- texts under names
@@ -149,8 +149,13 @@ leave_written : (drop : Bool) (b : Book) → are_written_texts b.macros ≡ true
 leave_written true b all = all
 leave_written false b all = all
 
+cut_written : (b : Book) (j : Bool) → KeepsMacros b (cond j (record nothing { book = Some (freed b) }) nothing)
+cut_written b true all = all
+cut_written b false all = tt
+
 pub present_written : (asked : Asked) (steps : ℕ) (b : Book) (e : Entry) → KeepsMacros b (present_outcome asked steps b e)
 present_written asked steps b (Join seat key reader writer) all = join_written asked b reader writer (join_refusal b key) all
 present_written asked steps b (Line seat bytes) all = line_written asked steps seat b bytes (is_joined b.state) all
 present_written asked steps b (Leave seat drop) all = leave_written drop b all
 present_written asked steps b (Taken seat count) all = tt
+present_written asked steps b (Cut seat) all = cut_written b (is_joined b.state) all
