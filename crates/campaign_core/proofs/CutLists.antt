@@ -69,8 +69,11 @@ cuts_more w h h' e before after are more is = record {
       ∙ ap (λ l. is_cut_since w l place seat reader writer) (sym more);
 }
 
-pub cuts_none : (w : World) → AreCuts w [] []
-cuts_none w = record { since = λ place seat reader writer. sym (past w [] place seat reader writer (omega arith)) }
+pub none_yet : (w : World) (h : List Entry) (cuts : List SeatCut) → h ≡ [] → cuts ≡ [] → AreCuts w h cuts
+none_yet w h cuts no_entry no_cut = record {
+  since = λ place seat reader writer. ap (any_since place seat reader writer) no_cut
+      ∙ sym (ap (λ l. is_cut_since w l place seat reader writer) no_entry ∙ past w [] place seat reader writer (omega arith));
+}
 
 -- an entry that leaves its seat's state as it is cuts none
 pub none_cut : (w : World) (place : ℕ) (e : Entry) → changes_state w e ≡ false → cut_by w place e ≡ []

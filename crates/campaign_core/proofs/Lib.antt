@@ -11,6 +11,7 @@ pub mod Cutting
 pub mod CutLists
 pub mod Laws
 pub mod Overs
+pub mod SeenSums
 pub mod Posts
 pub mod Puts
 pub mod Shows

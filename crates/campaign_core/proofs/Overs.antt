@@ -43,16 +43,16 @@ first_holds false b h = cc
 
 by_first : (w : World) (h : List Entry) (k : ℕ) (s : Seat) (seats : List Seat) (q : ℕ) (over : Bool) → is_over w h k s ≡ over → cond over (Some k) (least_over w h (suc k) seats) ≡ Some q → (least_over w h (suc k) seats ≡ Some q → IsNamed (suc k) seats q)
     → IsNamed k (s ∷ seats) q
-by_first w h k s seats q true yes at later =
+by_first w h k s seats q true above at later =
     let here : k ≡ q = cc in
     record {
       place = 0;
       seat = s;
       number = omega (arith, here);
       there = refl;
-      joined = first_holds (is_joined s.book.state) (nat_lt byte_limit (length (waiting_text w h k s))) yes;
+      joined = first_holds (is_joined s.book.state) (nat_lt byte_limit (length (waiting_text w h k s))) above;
     }
-by_first w h k s seats q false no at later =
+by_first w h k s seats q false under at later =
     let rest = later at in
     let number = rest.number in
     record { place = suc rest.place; seat = rest.seat; number = omega (arith, number); there = rest.there; joined = rest.joined }

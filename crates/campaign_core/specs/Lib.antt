@@ -10,5 +10,6 @@ pub mod Glances
 pub mod Changed
 pub mod Prepared
 pub mod Over
+pub mod Totals
 pub mod CutList
 pub mod Running

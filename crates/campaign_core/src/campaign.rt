@@ -14,12 +14,14 @@ ghost use Rattle.seats.specs.SeatState.{is_joined};
 ghost use Rattle.campaign_law.specs.Session.{session, waiting, standing, changes_state};
 ghost use Rattle.campaign_law.specs.Cuts.{is_cut_since};
 ghost use Rattle.campaign_core.specs.Over.{over_of};
+ghost use Rattle.campaign_core.specs.Totals.{seen_total as seen_total_lem};
 ghost use Rattle.campaign_law.specs.Law.{IsOpening, IsSentAsMachine, ChangesLittle, world_of, answer_after};
 
 use crate::cuts::{SeatCut, add_cut, any_since};
 use crate::next::{Prepared, act, leave, made_by};
 use crate::state::{Post, State};
 use crate::tables::open_tables;
+use crate::totals::seen_total;
 use campaign_file::{BadCampaign, FileFault, read_campaign};
 use campaign_law::{Answer, Entry};
 use cells::CellSet;
@@ -303,6 +305,16 @@ impl<E: Eye + Drop> Campaign<E> {
         ensures { option_copied result ≡ field_for (world_of self.now).scene id }
     {
         self.keep.fields().get(id)
+    }
+
+    /// How many cells the players see, over all maps: a cell counts for each player that sees it. `Memory` is want of memory.
+    pub fn seen_total(&self) -> Result<u64, Memory>
+        ensures { IfOk result (λ n. n ≡ seen_total_lem (world_of self.now).scene) }
+    {
+        let scene = self.state.scene();
+        let fields = self.keep.fields();
+        serve(scene, fields);
+        seen_total(self.alloc, scene, fields)
     }
 
     /// How many looks the eye made.

@@ -58,8 +58,9 @@ invariant_of-self g c =
     let left = c.add_cut.ensures.places in
     let e = c.in-Some.staged.entry in
     let now = world_now (world_in (law c.self.inside.origin)) c.self.inside.history.items _ c.self.inside.state c.self.inside.keep c.self.inside.staged c.self.invariant in
+    let count : c.len-place.result ≡ length c.self.inside.history.items = search rules in
     let placed : cut_by (world_at c.self.inside.state) c.len-place.result e ≡ cut_by (replay (world_in (law c.self.inside.origin)) c.self.inside.history.items) (length c.self.inside.history.items) e =
-    (λ i. cut_by ((world_law c.self.inside.state ∙ now) i) (c.len-place.ensures i) e) in
+    (λ i. cut_by ((world_law c.self.inside.state ∙ now) i) (count i) e) in
     let same : length (cut_by (world_at c.self.inside.state) c.len-place.result e) ≡ length (cut_by (world_in (law c.self.inside.state)) c.len-place.result e) = ap (λ (w : World). length (cut_by w c.len-place.result e)) (world_law c.self.inside.state) in
     let moves = made_is _ c.self.inside.state c.self.inside.keep c.self.inside.staged c.in-Some.staged Alone c.in-Some.ensures.value c.in-Alone.is c.self.invariant.staged in
     subst (IsRunning (world_in (law c.self.inside.origin)) c.push_reserved.new.self.items _ c.leave-answer.new.state c.self.inside.keep) (sym c.in-Some.ensures.after)

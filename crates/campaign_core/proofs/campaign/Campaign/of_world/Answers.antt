@@ -1,4 +1,4 @@
-use Rattle.std.proofs.Common.{◌≡◌, ◌∙◌, refl, sym, ap, subst, ◌+◌, [], length, map, arith}
+use Rattle.std.proofs.Common.{◌≡◌, ◌∙◌, refl, sym, ap, subst, ◌+◌, length, map, arith}
 use Rattle.std.proofs.lemmas.List.{length-replicate}
 use Rattle.world.specs.Scene.{Scene}
 use Rattle.view_keep.specs.Kept.{Kept}
@@ -16,9 +16,8 @@ use Rattle.campaign_law.proofs.WrittenWorlds.{written_opened}
 use Rattle.campaign_law.specs.Law.{IsOpening}
 use Rattle.campaign_law.proofs.States.{opened}
 use Rattle.campaign_core.specs.Places.{law}
-use Rattle.campaign_core.specs.CutList.{AreCuts}
 use Rattle.campaign_core.specs.Leaving.{cut_due, cut_due_of, due, due_of}
-use Rattle.campaign_core.proofs.CutLists.{cuts_none}
+use Rattle.campaign_core.proofs.CutLists.{none_yet}
 use Rattle.campaign_core.proofs.Leaving.{due_fresh}
 use Rattle.campaign_core.proofs.Openings.{opening_is, opened_seats}
 use Rattle.campaign_core.proofs.Nexts.{kept_settled, settled_keeps, settled_looks}
@@ -66,8 +65,7 @@ invariant_of-result g c =
       views = opening_shown (world_in (law c.in_ok-state.state)) c.put_fields.new.self.views (subst (λ (s : State). IsOpening (world_in s)) (sym c.in_ok-state.ensures) opening);
       count = count;
       most = omega (arith, count, c.seats.ensures.value, c.seats.ensures.bound);
-      cuts = subst (λ cuts. AreCuts (world_in (law c.in_ok-origin.origin)) _ cuts) (sym c.new-4.ensures.items)
-          (subst (λ h. AreCuts (world_in (law c.in_ok-origin.origin)) h []) (sym c.new-3.ensures.items) (cuts_none (world_in (law c.in_ok-origin.origin))));
+      cuts = none_yet (world_in (law c.in_ok-origin.origin)) _ _ c.new-3.ensures.items c.new-4.ensures.items;
       owed = omega (arith, none);
       owed_cuts = omega (arith, none_cut);
       staged = tt;
