@@ -4,7 +4,7 @@ use Rattle.std.specs.Prelude.{Option, Result, Ok, Err}
 use Rattle.std.specs.List.{range_with_len}
 use Rattle.std.proofs.lemmas.List.FromFn.{length-map-range_with_len}
 use Rattle.seat_random.specs.Stream.{Stream, word_of}
-use Rattle.seats.specs.Book.{Book, join_refusal, macro_of, stream_of}
+use Rattle.seats.specs.Book.{Book, freed, join_refusal, macro_of, stream_of}
 use Rattle.seats.specs.SeatState.{is_joined}
 use Rattle.seats.specs.declared.seat_state.JoinRefusal.{JoinRefusal}
 use Rattle.macro_grammar.specs.Tree.{Piece}
@@ -33,10 +33,10 @@ use Rattle.command_effects.specs.declared.intents.IntentsSet.TheVariants as sets
 use Rattle.command_effects.specs.Trying.{IsSetBy, MaySetAll}
 use Rattle.world.specs.Scene.{Scene}
 use Rattle.campaign_law.specs.declared.entry.Entry.{Entry}
-use Rattle.campaign_law.specs.declared.entry.Entry.TheVariants.{Join, Line, Leave, Taken}
+use Rattle.campaign_law.specs.declared.entry.Entry.TheVariants.{Join, Line, Leave, Taken, Cut}
 use Rattle.campaign_law.specs.Messages.{texts_in}
 use Rattle.campaign_law.specs.Seat.{Seat}
-use Rattle.campaign_law.specs.Outcome.{Outcome, broken_rule, called_by, decided, dice_in, join_outcome, macro_rule, outcome_at, read_outcome, refused_direct, roll_rule, seat_of}
+use Rattle.campaign_law.specs.Outcome.{Outcome, broken_rule, called_by, decided, dice_in, join_outcome, macro_rule, nothing, outcome_at, read_outcome, refused_direct, roll_rule, seat_of}
 use Rattle.campaign_law.specs.World.{World, asked_of, seat_at}
 use Rattle.campaign_core.specs.declared.rulings.Ruling.{Ruling}
 use Rattle.campaign_core.specs.declared.rulings.Ruling.TheVariants.{Refused, Allowed}
@@ -162,15 +162,21 @@ join_sets : (asked : Asked) (seat : ℕ) (b : Book) (reader writer : ℕ) (r : O
 join_sets asked seat b reader writer None = refl
 join_sets asked seat b reader writer (Some refusal) = refl
 
+cut_sets : (asked : Asked) (seat : ℕ) (b : Book) (j : Bool) → intents_rule seat asked.mine (cond j (record nothing { book = Some (freed b) }) nothing).intents ≡ None
+cut_sets asked seat b true = refl
+cut_sets asked seat b false = refl
+
 outcome_sets : (asked : Asked) (steps : ℕ) (before : Option Seat) (e : Entry) → intents_rule (seat_of e) asked.mine (outcome_at asked steps before e).intents ≡ None
 outcome_sets asked steps None (Join seat key reader writer) = refl
 outcome_sets asked steps None (Line seat bytes) = refl
 outcome_sets asked steps None (Leave seat drop) = refl
 outcome_sets asked steps None (Taken seat count) = refl
+outcome_sets asked steps None (Cut seat) = refl
 outcome_sets asked steps (Some s) (Join seat key reader writer) = join_sets asked seat s.book reader writer (join_refusal s.book key)
 outcome_sets asked steps (Some s) (Line seat bytes) = line_sets asked steps seat s.book (command_of bytes (eqb seat 0)) (is_joined s.book.state)
 outcome_sets asked steps (Some s) (Leave seat drop) = refl
 outcome_sets asked steps (Some s) (Taken seat count) = refl
+outcome_sets asked steps (Some s) (Cut seat) = cut_sets asked seat s.book (is_joined s.book.state)
 
 -- in the world before the entry
 pub may_set_all : (w : World) (e : Entry) (steps : ℕ) (o : Outcome) → o ≡ outcome_at (asked_of w (seat_of e)) steps (seat_at w (seat_of e)) e → MaySetAll w.scene (seat_of e) o.intents

@@ -16,7 +16,7 @@ use Rattle.world.specs.Scene.{Scene}
 use Rattle.player_view.specs.View.{view_of}
 use Rattle.player_view.specs.Asked.{Asked}
 use Rattle.campaign_law.specs.declared.entry.Entry.{Entry}
-use Rattle.campaign_law.specs.declared.entry.Entry.TheVariants.{Join, Line, Leave, Taken}
+use Rattle.campaign_law.specs.declared.entry.Entry.TheVariants.{Join, Line, Leave, Taken, Cut}
 use Rattle.campaign_law.specs.Seat.{Seat, was_joined}
 use Rattle.campaign_law.specs.Outcome.{Outcome, outcome_at, seat_of}
 use Rattle.campaign_law.specs.World.{World, asked_of, changed, is_present, mapped_from, outcome_of, queued_lines, scene_after, seat_after, seat_at, step, steps_of}
@@ -28,6 +28,7 @@ use Rattle.campaign_law.proofs.Seats.{joined_before}
 use Rattle.campaign_core.specs.declared.next.Changed.{Changed}
 use Rattle.campaign_core.specs.Changed.{IsChanged}
 use Rattle.campaign_core.specs.Places.{Place, Standing, world_at}
+use Rattle.campaign_core.proofs.Cutting.{cut_step}
 use Rattle.campaign_core.proofs.Leaving.{leave_stays}
 use Rattle.campaign_core.specs.Shown.{AreShown, AreStill, IsShown, is_kept, is_none, view_made_in, made_or, made_view, new_view, view_then}
 
@@ -138,15 +139,19 @@ joined_was w seat drop_it p (Some s) at joined = by (is_joined s.book.state) ref
         let no : true ≡ false = sym some ∙ none in
         cc
 
--- a Leave that changes its seat's state leaves the kept views as they are
+leave_shown : (w : World) (seat : ℕ) (drop : Bool) (views : List KeptView) → IsSettled w.scene → AreShown w views → AreShown (step w (Leave seat drop)) views
+leave_shown w seat drop_it views settled shown = record {
+  each = λ p joined. shown.each p (joined_was w seat drop_it p (seat_at w p) refl (ap was_joined (sym (seat_at-after w (Leave seat drop_it) p)) ∙ joined))
+      ∙ ap (λ (s : Scene). Some (view_of s p)) (sym (leave_stays w seat drop_it settled));
+}
+
+-- a Leave that changes its seat's state, and a Cut of a Joined seat, leave the kept views as they are
 pub left_shown : (w : World) (e : Entry) (views : List KeptView) → changes_state w e ≡ true → IsSettled w.scene → AreShown w views → AreShown (step w e) views
 left_shown w (Join seat key reader writer) views moves settled shown = cc
 left_shown w (Line seat bytes) views moves settled shown = cc
 left_shown w (Taken seat count) views moves settled shown = cc
-left_shown w (Leave seat drop_it) views moves settled shown = record {
-  each = λ p joined. shown.each p (joined_was w seat drop_it p (seat_at w p) refl (ap was_joined (sym (seat_at-after w (Leave seat drop_it) p)) ∙ joined))
-      ∙ ap (λ (s : Scene). Some (view_of s p)) (sym (leave_stays w seat drop_it settled));
-}
+left_shown w (Leave seat drop_it) views moves settled shown = leave_shown w seat drop_it views settled shown
+left_shown w (Cut seat) views moves settled shown = subst (λ (after : World). AreShown after views) (sym (cut_step w seat moves)) (leave_shown w seat true views settled shown)
 
 -- ---- views that are put one after another
 

@@ -1,16 +1,17 @@
 -- The laws of one session of a seat, over every opening world and every history.
-use Rattle.std.specs.Prelude.{◌≡◌, ◌<◌, ◌≤◌, ℕ, suc, ◌==◌, Bool, true, false, List, [], ◌∷◌, ◌++◌, ◌*◌, take, length, slice_get, Some, None}
+use Rattle.std.specs.Prelude.{◌≡◌, ◌<◌, ◌≤◌, ℕ, suc, ◌==◌, Bool, true, false, List, [], ◌∷◌, ◌++◌, ◌*◌, take, length, slice_get, Some, None, option_map, if◌then◌else◌}
 use mathlib.Core.List.{IsPrefix}
 use Rattle.seats.specs.Book.{line_limit}
 use Rattle.seats.specs.SeatState.{is_free, is_joined}
 use Rattle.seats.specs.declared.seat_state.SeatState.{SeatState}
 use Rattle.campaign_law.specs.declared.entry.Entry.{Entry}
-use Rattle.campaign_law.specs.declared.entry.Entry.TheVariants.{Join, Leave}
-use Rattle.campaign_law.specs.Seat.{Seat}
+use Rattle.campaign_law.specs.declared.entry.Entry.TheVariants.{Join, Leave, Cut}
+use Rattle.campaign_law.specs.Seat.{Seat, freed_seat}
 use Rattle.campaign_law.specs.Outcome.{seat_of}
 use Rattle.campaign_law.specs.World.{World, most_seats, seat_at, outcome_of, changed, step, replay}
 use Rattle.campaign_law.specs.Law.{IsOpening}
 use Rattle.campaign_law.specs.Worlds.{FitsTogether}
+use Rattle.campaign_law.specs.Cuts.{cuts, is_cut_since}
 use Rattle.campaign_law.specs.Session.{queued_of, session, session_at, has_ended, standing, standing_after, is_held_by, is_drop_of, closes, IsSeated, NoneRejoins, DropsNone, TakesAtMost}
 
 -- ---- how a session begins, lasts and is left
@@ -28,7 +29,20 @@ pub record IsLeft (drop : Bool) (after : SeatState) : Type 0 where
 abbrev pub LeaveCloses : Type 0
 LeaveCloses = (w : World) (seat : ℕ) (drop : Bool) → IsLeft drop (standing (seat_at (step w (Leave seat drop)) seat))
 
--- a Joined seat stays as it is, but by a Line or a Leave of its own
+-- a Joined seat becomes Free, and one in another state stays
+abbrev pub cut_seat : Seat → Seat
+cut_seat s = if is_joined s.book.state then freed_seat s else s
+
+-- all that a Cut changes, but for the history
+pub record IsCut (w : World) (seat : ℕ) : Type 0 where
+  pub scene : (step w (Cut seat)).scene ≡ w.scene
+  pub others : (p : ℕ) → (seat == p) ≡ false → seat_at (step w (Cut seat)) p ≡ seat_at w p
+  pub own : seat_at (step w (Cut seat)) seat ≡ option_map cut_seat (seat_at w seat)
+
+abbrev pub CutFrees : Type 0
+CutFrees = (w : World) (h : List Entry) (seat : ℕ) → IsOpening w → IsCut (replay w h) seat
+
+-- but by a Line, a Leave or a Cut of its own a Joined seat stays as it is
 abbrev pub JoinedSeatStays : Type 0
 JoinedSeatStays = (w : World) (e : Entry) (seat : ℕ) → is_joined (standing (seat_at w seat)) ≡ true → ((seat_of e == seat) ≡ true → closes e ≡ false) → standing (seat_at (step w e) seat) ≡ standing (seat_at w seat)
 
@@ -69,7 +83,7 @@ pub record IsLast (w : World) (h : List Entry) (place seat n : ℕ) (e : Entry) 
   pub there : slice_get h n ≡ Some e
   pub lasted : has_ended w (take n h) place seat ≡ false
   pub ended : has_ended w (take (suc n) h) place seat ≡ true
-  pub kept : is_drop_of seat e ≡ false
+  pub kept : is_drop_of seat (standing_after w (take n h) seat) e ≡ false
 
 -- how many of a seat's lines were taken once an entry took what it takes: a Closing seat is Free where these are all
 abbrev pub taken_by : World → Entry → ℕ → Seat → ℕ
@@ -84,6 +98,18 @@ EndedSessionWasTaken = (w : World) (h : List Entry) (place seat reader writer n 
 abbrev pub TakensBoundSession : Type 0
 TakensBoundSession = (w : World) (h : List Entry) (place seat reader writer count : ℕ) → IsOpening w → IsSeated w h place seat reader writer → TakesAtMost w h place seat count → DropsNone w h place seat → has_ended w h place seat ≡ true
     → length (session_at w h place seat) ≤ count
+
+-- ---- Cuts
+
+-- a Cut ends the session that it finds Joined
+abbrev pub CutEndsSession : Type 0
+CutEndsSession = (w : World) (h : List Entry) (place seat reader writer n : ℕ) (e : Entry) → IsOpening w → Lasts w h place seat n → slice_get h n ≡ Some e → cuts seat reader writer (standing_after w (take n h) seat) e ≡ true
+    → has_ended w (take (suc n) h) place seat ≡ true
+
+-- and while a session isn't cut, nothing but a Leave drops its lines
+abbrev pub UncutDropsByLeave : Type 0
+UncutDropsByLeave = (w : World) (h : List Entry) (place seat reader writer n : ℕ) (e : Entry) → IsSeated w h place seat reader writer → Lasts w h place seat n → slice_get h n ≡ Some e → is_cut_since w h place seat reader writer ≡ false
+    → is_drop_of seat (standing_after w (take n h) seat) e ≡ true → e ≡ Leave seat true
 
 -- ---- how many lines it has
 

@@ -26,6 +26,10 @@ pub enum Entry {
         seat: SeatNo,
         count: u64,
     },
+    /// A Joined seat's lines that wait are dropped, and it becomes Free. A seat in another state stays as it is.
+    Cut {
+        seat: SeatNo,
+    },
 }
 
 impl Entry {
@@ -41,6 +45,7 @@ impl Entry {
             Entry::Line { seat, .. } => *seat,
             Entry::Leave { seat, .. } => *seat,
             Entry::Taken { seat, .. } => *seat,
+            Entry::Cut { seat } => *seat,
         }
     }
 }

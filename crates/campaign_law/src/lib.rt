@@ -6,7 +6,7 @@
 ghost use Rattle.campaign_law.specs.Law.{SentIsMachine, AgreeingSendAlike, NoLineEndIsSent, RefusedChangesLittle};
 ghost use Rattle.campaign_law.specs.Client.{LinesTellViews, ClientHoldsView};
 ghost use Rattle.campaign_law.specs.Worlds.{OpeningWorldFits, WorldsFit, MadeTokensAreNew, OpeningSceneHasTables, ScenesHaveTables, OpeningWorldIsWritten, WorldsAreWritten};
-ghost use Rattle.campaign_law.specs.SessionLaws.{AcceptedJoinSeats, LeaveCloses, JoinedSeatStays, LastingSessionIsHeld, HeldSessionLasts, SessionGrows, EndedSessionStays, EndedSessionWasTaken, TakensBoundSession, EntryQueuesFew, QueuedIsBounded};
+ghost use Rattle.campaign_law.specs.SessionLaws.{AcceptedJoinSeats, LeaveCloses, CutFrees, CutEndsSession, UncutDropsByLeave, JoinedSeatStays, LastingSessionIsHeld, HeldSessionLasts, SessionGrows, EndedSessionStays, EndedSessionWasTaken, TakensBoundSession, EntryQueuesFew, QueuedIsBounded};
 
 mod answer;
 mod entry;
@@ -26,14 +26,15 @@ pub fn sent_is_machine()
 {}
 
 /// The laws of one session, over every opening world and every history. An accepted Join begins one; a Leave closes its
-/// seat, and nothing but a line or a Leave of its own moves a Joined seat. While a session lasts its passes hold the seat, and its
+/// seat, a Cut frees its Joined seat and changes nothing else, and nothing but a line, a Leave or a Cut of its own moves a Joined seat. While a session lasts its passes hold the seat, and its
 /// lines are the seat's present ones. In a longer history it has the same lines and further ones behind them, and once its
-/// seat was Free it doesn't change. Where it ends without a Leave that drops lines, the number of lines taken is
+/// seat was Free it doesn't change. Where it ends without a Leave or a Cut that drops lines, the number of lines taken is
 /// the number of its lines. An entry queues for a seat three lines at most, and none where it counts as no line of its own seat;
 /// so in a campaign of at most 33 seats no more than 1,622,016 lines are queued for a seat since its Join.
 pub fn session_laws()
     ensures begins { AcceptedJoinSeats }
     ensures leaves { LeaveCloses }
+    ensures cut { CutFrees }
     ensures joined { JoinedSeatStays }
     ensures held { LastingSessionIsHeld }
     ensures lasts { HeldSessionLasts }
@@ -43,6 +44,9 @@ pub fn session_laws()
 
     ensures taken { EndedSessionWasTaken }
     ensures bounded { TakensBoundSession }
+
+    ensures cut_ends { CutEndsSession }
+    ensures uncut { UncutDropsByLeave }
 
     ensures few { EntryQueuesFew }
     ensures queued { QueuedIsBounded }
