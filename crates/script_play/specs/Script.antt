@@ -1,15 +1,13 @@
 -- The entries of a script, and how it ends. This project's own rules.
-use Rattle.std.specs.Prelude.{◌≡◌, ℕ, zero, suc, ◌==◌, Bool, ◌||◌, nat_lt, List, [], ◌∷◌, ◌++◌, length, if◌then◌else◌, Option, Some, None, option_and_then, Result, Ok, Err}
+use Rattle.std.specs.Prelude.{◌≡◌, ℕ, zero, suc, ◌==◌, Bool, ◌||◌, nat_lt, List, [], ◌∷◌, ◌++◌, length, if◌then◌else◌, Option, Some, None, option_and_then}
 use Rattle.std.specs.List.{AllByRecursion}
 use Rattle.std.specs.Option.{option_map_or}
 use Rattle.line_io.specs.Lines.{lines_of}
 use Rattle.line_io.specs.Script.{script_parts}
 use Rattle.campaign_law.specs.declared.entry.Entry.{Entry}
 use Rattle.campaign_law.specs.declared.entry.Entry.TheVariants.{Join, Line, Taken}
-use Rattle.command_json.specs.declared.command.Command.{Command}
-use Rattle.command_json.specs.declared.command.Command.TheVariants.{Hello}
-use Rattle.command_json.specs.declared.command.LineFault.{LineFault}
 use Rattle.command_json.specs.Commands.{command_of}
+use Rattle.campaign_law.specs.Hellos.{hello_part}
 use Rattle.campaign_law.specs.Seat.{Seat, was_joined}
 use Rattle.campaign_law.specs.World.{World, seat_at, step, replay}
 
@@ -35,12 +33,6 @@ abbrev pub after_entries : List Entry → Script → Script
 after_entries entries script = record script { entries = entries ++ script.entries }
 
 -- ---- the entry of a line
-
--- the seat and key of a hello
-abbrev pub hello_part : Result Command LineFault → Option (ℕ × List ℕ)
-hello_part (Ok (Hello seat key)) = Some (seat, key)
-hello_part (Ok command) = None
-hello_part (Err fault) = None
 
 -- the key of a hello that names this seat
 abbrev pub key_for : ℕ → Option (ℕ × List ℕ) → Option (List ℕ)

@@ -4,7 +4,8 @@ ghost use Rattle.command_json.specs.Commands.{command_of};
 ghost use Rattle.campaign_law.specs.Law.{world_of};
 ghost use Rattle.campaign_law.specs.Seat.{was_joined};
 ghost use Rattle.campaign_law.specs.World.{seat_at};
-ghost use Rattle.script_play.specs.Script.{entry_of as entry_of_lem, entry_of_line as entry_of_line_lem, joining_key as joining_key_lem, hello_part, key_for};
+ghost use Rattle.script_play.specs.Script.{entry_of as entry_of_lem, entry_of_line as entry_of_line_lem, joining_key as joining_key_lem, key_for};
+ghost use Rattle.campaign_law.specs.Hellos.{hello_part};
 
 use campaign_core::Campaign;
 use campaign_law::Entry;

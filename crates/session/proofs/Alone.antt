@@ -5,9 +5,10 @@ use Rattle.std.proofs.lemmas.List.{take-append-drop, length-take, take-append-le
 use Rattle.std.proofs.lemmas.Option.{slice_get_within}
 use Rattle.std.proofs.lemmas.List.Elements.{All-contains, All-append, Contains-append_left, Contains-append_cases}
 use mathlib.Core.List.{IsPrefix}
-use Rattle.seats.specs.SeatState.{is_free}
+use Rattle.seats.specs.SeatState.{is_free, is_joined}
+use Rattle.seats.specs.declared.seat_state.SeatState.{SeatState}
 use Rattle.campaign_law.specs.declared.entry.Entry.{Entry}
-use Rattle.campaign_law.specs.declared.entry.Entry.TheVariants.{Join, Line, Leave, Taken}
+use Rattle.campaign_law.specs.declared.entry.Entry.TheVariants.{Join, Line, Leave, Taken, Cut}
 use Rattle.campaign_law.specs.Seat.{Seat}
 use Rattle.campaign_law.specs.Outcome.{seat_of}
 use Rattle.campaign_law.specs.World.{World, seat_at, replay}
@@ -73,6 +74,7 @@ more_counted w hold count larger h own le each = λ i d lt. more (get_or own i d
     more_of l (Line seat bytes) is = is
     more_of l (Leave seat drop) is = is
     more_of l (Taken seat taken) is = (is.0, omega (arith, is.1), is.2)
+    more_of l (Cut seat) is = is
 
     more : (k : ℕ) → StandsAt (IsTakenOf w hold count) h k → StandsAt (IsTakenOf w hold larger) h k
     more k at = record { entry = at.entry; there = at.there; lawful = more_of (take k h) at.entry at.lawful }
@@ -88,17 +90,23 @@ module _ (w : World) (h : List Entry) (own : List ℕ) (hold : Hold) (count : �
   takes_within k n behind open_ there = (own_at k (Taken hold.seat n) behind open_ there (eq-eqb hold.seat hold.seat refl)).1
 
   pub drops_nothing : DropsNone w h hold.place hold.seat
-  drops_nothing k e behind open_ there = by_drop e (own_at k e behind open_ there)
+  drops_nothing k e behind open_ there = by_drop (standing_after w (take k h) hold.seat) e (own_at k e behind open_ there)
     where
-      by_drop : (e : Entry) → (takes_from hold.seat e ≡ true → IsTakenOf w hold count (take k h) e) → is_drop_of hold.seat e ≡ false
-      by_drop (Join seat key reader writer) own = refl
-      by_drop (Line seat bytes) own = refl
-      by_drop (Taken seat taken) own = refl
-      by_drop (Leave seat drop) own = by_bool (drop && eqb seat hold.seat) refl
+      by_drop : (state : SeatState) (e : Entry) → (takes_from hold.seat e ≡ true → IsTakenOf w hold count (take k h) e) → is_drop_of hold.seat state e ≡ false
+      by_drop state (Join seat key reader writer) own = refl
+      by_drop state (Line seat bytes) own = refl
+      by_drop state (Taken seat taken) own = refl
+      by_drop state (Leave seat drop) own = by_bool (drop && eqb seat hold.seat) refl
         where
           by_bool : (b : Bool) → (drop && eqb seat hold.seat) ≡ b → b ≡ false
           by_bool false e = refl
           by_bool true e = absurd (own e)
+      by_drop state (Cut seat) own = by_seat (is_joined state) (eqb seat hold.seat) refl
+        where
+          by_seat : (joined b : Bool) → eqb seat hold.seat ≡ b → (joined && b) ≡ false
+          by_seat true false e = refl
+          by_seat false false e = refl
+          by_seat joined true e = absurd (own e)
 
 -- ---- what waits, and how it ends
 

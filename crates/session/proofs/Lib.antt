@@ -8,6 +8,7 @@ pub mod GoneSessions
 pub mod MachineLines
 pub mod ServedSessions
 pub mod Joinings
+pub mod LinesInHand
 pub mod SatSessions
 pub mod RefusalLines
 pub mod Servings

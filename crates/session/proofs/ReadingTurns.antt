@@ -8,7 +8,7 @@ use mathlib.Core.List.{IsPrefix}
 use Rattle.line_io.specs.Lines.{lines_of as text_lines}
 use Rattle.line_io.specs.Told.{WhereTold}
 use Rattle.campaign_law.specs.declared.entry.Entry.{Entry}
-use Rattle.campaign_law.specs.declared.entry.Entry.TheVariants.{Join, Line, Leave, Taken}
+use Rattle.campaign_law.specs.declared.entry.Entry.TheVariants.{Join, Line, Leave, Taken, Cut}
 use Rattle.campaign_law.specs.World.{World, seat_at, replay}
 use Rattle.turn_lock.specs.Pass.{PassState, HasTurn, known, places}
 use Rattle.turn_lock.proofs.Prefixes.{prefix_self, prefix_get, prefix_trans}
@@ -74,7 +74,7 @@ lines_behind : (h es : List Entry) → lines_at (h ++ es) (places (length h) es)
 lines_behind h [] = refl
 lines_behind h (e ∷ es) =
     let rest : lines_at (h ++ e ∷ es) (places (suc (length h)) es) ≡ lines_in es =
-        (λ i. lines_at (append_assoc h (e ∷ []) es (~ i)) (places (one_longer h e (~ i)) es)) ∙ lines_behind (h ++ e ∷ []) es in
+    (λ i. lines_at (append_assoc h (e ∷ []) es (~ i)) (places (one_longer h e (~ i)) es)) ∙ lines_behind (h ++ e ∷ []) es in
     ap (λ o. line_in o ++ lines_at (h ++ e ∷ es) (places (suc (length h)) es)) (get_here h e es) ∙ ap (λ l. line_in (Some e) ++ l) rest
 
 places-append : (n : ℕ) (xs ys : List Entry) → places n (xs ++ ys) ≡ places n xs ++ places (n + length xs) ys

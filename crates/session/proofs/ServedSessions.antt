@@ -6,7 +6,7 @@ use Rattle.std.proofs.lemmas.List.Elements.{All-cons, All-append, All-contains, 
 use Rattle.std.proofs.lemmas.Option.{slice_get_within}
 use mathlib.Core.List.{IsPrefix}
 use Rattle.campaign_law.specs.declared.entry.Entry.{Entry}
-use Rattle.campaign_law.specs.declared.entry.Entry.TheVariants.{Join, Line, Leave, Taken}
+use Rattle.campaign_law.specs.declared.entry.Entry.TheVariants.{Join, Line, Leave, Taken, Cut}
 use Rattle.campaign_law.specs.World.{World, seat_at, replay}
 use Rattle.campaign_law.specs.Law.{IsOpening, bytes_of}
 use Rattle.campaign_law.proofs.SessionFronts.{session_grows, session_stays, ended_stays}
@@ -45,12 +45,14 @@ readers_session w hold count l (Join seat key reader writer) is = is
 readers_session w hold count l (Line seat bytes) is = is
 readers_session w hold count l (Leave seat drop) is = (is.0, is.2)
 readers_session w hold count l (Taken seat taken) is = absurd is
+readers_session w hold count l (Cut seat) is = absurd is
 
 writers_session : (w : World) (hold : Hold) (count : ℕ) (l : List Entry) (e : Entry) → IsWriters w hold count l e → IsSessions w hold count l e
 writers_session w hold count l (Join seat key reader writer) is = is
 writers_session w hold count l (Line seat bytes) is = absurd is
 writers_session w hold count l (Leave seat drop) is = (is.0, is.2)
 writers_session w hold count l (Taken seat taken) is = is
+writers_session w hold count l (Cut seat) is = absurd is
 
 weaker : (rule other : List Entry → Entry → Type 0) (h : List Entry) (own : List ℕ) → ((l : List Entry) (e : Entry) → rule l e → other l e) → All (StandsAt rule h) own → All (StandsAt other h) own
 weaker rule other h own so each = λ i d lt. let at = each i d lt in record { entry = at.entry; there = at.there; lawful = so (take (get_or own i d) h) at.entry at.lawful }
@@ -65,12 +67,14 @@ takes_of_session seat (Leave s drop) takes = second drop (eqb s seat) takes
     second true b h = h
     second false b h = cc
 takes_of_session seat (Taken s count) takes = takes
+takes_of_session seat (Cut s) takes = takes
 
 readers_take_none : (w : World) (hold : Hold) (l : List Entry) (e : Entry) → IsReaders w hold l e → takes_from hold.seat e ≡ true → ⊥
 readers_take_none w hold l (Join seat key reader writer) is takes = is
 readers_take_none w hold l (Line seat bytes) is takes = cc
 readers_take_none w hold l (Leave seat drop) is takes = let z : false ≡ true = sym (ap (λ b. b && eqb seat hold.seat) is.1) ∙ takes in cc
 readers_take_none w hold l (Taken seat count) is takes = is
+readers_take_none w hold l (Cut seat) is takes = is
 
 front_take : {A : Type 0} (k : ℕ) (f h : List A) → IsPrefix f h → k ≤ length f → take k h ≡ take k f
 front_take k f h prefix le = ap (take k) (sym prefix.1) ∙ take-append-le k f prefix.0 le
@@ -192,7 +196,7 @@ module _ (w : World) (f h : List Entry) (hold : Hold) (own : List ℕ) (reader :
   cause_of (Stopped NoMemory) AllWritten closed stops = tt
 
   closed_longer : IsClosedBy w f hold own → IsClosedBy w h hold own
-  closed_longer closed = (closed.0, closed.1, elim closed.2 [ | inl bye ↦ inl (bye_longer closed.0 bye) | inr spent ↦ inr (spent_longer closed.0 (All-contains (λ k. k < length f) own closed.0 within closed.1) spent) ])
+  closed_longer closed = (closed.0, closed.1, elim closed.2 [ inl bye ↦ inl (bye_longer closed.0 bye) | inr spent ↦ inr (spent_longer closed.0 (All-contains (λ k. k < length f) own closed.0 within closed.1) spent) ])
 
 stands_within : (rule : List Entry → Entry → Type 0) (f : List Entry) (own : List ℕ) → All (StandsAt rule f) own → All (λ k. k < length f) own
 stands_within rule f own each = λ i d lt. let at = each i d lt in slice_get_within f (get_or own i d) at.entry at.there

@@ -6,7 +6,7 @@ use Rattle.std.proofs.lemmas.List.{append-nil, take-append-le, drop-append-le, t
 use Rattle.std.proofs.lemmas.List.Elements.{All-nil, All-cons, All-append}
 use mathlib.Core.List.{IsPrefix}
 use Rattle.campaign_law.specs.declared.entry.Entry.{Entry}
-use Rattle.campaign_law.specs.declared.entry.Entry.TheVariants.{Join, Line, Leave, Taken}
+use Rattle.campaign_law.specs.declared.entry.Entry.TheVariants.{Join, Line, Leave, Taken, Cut}
 use Rattle.campaign_law.specs.Seat.{Seat}
 use Rattle.campaign_law.specs.Session.{session, waiting}
 use Rattle.campaign_law.specs.World.{World, seat_at, replay}
@@ -234,6 +234,7 @@ writers_of w hold count l (Join seat key reader writer) is = is
 writers_of w hold count l (Line seat bytes) is = is
 writers_of w hold count l (Leave seat drop) is = absurd is
 writers_of w hold count l (Taken seat taken) is = is
+writers_of w hold count l (Cut seat) is = absurd is
 
 all_writers : (w : World) (hold : Hold) (count : ℕ) (h : List Entry) (own : List ℕ) → All (StandsAt (IsTakenOf w hold count) h) own → All (StandsAt (IsWriters w hold count) h) own
 all_writers w hold count h own each = λ i d lt. let at = each i d lt in record { entry = at.entry; there = at.there; lawful = writers_of w hold count (take (get_or own i d) h) at.entry at.lawful }

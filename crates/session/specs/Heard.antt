@@ -4,7 +4,7 @@ use mathlib.Core.List.{IsPrefix}
 use Rattle.line_io.specs.Lines.{lines_of as text_lines}
 use Rattle.line_io.specs.Told.{WhereTold}
 use Rattle.campaign_law.specs.declared.entry.Entry.{Entry}
-use Rattle.campaign_law.specs.declared.entry.Entry.TheVariants.{Join, Line, Leave, Taken}
+use Rattle.campaign_law.specs.declared.entry.Entry.TheVariants.{Join, Line, Leave, Taken, Cut}
 use Rattle.campaign_law.specs.World.{World, seat_at, replay}
 use Rattle.turn_lock.specs.Pass.{PassState}
 use Rattle.session.specs.declared.hold.Hold.{Hold}
@@ -24,6 +24,7 @@ IsReaders w hold before (Join seat key reader writer) = ⊥
 IsReaders w hold before (Line seat bytes) = (seat ≡ hold.seat) × (is_read w before hold ≡ true)
 IsReaders w hold before (Leave seat drop) = (seat ≡ hold.seat) × (drop ≡ false) × (is_held w before hold ≡ true)
 IsReaders w hold before (Taken seat count) = ⊥
+IsReaders w hold before (Cut seat) = ⊥
 
 abbrev pub line_in : Option Entry → List (List ℕ)
 line_in None = []
@@ -31,6 +32,7 @@ line_in (Some (Join seat key reader writer)) = []
 line_in (Some (Line seat bytes)) = bytes ∷ []
 line_in (Some (Leave seat drop)) = []
 line_in (Some (Taken seat count)) = []
+line_in (Some (Cut seat)) = []
 
 -- the bytes of the Lines at these places of a history
 abbrev pub lines_at : List Entry → List ℕ → List (List ℕ)
@@ -79,6 +81,7 @@ IsUnspent w hold before (Join seat key reader writer) = is_spent (seat_at (repla
 IsUnspent w hold before (Line seat bytes) = is_spent (seat_at (replay w (before ++ Line seat bytes ∷ [])) hold.seat) ≡ false
 IsUnspent w hold before (Leave seat drop) = Unit {0}
 IsUnspent w hold before (Taken seat count) = Unit {0}
+IsUnspent w hold before (Cut seat) = Unit {0}
 
 -- what closed the seat, where the reading half entered at these places: a bye, or the seat's last line, which may be the Join
 abbrev pub ClosedBy : ReadEnd → World → List Entry → Hold → List ℕ → Type 0

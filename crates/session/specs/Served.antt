@@ -7,7 +7,7 @@ use Rattle.line_io.specs.Reader.{bytes_to_come}
 use Rattle.line_io.specs.ReaderState.{ReaderState}
 use Rattle.line_io.specs.Told.{WhereTold}
 use Rattle.campaign_law.specs.declared.entry.Entry.{Entry}
-use Rattle.campaign_law.specs.declared.entry.Entry.TheVariants.{Join, Line, Leave, Taken}
+use Rattle.campaign_law.specs.declared.entry.Entry.TheVariants.{Join, Line, Leave, Taken, Cut}
 use Rattle.campaign_law.specs.World.{World}
 use Rattle.campaign_law.specs.Law.{bytes_of}
 use Rattle.campaign_law.specs.Player.{opening, trace, machine}
@@ -24,14 +24,15 @@ use Rattle.session.specs.Written.{HasLines}
 use Rattle.session.specs.Ends.{is_whole}
 use Rattle.session.specs.Among.{AreAmong}
 
--- a Line, a Leave or a Taken of the seat
+-- a Line, a Leave, a Taken or a Cut of the seat
 abbrev pub is_of_session : ℕ → Entry → Bool
 is_of_session seat (Join s key reader writer) = false
 is_of_session seat (Line s bytes) = s == seat
 is_of_session seat (Leave s drop) = s == seat
 is_of_session seat (Taken s count) = s == seat
+is_of_session seat (Cut s) = s == seat
 
--- From the session's Join until its seat is Free each Line, Leave and Taken of the seat is its own, and nobody joins the seat with its numbers again
+-- From the session's Join until its seat is Free each Line, Leave, Taken and Cut of the seat is its own, and nobody joins the seat with its numbers again
 pub record IsUndisturbed (w : World) (h : List Entry) (own : List ℕ) (hold : Hold) : Type 0 where
   pub own_alone : (k : ℕ) (e : Entry) → hold.place < k → is_over w (take k h) hold ≡ false → slice_get h k ≡ Some e → is_of_session hold.seat e ≡ true → Contains own k
   pub once : NoneRejoins h hold.place hold.seat hold.reader hold.writer
@@ -42,6 +43,7 @@ IsSessions w hold count before (Join seat key reader writer) = ⊥
 IsSessions w hold count before (Line seat bytes) = (seat ≡ hold.seat) × (is_read w before hold ≡ true)
 IsSessions w hold count before (Leave seat drop) = (seat ≡ hold.seat) × (is_held w before hold ≡ true)
 IsSessions w hold count before (Taken seat taken) = (seat ≡ hold.seat) × (taken ≤ count) × (is_held w before hold ≡ true)
+IsSessions w hold count before (Cut seat) = ⊥
 
 -- of the session's lines this text was written, and so many of them whole
 pub record IsFront (lines : List (List ℕ)) (count : ℕ) (text : List ℕ) : Type 0 where

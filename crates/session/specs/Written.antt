@@ -3,7 +3,7 @@ use Rattle.std.specs.Prelude.{◌≡◌, ◌<◌, ◌≤◌, ◌==◌, ℕ, true
 use Rattle.std.specs.Io.KnownBytes.{append_known}
 use mathlib.Core.List.{IsPrefix}
 use Rattle.campaign_law.specs.declared.entry.Entry.{Entry}
-use Rattle.campaign_law.specs.declared.entry.Entry.TheVariants.{Join, Line, Leave, Taken}
+use Rattle.campaign_law.specs.declared.entry.Entry.TheVariants.{Join, Line, Leave, Taken, Cut}
 use Rattle.campaign_law.specs.World.{World}
 use Rattle.campaign_law.specs.Law.{bytes_of}
 use Rattle.session.specs.declared.hold.Hold.{Hold}
@@ -19,6 +19,7 @@ IsWriters w hold count before (Join seat key reader writer) = ⊥
 IsWriters w hold count before (Line seat bytes) = ⊥
 IsWriters w hold count before (Leave seat drop) = (seat ≡ hold.seat) × (drop ≡ true) × (is_held w before hold ≡ true)
 IsWriters w hold count before (Taken seat taken) = (seat ≡ hold.seat) × (taken ≤ count) × (is_held w before hold ≡ true)
+IsWriters w hold count before (Cut seat) = ⊥
 
 -- a Taken of no more lines than these, while its passes hold the seat
 abbrev pub IsTakenOf : World → Hold → ℕ → List Entry → Entry → Type 0
@@ -26,6 +27,7 @@ IsTakenOf w hold count before (Join seat key reader writer) = ⊥
 IsTakenOf w hold count before (Line seat bytes) = ⊥
 IsTakenOf w hold count before (Leave seat drop) = ⊥
 IsTakenOf w hold count before (Taken seat taken) = (seat ≡ hold.seat) × (taken ≤ count) × (is_held w before hold ≡ true)
+IsTakenOf w hold count before (Cut seat) = ⊥
 
 -- how many LFs a text has
 abbrev pub line_ends : List ℕ → ℕ

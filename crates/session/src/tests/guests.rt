@@ -14,26 +14,29 @@ use std::test::Fail;
 use std::thread::Threads;
 use turn_lock::{Hall, Pass};
 
-// A session's input, whether its first write fails, what it writes, and how it ends.
+// A session's input, the number of the read that fails, how many bytes its output takes, what it writes, and how it ends.
 #[derive(Clone, Copy)]
 struct Guest<'a> {
     input: &'a str,
-    write_fails: bool,
+    read_fails: Option<u64>,
+    room: usize,
     output: &'a str,
     ended: Ended,
 }
 
-const GUESTS: [Guest<'static>; 7] = [
+const GUESTS: [Guest<'static>; 9] = [
     Guest {
         input: r#"{"do":"look"}"#,
-        write_fails: false,
+        read_fails: None,
+        room: 1_000,
         output: r#"{"n":0,"no":27,"refused":"NoHello"}
 "#,
         ended: Ended::Refused(JoinRefusal::NoHello),
     },
     Guest {
         input: "",
-        write_fails: false,
+        read_fails: None,
+        room: 1_000,
         output: "",
         ended: Ended::Left,
     },
@@ -41,7 +44,8 @@ const GUESTS: [Guest<'static>; 7] = [
         input: r#"{"do":"hello","seat":1,"key":"a"}
 {"do":"bye"}
 "#,
-        write_fails: false,
+        read_fails: None,
+        room: 1_000,
         output: r#"{"n":1,"ok":"hello","seat":1,"seats":3}
 {"full":{"lights":{},"maps":[],"sights":{},"tokens":[]}}
 {"n":2,"ok":"bye"}
@@ -52,14 +56,16 @@ const GUESTS: [Guest<'static>; 7] = [
         input: r#"{"do":"hello","seat":1,"key":"x"}
 {"do":"bye"}
 "#,
-        write_fails: false,
+        read_fails: None,
+        room: 1_000,
         output: r#"{"n":0,"no":24,"refused":"BadKey"}
 "#,
         ended: Ended::Refused(JoinRefusal::BadKey),
     },
     Guest {
         input: r#"{"do":"hello","seat":1,"key":"a"}"#,
-        write_fails: false,
+        read_fails: None,
+        room: 1_000,
         output: r#"{"n":3,"ok":"hello","seat":1,"seats":3}
 {"full":{"lights":{},"maps":[],"sights":{},"tokens":[]}}
 "#,
@@ -68,21 +74,49 @@ const GUESTS: [Guest<'static>; 7] = [
     Guest {
         input: r#"{"do":"hello","seat":1,"key":"a"}
 "#,
-        write_fails: true,
+        read_fails: None,
+        room: 0,
         output: "",
         ended: Ended::WriteFault,
     },
-    // The seat was left, though nothing could be written.
+    // The seat was left, though nothing could be written. Its lines come together.
     Guest {
         input: r#"{"do":"hello","seat":1,"key":"a"}
+{"do":"look"}
 {"do":"bye"}
 "#,
-        write_fails: false,
+        read_fails: None,
+        room: 1_000,
         output: r#"{"n":5,"ok":"hello","seat":1,"seats":3}
 {"full":{"lights":{},"maps":[],"sights":{},"tokens":[]}}
-{"n":6,"ok":"bye"}
+{"n":6,"ok":"look"}
+{"full":{"lights":{},"maps":[],"sights":{},"tokens":[]}}
+{"n":7,"ok":"bye"}
 "#,
         ended: Ended::Left,
+    },
+    // The output takes the two lines of the hello, and then fails.
+    Guest {
+        input: r#"{"do":"hello","seat":1,"key":"a"}
+{"do":"look"}
+"#,
+        read_fails: None,
+        room: 97,
+        output: r#"{"n":8,"ok":"hello","seat":1,"seats":3}
+{"full":{"lights":{},"maps":[],"sights":{},"tokens":[]}}
+"#,
+        ended: Ended::WriteFault,
+    },
+    // The seat is free again. The input fails behind the hello.
+    Guest {
+        input: r#"{"do":"hello","seat":1,"key":"a"}
+"#,
+        read_fails: Some(1),
+        room: 1_000,
+        output: r#"{"n":10,"ok":"hello","seat":1,"seats":3}
+{"full":{"lights":{},"maps":[],"sights":{},"tokens":[]}}
+"#,
+        ended: Ended::ReadFault,
     },
 ];
 
@@ -101,12 +135,12 @@ fn seated<R: Threads + Wait + Sync>(
     ensures { IfOk result (λ r. IsPassOf hall.now r.0.reader × IsPassOf hall.now r.0.writer) }
 {
     let bytes = LineText::copy(alloc, guest.input.as_bytes())?;
-    let mut input = MemSource::new(alloc, bytes, 5, Vec::new(alloc));
     let mut failing = Vec::new(alloc);
-    if guest.write_fails {
-        failing.push(0)?;
+    if let Some(call) = guest.read_fails {
+        failing.push(call)?;
     }
-    let mut output = MemSink::new(alloc, 1_000, 64, failing)?;
+    let mut input = MemSource::new(alloc, bytes, 64, failing);
+    let mut output = MemSink::new(alloc, guest.room, 64, Vec::new(alloc))?;
     let sat = serve_session(rt, alloc, hall, reader, writer, &mut input, &mut output);
     Ok((sat, output))
 }
