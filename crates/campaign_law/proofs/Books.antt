@@ -21,7 +21,7 @@ use Rattle.command_effects.specs.Tags.{tag_made, using_tag}
 use Rattle.player_view.specs.Asked.{Asked}
 use Rattle.campaign_law.specs.declared.entry.Entry.{Entry}
 use Rattle.campaign_law.specs.declared.entry.Entry.TheVariants.{Join, Line, Leave, Taken, Cut}
-use Rattle.campaign_law.specs.Outcome.{Outcome, nothing, join_outcome, present_outcome, read_outcome, broken_rule, called_by, accepted_with, decided, refused_direct, book_done, rolling, dice_in, is_bye}
+use Rattle.campaign_law.specs.Outcome.{Report, Outcome, nothing, join_outcome, present_outcome, read_outcome, broken_rule, called_by, accepted_with, decided, refused_direct, book_done, rolling, dice_in, is_bye}
 
 -- the second is the same seat's, with the same key, and has the tags of the first
 pub record Follows (b c : Book) : Type 0 where
@@ -89,29 +89,29 @@ made_used (Make made map place name) tag b h = let e : made ≡ tag = cc in subs
 made_used (Token made map place name size layer) tag b h = let e : made ≡ tag = cc in subst (λ t. tag_used (b.tags ++ made ∷ []) t ≡ true) e (last_used b.tags made)
 made_used c tag b h = cc
 
-accepted_keeps : (steps seat : ℕ) (b : Book) (c : Command) (run : Called) → KeepsBook b (accepted_with steps seat b c run)
-accepted_keeps steps seat b c run =
+accepted_keeps : (report : Report) (seat : ℕ) (b : Book) (c : Command) (run : Called) → KeepsBook b (accepted_with report seat b c run)
+accepted_keeps report seat b c run =
     let drawn : Book = drawing run (counted b) in record {
       book = then_follows b (counted b) _ (counted_follows b) (then_follows (counted b) drawn _ (drawing_follows run (counted b)) (done_follows c drawn));
       made = λ d tag is made. let e : c ≡ d = cc in made_used c tag drawn (ap tag_made e ∙ made);
       done = λ d is. (book_done c drawn, refl);
     }
 
-decided_keeps : (asked : Asked) (steps seat : ℕ) (b : Book) (c : Command) (r : Option Refusal) → KeepsBook b (decided asked steps seat b c r)
-decided_keeps asked steps seat b c None = accepted_keeps steps seat b c (called_by asked seat b c)
-decided_keeps asked steps seat b c (Some r) = record { book = counted_follows b; made = λ d tag is made. absurd cc; done = λ d is. absurd cc }
+decided_keeps : (asked : Asked) (report : Report) (seat : ℕ) (b : Book) (c : Command) (r : Option Refusal) → KeepsBook b (decided asked report seat b c r)
+decided_keeps asked report seat b c None = accepted_keeps report seat b c (called_by asked seat b c)
+decided_keeps asked report seat b c (Some r) = record { book = counted_follows b; made = λ d tag is made. absurd cc; done = λ d is. absurd cc }
 
-read_keeps : (asked : Asked) (steps seat : ℕ) (b : Book) (r : Result Command LineFault) → KeepsBook b (read_outcome asked steps seat b r)
-read_keeps asked steps seat b (Err fault) = record { book = counted_follows b; made = λ d tag is made. absurd cc; done = λ d is. absurd cc }
-read_keeps asked steps seat b (Ok c) = decided_keeps asked steps seat b c (broken_rule asked seat b c)
+read_keeps : (asked : Asked) (report : Report) (seat : ℕ) (b : Book) (r : Result Command LineFault) → KeepsBook b (read_outcome asked report seat b r)
+read_keeps asked report seat b (Err fault) = record { book = counted_follows b; made = λ d tag is made. absurd cc; done = λ d is. absurd cc }
+read_keeps asked report seat b (Ok c) = decided_keeps asked report seat b c (broken_rule asked seat b c)
 
 join_keeps : (asked : Asked) (b : Book) (reader writer : ℕ) (r : Option JoinRefusal) → KeepsBook b (join_outcome asked b reader writer r)
 join_keeps asked b reader writer (Some r) = record { book = tt; made = λ d tag is made. tt; done = λ d is. absurd cc }
 join_keeps asked b reader writer None = record { book = record { seat = refl; key = refl; tags = λ tag h. h }; made = λ d tag is made. absurd cc; done = λ d is. absurd cc }
 
-line_keeps : (asked : Asked) (steps seat : ℕ) (b : Book) (bytes : List ℕ) (j : Bool) → KeepsBook b (cond j (read_outcome asked steps seat b (command_of bytes (eqb seat 0))) (refused_direct 0 NoHello))
-line_keeps asked steps seat b bytes true = read_keeps asked steps seat b (command_of bytes (eqb seat 0))
-line_keeps asked steps seat b bytes false = record { book = tt; made = λ d tag is made. tt; done = λ d is. absurd cc }
+line_keeps : (asked : Asked) (report : Report) (seat : ℕ) (b : Book) (bytes : List ℕ) (j : Bool) → KeepsBook b (cond j (read_outcome asked report seat b (command_of bytes (eqb seat 0))) (refused_direct 0 NoHello))
+line_keeps asked report seat b bytes true = read_keeps asked report seat b (command_of bytes (eqb seat 0))
+line_keeps asked report seat b bytes false = record { book = tt; made = λ d tag is made. tt; done = λ d is. absurd cc }
 
 leave_follows : (drop : Bool) (b : Book) → Follows b (cond drop (freed b) (left b))
 leave_follows true b = record { seat = refl; key = refl; tags = λ tag h. h }
@@ -121,9 +121,9 @@ cut_keeps : (b : Book) (j : Bool) → KeepsBook b (cond j (record nothing { book
 cut_keeps b true = record { book = record { seat = refl; key = refl; tags = λ tag h. h }; made = λ d tag is made. absurd cc; done = λ d is. absurd cc }
 cut_keeps b false = record { book = tt; made = λ d tag is made. tt; done = λ d is. absurd cc }
 
-pub present_keeps : (asked : Asked) (steps : ℕ) (b : Book) (e : Entry) → KeepsBook b (present_outcome asked steps b e)
-present_keeps asked steps b (Join seat key reader writer) = join_keeps asked b reader writer (join_refusal b key)
-present_keeps asked steps b (Line seat bytes) = line_keeps asked steps seat b bytes (is_joined b.state)
-present_keeps asked steps b (Leave seat drop) = record { book = leave_follows drop b; made = λ d tag is made. absurd cc; done = λ d is. absurd cc }
-present_keeps asked steps b (Taken seat count) = record { book = tt; made = λ d tag is made. tt; done = λ d is. absurd cc }
-present_keeps asked steps b (Cut seat) = cut_keeps b (is_joined b.state)
+pub present_keeps : (asked : Asked) (report : Report) (b : Book) (e : Entry) → KeepsBook b (present_outcome asked report b e)
+present_keeps asked report b (Join seat key reader writer) = join_keeps asked b reader writer (join_refusal b key)
+present_keeps asked report b (Line seat bytes) = line_keeps asked report seat b bytes (is_joined b.state)
+present_keeps asked report b (Leave seat drop) = record { book = leave_follows drop b; made = λ d tag is made. absurd cc; done = λ d is. absurd cc }
+present_keeps asked report b (Taken seat count) = record { book = tt; made = λ d tag is made. tt; done = λ d is. absurd cc }
+present_keeps asked report b (Cut seat) = cut_keeps b (is_joined b.state)

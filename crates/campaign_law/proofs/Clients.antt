@@ -13,7 +13,7 @@ use Rattle.campaign_law.specs.declared.entry.Entry.{Entry}
 use Rattle.campaign_law.specs.Views.{change_line}
 use Rattle.campaign_law.specs.Seat.{Seat, was_joined, settled}
 use Rattle.campaign_law.specs.Outcome.{Outcome, seat_of}
-use Rattle.campaign_law.specs.World.{World, seat_at, asked_of, steps_of, outcome_of, scene_after, is_present, view_lines, some_to_list, queued_lines, changed, step}
+use Rattle.campaign_law.specs.World.{World, seat_at, asked_of, report_of, outcome_of, scene_after, is_present, view_lines, some_to_list, queued_lines, changed, step}
 use Rattle.campaign_law.specs.Client.{change, told_line, told_by, told_of, held_after, reply_of, LinesTellViews}
 use Rattle.campaign_law.proofs.Outcomes.{IsFit}
 use Rattle.campaign_law.proofs.Sessions.{seat_at-after}
@@ -82,14 +82,14 @@ present_before seat false (Some s) o v v' fit joined = ap (λ j. j || false) (jo
 
 module _ (w : World) (e : Entry) (seat : ℕ) where
   fit : eqb (seat_of e) seat ≡ true → IfSome (seat_at w seat) (λ s. IsFit s (outcome_of w e))
-  fit own = subst (λ p. IfSome (seat_at w p) (λ s. IsFit s (outcome_of w e))) (eqb-true (seat_of e) seat own) (fits_any (asked_of w (seat_of e)) (steps_of w e) (seat_at w (seat_of e)) e)
+  fit own = subst (λ p. IfSome (seat_at w p) (λ s. IsFit s (outcome_of w e))) (eqb-true (seat_of e) seat own) (fits_any (asked_of w (seat_of e)) (report_of w e) (seat_at w (seat_of e)) e)
 
   -- who joins is due the whole view
   joins_full : eqb (seat_of e) seat ≡ true → (outcome_of w e).joins ≡ true → (outcome_of w e).full ≡ true
-  joins_full own joins = by (seat_at w (seat_of e)) refl (fits_any (asked_of w (seat_of e)) (steps_of w e) (seat_at w (seat_of e)) e)
+  joins_full own joins = by (seat_at w (seat_of e)) refl (fits_any (asked_of w (seat_of e)) (report_of w e) (seat_at w (seat_of e)) e)
     where
       by : (before : Option Seat) → seat_at w (seat_of e) ≡ before → IfSome before (λ s. IsFit s (outcome_of w e)) → (outcome_of w e).full ≡ true
-      by None none fits = let z : true ≡ false = sym joins ∙ (absent_any (asked_of w (seat_of e)) (steps_of w e) (seat_at w (seat_of e)) e none).0 in cc
+      by None none fits = let z : true ≡ false = sym joins ∙ (absent_any (asked_of w (seat_of e)) (report_of w e) (seat_at w (seat_of e)) e none).0 in cc
       by (Some s) some fits = fits.joins joins
 
   pub present_if_joined : was_joined (seat_at (step w e) seat) ≡ true → is_present (eqb (seat_of e) seat) (seat_at w seat) (outcome_of w e) ≡ true

@@ -23,7 +23,7 @@ use Rattle.player_view.specs.Asked.{Asked}
 use Rattle.campaign_law.specs.declared.entry.Entry.{Entry}
 use Rattle.campaign_law.specs.declared.entry.Entry.TheVariants.{Join, Line, Leave, Taken, Cut}
 use Rattle.campaign_law.specs.Seat.{Seat}
-use Rattle.campaign_law.specs.Outcome.{Outcome, nothing, join_outcome, refused_line, refused_direct, accepted_with, called_by, broken_rule, decided, read_outcome, outcome_at, book_done, is_bye, rolling, dice_in}
+use Rattle.campaign_law.specs.Outcome.{Report, Outcome, nothing, join_outcome, refused_line, refused_direct, accepted_with, called_by, broken_rule, decided, read_outcome, outcome_at, book_done, is_bye, rolling, dice_in}
 use Rattle.campaign_law.specs.World.{queued_reply}
 
 -- a book between entries
@@ -119,20 +119,20 @@ limit_kept b c limit keeps = record {
 counts_line : (b next : Book) (o : Outcome) → b.lines < line_limit → o.book ≡ Some next → KeepsLines (counted b) next → Counts b o
 counts_line b next o few is keeps = counts next is keeps.lines (limit_kept (counted b) next (counted_limit b few) keeps)
 
-decided_counts : (asked : Asked) (steps seat : ℕ) (b : Book) (c : Command) (r : Option Refusal) → b.lines < line_limit → Counts b (decided asked steps seat b c r)
-decided_counts asked steps seat b c None few =
+decided_counts : (asked : Asked) (report : Report) (seat : ℕ) (b : Book) (c : Command) (r : Option Refusal) → b.lines < line_limit → Counts b (decided asked report seat b c r)
+decided_counts asked report seat b c None few =
     let run : Called = called_by asked seat b c in
     let drawn : Book = drawing run (counted b) in
-    counts_line b (book_done c drawn) (accepted_with steps seat b c run) few refl (then_lines (counted b) drawn (book_done c drawn) (drawing_lines run (counted b)) (done_lines c drawn))
-decided_counts asked steps seat b c (Some r) few = counts_line b (counted b) (refused_line b r) few refl (same_lines (counted b))
+    counts_line b (book_done c drawn) (accepted_with report seat b c run) few refl (then_lines (counted b) drawn (book_done c drawn) (drawing_lines run (counted b)) (done_lines c drawn))
+decided_counts asked report seat b c (Some r) few = counts_line b (counted b) (refused_line b r) few refl (same_lines (counted b))
 
-read_counts : (asked : Asked) (steps seat : ℕ) (b : Book) (r : Result Command LineFault) → b.lines < line_limit → Counts b (read_outcome asked steps seat b r)
-read_counts asked steps seat b (Err fault) few = counts_line b (counted b) (read_outcome asked steps seat b (Err fault)) few refl (same_lines (counted b))
-read_counts asked steps seat b (Ok c) few = decided_counts asked steps seat b c (broken_rule asked seat b c) few
+read_counts : (asked : Asked) (report : Report) (seat : ℕ) (b : Book) (r : Result Command LineFault) → b.lines < line_limit → Counts b (read_outcome asked report seat b r)
+read_counts asked report seat b (Err fault) few = counts_line b (counted b) (read_outcome asked report seat b (Err fault)) few refl (same_lines (counted b))
+read_counts asked report seat b (Ok c) few = decided_counts asked report seat b c (broken_rule asked seat b c) few
 
-line_counts : (asked : Asked) (steps seat : ℕ) (b : Book) (r : Result Command LineFault) (j : Bool) → is_joined b.state ≡ j → InLimit b → Counts b (cond j (read_outcome asked steps seat b r) (refused_direct 0 NoHello))
-line_counts asked steps seat b r true is limit = read_counts asked steps seat b r (limit.more is)
-line_counts asked steps seat b r false is limit = still (record { reply = refl; messages = refl; full = refl; done = refl }) tt
+line_counts : (asked : Asked) (report : Report) (seat : ℕ) (b : Book) (r : Result Command LineFault) (j : Bool) → is_joined b.state ≡ j → InLimit b → Counts b (cond j (read_outcome asked report seat b r) (refused_direct 0 NoHello))
+line_counts asked report seat b r true is limit = read_counts asked report seat b r (limit.more is)
+line_counts asked report seat b r false is limit = still (record { reply = refl; messages = refl; full = refl; done = refl }) tt
 
 -- a Join that isn't refused finds lines left
 lines_left : (b : Book) (key : List ℕ) → InLimit b → join_refusal b key ≡ None → b.lines < line_limit
@@ -160,17 +160,17 @@ cut_counts : (b : Book) (j : Bool) → Counts b (cond j (record nothing { book =
 cut_counts b true = still (record { reply = refl; messages = refl; full = refl; done = refl }) (freed_lines b)
 cut_counts b false = still (record { reply = refl; messages = refl; full = refl; done = refl }) tt
 
-pub outcome_counts : (asked : Asked) (steps : ℕ) (s : Seat) (e : Entry) → InLimit s.book → Counts s.book (outcome_at asked steps (Some s) e)
-outcome_counts asked steps s (Join seat key reader writer) limit = join_counts asked s.book key reader writer (join_refusal s.book key) limit refl
-outcome_counts asked steps s (Line seat bytes) limit = line_counts asked steps seat s.book (command_of bytes (eqb seat 0)) (is_joined s.book.state) refl limit
-outcome_counts asked steps s (Leave seat drop) limit = still (record { reply = refl; messages = refl; full = refl; done = refl }) (leave_lines drop s.book)
-outcome_counts asked steps s (Taken seat count) limit = still (record { reply = refl; messages = refl; full = refl; done = refl }) tt
-outcome_counts asked steps s (Cut seat) limit = cut_counts s.book (is_joined s.book.state)
+pub outcome_counts : (asked : Asked) (report : Report) (s : Seat) (e : Entry) → InLimit s.book → Counts s.book (outcome_at asked report (Some s) e)
+outcome_counts asked report s (Join seat key reader writer) limit = join_counts asked s.book key reader writer (join_refusal s.book key) limit refl
+outcome_counts asked report s (Line seat bytes) limit = line_counts asked report seat s.book (command_of bytes (eqb seat 0)) (is_joined s.book.state) refl limit
+outcome_counts asked report s (Leave seat drop) limit = still (record { reply = refl; messages = refl; full = refl; done = refl }) (leave_lines drop s.book)
+outcome_counts asked report s (Taken seat count) limit = still (record { reply = refl; messages = refl; full = refl; done = refl }) tt
+outcome_counts asked report s (Cut seat) limit = cut_counts s.book (is_joined s.book.state)
 
 -- a seat that isn't there says nothing
-pub absent_quiet : (asked : Asked) (steps : ℕ) (e : Entry) → IsQuiet (outcome_at asked steps None e)
-absent_quiet asked steps (Join seat key reader writer) = record { reply = refl; messages = refl; full = refl; done = refl }
-absent_quiet asked steps (Line seat bytes) = record { reply = refl; messages = refl; full = refl; done = refl }
-absent_quiet asked steps (Leave seat drop) = record { reply = refl; messages = refl; full = refl; done = refl }
-absent_quiet asked steps (Taken seat count) = record { reply = refl; messages = refl; full = refl; done = refl }
-absent_quiet asked steps (Cut seat) = record { reply = refl; messages = refl; full = refl; done = refl }
+pub absent_quiet : (asked : Asked) (report : Report) (e : Entry) → IsQuiet (outcome_at asked report None e)
+absent_quiet asked report (Join seat key reader writer) = record { reply = refl; messages = refl; full = refl; done = refl }
+absent_quiet asked report (Line seat bytes) = record { reply = refl; messages = refl; full = refl; done = refl }
+absent_quiet asked report (Leave seat drop) = record { reply = refl; messages = refl; full = refl; done = refl }
+absent_quiet asked report (Taken seat count) = record { reply = refl; messages = refl; full = refl; done = refl }
+absent_quiet asked report (Cut seat) = record { reply = refl; messages = refl; full = refl; done = refl }

@@ -8,8 +8,8 @@ use Rattle.player_view.specs.View.{view_of}
 use Rattle.player_view.specs.Asked.{Asked}
 use Rattle.campaign_law.specs.declared.entry.Entry.TheVariants.{Cut}
 use Rattle.campaign_law.specs.Seat.{Seat, freed_seat, settled}
-use Rattle.campaign_law.specs.Outcome.{Outcome, nothing, outcome_at}
-use Rattle.campaign_law.specs.World.{World, seat_at, asked_of, steps_of, scene_after, changed, seat_after, replay}
+use Rattle.campaign_law.specs.Outcome.{Report, Outcome, nothing, outcome_at}
+use Rattle.campaign_law.specs.World.{World, seat_at, asked_of, report_of, scene_after, changed, seat_after, replay}
 use Rattle.campaign_law.specs.SessionLaws.{cut_seat, CutFrees}
 use Rattle.campaign_law.proofs.Counts.{IsQuiet}
 use Rattle.campaign_law.proofs.Seats.{IsSound}
@@ -21,9 +21,9 @@ cut_quiet : (b : Book) (j : Bool) → IsQuiet (cond j (record nothing { book = S
 cut_quiet b true = record { reply = refl; messages = refl; full = refl; done = refl }
 cut_quiet b false = record { reply = refl; messages = refl; full = refl; done = refl }
 
-says_nothing : (asked : Asked) (steps seat : ℕ) (before : Option Seat) → IsQuiet (outcome_at asked steps before (Cut seat))
-says_nothing asked steps seat None = record { reply = refl; messages = refl; full = refl; done = refl }
-says_nothing asked steps seat (Some s) = cut_quiet s.book (is_joined s.book.state)
+says_nothing : (asked : Asked) (report : Report) (seat : ℕ) (before : Option Seat) → IsQuiet (outcome_at asked report before (Cut seat))
+says_nothing asked report seat None = record { reply = refl; messages = refl; full = refl; done = refl }
+says_nothing asked report seat (Some s) = cut_quiet s.book (is_joined s.book.state)
 
 -- the seat itself
 cut_leaves : (seat : ℕ) (s : Seat) (scene : Scene) (j : Bool) → IsSound s → after_quiet seat true (cond j (record nothing { book = Some (freed s.book) }) nothing) (view_of scene seat) s ≡ cond j (freed_seat s) s
@@ -39,13 +39,13 @@ own_at : (w : World) (seat : ℕ) (before : Option Seat) → scene_after w (Cut 
 own_at w seat None stays at sound = refl
 own_at w seat (Some s) stays at sound =
     ap Some (after_at w (Cut seat) seat true s stays (eqb-same seat)
-    ∙ ap (λ b. after_quiet seat true (outcome_at (asked_of w seat) (steps_of w (Cut seat)) b (Cut seat)) (view_of w.scene seat) s) at
+    ∙ ap (λ b. after_quiet seat true (outcome_at (asked_of w seat) (report_of w (Cut seat)) b (Cut seat)) (view_of w.scene seat) s) at
     ∙ cut_leaves seat s w.scene (is_joined s.book.state) sound)
 
 pub cut_frees : CutFrees
 cut_frees w h seat fresh =
     let now : World = replay w h in
-    let quiet = says_nothing (asked_of now seat) (steps_of now (Cut seat)) seat (seat_at now seat) in
+    let quiet = says_nothing (asked_of now seat) (report_of now (Cut seat)) seat (seat_at now seat) in
     let stays : scene_after now (Cut seat) ≡ now.scene = scene_stays now (Cut seat) (replay_settled w h fresh.scene) quiet.done in
     record {
       scene = stays;

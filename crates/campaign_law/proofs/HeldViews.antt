@@ -21,7 +21,7 @@ use Rattle.command_effects.proofs.Players.{players_kept}
 use Rattle.campaign_law.specs.declared.entry.Entry.{Entry}
 use Rattle.campaign_law.specs.Seat.{Seat, IsFreshSeat, was_joined}
 use Rattle.campaign_law.specs.Outcome.{seat_of}
-use Rattle.campaign_law.specs.World.{World, seat_at, asked_of, steps_of, outcome_of, made_by, scene_after, is_present, step, replay}
+use Rattle.campaign_law.specs.World.{World, seat_at, asked_of, steps_of, report_of, outcome_of, made_by, scene_after, is_present, step, replay}
 use Rattle.campaign_law.specs.Law.{IsOpening}
 use Rattle.campaign_law.specs.Worlds.{FitsTogether}
 use Rattle.campaign_law.specs.Client.{told_of, held_after, held_from, ClientHoldsView}
@@ -40,7 +40,7 @@ settling_follows s = record { sizes = λ name size there. there; lights = λ nam
 follows_by : (w : World) (e : Entry) (o : Option Command) → (outcome_of w e).done ≡ o → Follows w.scene (settled (scene_by (steps_of w e) (outcome_of w e).intents (seat_of e) w.scene o))
 unfolding scene_by
 follows_by w e None none = settling_follows w.scene
-follows_by w e (Some c) done = scenes_follow (steps_of w e) (outcome_of w e).intents (seat_of e) w.scene c (allowed w e (steps_of w e) (outcome_of w e) c refl done)
+follows_by w e (Some c) done = scenes_follow (steps_of w e) (outcome_of w e).intents (seat_of e) w.scene c (allowed w e (report_of w e) (outcome_of w e) c refl done)
 
 scene_follows : (w : World) (e : Entry) → Follows w.scene (scene_after w e)
 unfolding scene_after
@@ -58,7 +58,7 @@ present_plays w e seat fits present = by (seat_at w seat) refl present
     absent false other none joins = absurd cc
     absent true own none joins =
         let there : seat_at w (seat_of e) ≡ None = subst (λ p. seat_at w p ≡ None) (sym (eqb-true (seat_of e) seat own)) none in
-        let z : true ≡ false = sym joins ∙ (absent_any (asked_of w (seat_of e)) (steps_of w e) (seat_at w (seat_of e)) e there).0 in absurd cc
+        let z : true ≡ false = sym joins ∙ (absent_any (asked_of w (seat_of e)) (report_of w e) (seat_at w (seat_of e)) e there).0 in absurd cc
 
     by : (before : Option Seat) → seat_at w seat ≡ before → is_present (eqb (seat_of e) seat) before (outcome_of w e) ≡ true → seat ≤ w.scene.fog.players
     by None none joins = absent (eqb (seat_of e) seat) refl none joins

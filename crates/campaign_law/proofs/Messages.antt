@@ -19,7 +19,7 @@ use Rattle.campaign_law.specs.declared.entry.Entry.{Entry}
 use Rattle.campaign_law.specs.declared.entry.Entry.TheVariants.{Join, Line, Leave, Taken, Cut}
 use Rattle.campaign_law.specs.Messages.{Message, message_by, texts_in, text_message, text_messages, run_messages}
 use Rattle.campaign_law.specs.Seat.{Seat}
-use Rattle.campaign_law.specs.Outcome.{Outcome, nothing, join_outcome, said, called_by, accepted_with, broken_rule, decided, read_outcome, refused_direct, outcome_at}
+use Rattle.campaign_law.specs.Outcome.{Report, Outcome, nothing, join_outcome, said, called_by, accepted_with, broken_rule, decided, read_outcome, refused_direct, outcome_at}
 use Rattle.campaign_law.specs.World.{addressed, is_to, messages_to}
 
 -- how many of these reach the seat
@@ -110,20 +110,20 @@ said_few seat from (Some words) None texts either = reaching-one seat _
 said_few seat from (Some words) (Some call) texts (inl none) = cc
 said_few seat from (Some words) (Some call) texts (inr none) = cc
 
-accepted_few : (steps seat : ℕ) (b : Book) (c : Command) (run : Called) → SendsFew (accepted_with steps seat b c run)
-accepted_few steps seat b c run = record { reply = omega arith; messages = λ to. said_few to seat (said b c) (call_in c) (texts_in run) (says_or_runs b c) }
+accepted_few : (report : Report) (seat : ℕ) (b : Book) (c : Command) (run : Called) → SendsFew (accepted_with report seat b c run)
+accepted_few report seat b c run = record { reply = omega arith; messages = λ to. said_few to seat (said b c) (call_in c) (texts_in run) (says_or_runs b c) }
 
-decided_few : (asked : Asked) (steps seat : ℕ) (b : Book) (c : Command) (r : Option Refusal) → SendsFew (decided asked steps seat b c r)
-decided_few asked steps seat b c None = accepted_few steps seat b c (called_by asked seat b c)
-decided_few asked steps seat b c (Some r) = record { reply = omega arith; messages = none_reaches }
+decided_few : (asked : Asked) (report : Report) (seat : ℕ) (b : Book) (c : Command) (r : Option Refusal) → SendsFew (decided asked report seat b c r)
+decided_few asked report seat b c None = accepted_few report seat b c (called_by asked seat b c)
+decided_few asked report seat b c (Some r) = record { reply = omega arith; messages = none_reaches }
 
-read_few : (asked : Asked) (steps seat : ℕ) (b : Book) (r : Result Command LineFault) → SendsFew (read_outcome asked steps seat b r)
-read_few asked steps seat b (Err fault) = record { reply = omega arith; messages = none_reaches }
-read_few asked steps seat b (Ok c) = decided_few asked steps seat b c (broken_rule asked seat b c)
+read_few : (asked : Asked) (report : Report) (seat : ℕ) (b : Book) (r : Result Command LineFault) → SendsFew (read_outcome asked report seat b r)
+read_few asked report seat b (Err fault) = record { reply = omega arith; messages = none_reaches }
+read_few asked report seat b (Ok c) = decided_few asked report seat b c (broken_rule asked seat b c)
 
-line_few : (asked : Asked) (steps seat : ℕ) (b : Book) (r : Result Command LineFault) (j : Bool) → SendsFew (cond j (read_outcome asked steps seat b r) (refused_direct 0 NoHello))
-line_few asked steps seat b r true = read_few asked steps seat b r
-line_few asked steps seat b r false = record { reply = omega arith; messages = none_reaches }
+line_few : (asked : Asked) (report : Report) (seat : ℕ) (b : Book) (r : Result Command LineFault) (j : Bool) → SendsFew (cond j (read_outcome asked report seat b r) (refused_direct 0 NoHello))
+line_few asked report seat b r true = read_few asked report seat b r
+line_few asked report seat b r false = record { reply = omega arith; messages = none_reaches }
 
 join_few : (asked : Asked) (b : Book) (reader writer : ℕ) (r : Option JoinRefusal) → SendsFew (join_outcome asked b reader writer r)
 join_few asked b reader writer None = record { reply = omega arith; messages = none_reaches }
@@ -133,14 +133,14 @@ cut_few : (b : Book) (j : Bool) → SendsFew (cond j (record nothing { book = So
 cut_few b true = record { reply = omega arith; messages = none_reaches }
 cut_few b false = record { reply = omega arith; messages = none_reaches }
 
-pub outcome_few : (asked : Asked) (steps : ℕ) (before : Option Seat) (e : Entry) → SendsFew (outcome_at asked steps before e)
-outcome_few asked steps None (Join seat key reader writer) = record { reply = omega arith; messages = none_reaches }
-outcome_few asked steps None (Line seat bytes) = record { reply = omega arith; messages = none_reaches }
-outcome_few asked steps None (Leave seat drop) = record { reply = omega arith; messages = none_reaches }
-outcome_few asked steps None (Taken seat count) = record { reply = omega arith; messages = none_reaches }
-outcome_few asked steps None (Cut seat) = record { reply = omega arith; messages = none_reaches }
-outcome_few asked steps (Some s) (Join seat key reader writer) = join_few asked s.book reader writer (join_refusal s.book key)
-outcome_few asked steps (Some s) (Line seat bytes) = line_few asked steps seat s.book (command_of bytes (eqb seat 0)) (is_joined s.book.state)
-outcome_few asked steps (Some s) (Leave seat drop) = record { reply = omega arith; messages = none_reaches }
-outcome_few asked steps (Some s) (Taken seat count) = record { reply = omega arith; messages = none_reaches }
-outcome_few asked steps (Some s) (Cut seat) = cut_few s.book (is_joined s.book.state)
+pub outcome_few : (asked : Asked) (report : Report) (before : Option Seat) (e : Entry) → SendsFew (outcome_at asked report before e)
+outcome_few asked report None (Join seat key reader writer) = record { reply = omega arith; messages = none_reaches }
+outcome_few asked report None (Line seat bytes) = record { reply = omega arith; messages = none_reaches }
+outcome_few asked report None (Leave seat drop) = record { reply = omega arith; messages = none_reaches }
+outcome_few asked report None (Taken seat count) = record { reply = omega arith; messages = none_reaches }
+outcome_few asked report None (Cut seat) = record { reply = omega arith; messages = none_reaches }
+outcome_few asked report (Some s) (Join seat key reader writer) = join_few asked s.book reader writer (join_refusal s.book key)
+outcome_few asked report (Some s) (Line seat bytes) = line_few asked report seat s.book (command_of bytes (eqb seat 0)) (is_joined s.book.state)
+outcome_few asked report (Some s) (Leave seat drop) = record { reply = omega arith; messages = none_reaches }
+outcome_few asked report (Some s) (Taken seat count) = record { reply = omega arith; messages = none_reaches }
+outcome_few asked report (Some s) (Cut seat) = cut_few s.book (is_joined s.book.state)

@@ -16,7 +16,7 @@ use Rattle.command_effects.specs.Tags.{tag_made, MayUse, MayUseTag, MakesNew}
 use Rattle.command_effects.proofs.NewTags.{may_use}
 use Rattle.campaign_law.specs.declared.entry.Entry.{Entry}
 use Rattle.campaign_law.specs.Seat.{Seat}
-use Rattle.campaign_law.specs.Outcome.{Outcome, outcome_at, seat_of}
+use Rattle.campaign_law.specs.Outcome.{Report, Outcome, outcome_at, seat_of}
 use Rattle.campaign_law.specs.World.{World, seat_at, asked_of}
 use Rattle.campaign_law.specs.Worlds.{opened_of, FitsTogether}
 use Rattle.campaign_law.proofs.Allowed.{outcome_none}
@@ -36,9 +36,9 @@ unused_absent books (t ∷ tokens) id used new = by (id_eq t.id id) refl (unused
 
 -- ---- what an accepted command makes
 
-pub makes_new : (w : World) (e : Entry) (steps : ℕ) (o : Outcome) (c : Command) → FitsTogether w → o ≡ outcome_at (asked_of w (seat_of e)) steps (seat_at w (seat_of e)) e → o.done ≡ Some c → MakesNew w.scene (seat_of e) c
-makes_new w e steps o c fits is done tag made =
-    let did = outcome_none (asked_of w (seat_of e)) steps (seat_at w (seat_of e)) e c (ap (λ (x : Outcome). x.done) (sym is) ∙ done) in
+pub makes_new : (w : World) (e : Entry) (report : Report) (o : Outcome) (c : Command) → FitsTogether w → o ≡ outcome_at (asked_of w (seat_of e)) report (seat_at w (seat_of e)) e → o.done ≡ Some c → MakesNew w.scene (seat_of e) c
+makes_new w e report o c fits is done tag made =
+    let did = outcome_none (asked_of w (seat_of e)) report (seat_at w (seat_of e)) e c (ap (λ (x : Outcome). x.done) (sym is) ∙ done) in
     let may = may_use (length w.seats) w.scene (seat_of e) did.acting.book.tags c did.broke.rule tag made in
     let unused : is_used (opened_of w).books (record { maker = seat_of e; tag = tag }) ≡ false =
     ap (λ o. used_by o tag) (slice_get-books w e w.seats (seat_of e) ∙ ap (option_map (λ (s : Seat). s.book)) did.there) ∙ may.unused in

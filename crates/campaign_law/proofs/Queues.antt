@@ -13,7 +13,7 @@ use Rattle.campaign_law.specs.declared.entry.Entry.{Entry}
 use Rattle.campaign_law.specs.Views.{change_line}
 use Rattle.campaign_law.specs.Seat.{Seat, IsFreshSeat, let_go, is_let_go, freed_seat}
 use Rattle.campaign_law.specs.Outcome.{Outcome, outcome_at, seat_of}
-use Rattle.campaign_law.specs.World.{World, seat_at, asked_of, steps_of, outcome_of, scene_after, messages_to, view_lines, some_to_list, lines_if_present, other_lines, queued_reply, queued_lines, is_present, changed, seat_after, mapped_from, step, replay}
+use Rattle.campaign_law.specs.World.{World, seat_at, asked_of, report_of, outcome_of, scene_after, messages_to, view_lines, some_to_list, lines_if_present, other_lines, queued_reply, queued_lines, is_present, changed, seat_after, mapped_from, step, replay}
 use Rattle.campaign_law.specs.State.{Post, State, state_of}
 use Rattle.campaign_law.specs.Law.{IsOpening}
 use Rattle.campaign_law.specs.Worlds.{FitsTogether}
@@ -61,7 +61,7 @@ lines_few seat acts before o v v' few =
     omega (arith, all, own, others)
 
 pub entry_queues_few : EntryQueuesFew
-entry_queues_few w e seat = lines_few seat (eqb (seat_of e) seat) (seat_at w seat) (outcome_of w e) (view_of w.scene seat) (view_of (scene_after w e) seat) (outcome_few (asked_of w (seat_of e)) (steps_of w e) (seat_at w (seat_of e)) e)
+entry_queues_few w e seat = lines_few seat (eqb (seat_of e) seat) (seat_at w seat) (outcome_of w e) (view_of w.scene seat) (view_of (scene_after w e) seat) (outcome_few (asked_of w (seat_of e)) (report_of w e) (seat_at w (seat_of e)) e)
 
 -- ---- counts of lines
 
@@ -124,7 +124,7 @@ AreInLimit w = (p : ℕ) (s : Seat) → seat_at w p ≡ Some s → InLimit s.boo
 module _ (w : World) (e : Entry) (limits : AreInLimit w) where
   -- the entry's own seat
   own_counts : (s : Seat) → seat_at w (seat_of e) ≡ Some s → Counts s.book (outcome_of w e)
-  own_counts s at = subst (λ (before : Option Seat). Counts s.book (outcome_at (asked_of w (seat_of e)) (steps_of w e) before e)) (sym at) (outcome_counts (asked_of w (seat_of e)) (steps_of w e) s e (limits (seat_of e) s at))
+  own_counts s at = subst (λ (before : Option Seat). Counts s.book (outcome_at (asked_of w (seat_of e)) (report_of w e) before e)) (sym at) (outcome_counts (asked_of w (seat_of e)) (report_of w e) s e (limits (seat_of e) s at))
 
   changed_lines : (b : Book) (o : Outcome) → Counts b o → InLimit b → (b.lines ≤ (unwrap_or o.book b).lines) × InLimit (unwrap_or o.book b)
   changed_lines b o (counts next is more limit) old =
@@ -204,11 +204,11 @@ module _ (w : World) (e : Entry) (limits : AreInLimit w) where
       by_count t at (counts next is more limit) =
           let lines : (unwrap_or (outcome_of w e).book t.book).lines ≡ t.book.lines + 1 = ap (λ x. (unwrap_or x t.book).lines) is ∙ more in
           let one = one_more t at (omega (arith, lines)) in
-          let few = lines_few p (eqb (seat_of e) p) (Some s) (outcome_of w e) (view_of w.scene p) (view_of (scene_after w e) p) (outcome_few (asked_of w (seat_of e)) (steps_of w e) (seat_at w (seat_of e)) e) in
+          let few = lines_few p (eqb (seat_of e) p) (Some s) (outcome_of w e) (view_of w.scene p) (view_of (scene_after w e) p) (outcome_few (asked_of w (seat_of e)) (report_of w e) (seat_at w (seat_of e)) e) in
           omega (arith, one, few)
 
       by : (before : Option Seat) → seat_at w (seat_of e) ≡ before → queued_by p s + 3 * lines_in w.seats ≤ 3 * lines_in (step w e).seats
-      by None at = by_quiet (subst (λ (b : Option Seat). IsQuiet (outcome_at (asked_of w (seat_of e)) (steps_of w e) b e)) (sym at) (absent_quiet (asked_of w (seat_of e)) (steps_of w e) e))
+      by None at = by_quiet (subst (λ (b : Option Seat). IsQuiet (outcome_at (asked_of w (seat_of e)) (report_of w e) b e)) (sym at) (absent_quiet (asked_of w (seat_of e)) (report_of w e) e))
       by (Some t) at = by_count t at (own_counts t at)
 
   pub queued_after : (p : ℕ) → IsSettled w.scene → IfSome (seat_at w p) (λ s. s.queued ≤ 3 * lines_in w.seats) → IfSome (seat_at (step w e) p) (λ s. s.queued ≤ 3 * lines_in (step w e).seats)

@@ -8,7 +8,7 @@ use Rattle.command_effects.proofs.KeptScenes.{scene_kept, settled_kept}
 use Rattle.campaign_law.specs.declared.entry.Entry.{Entry}
 use Rattle.campaign_law.specs.Seat.{Seat}
 use Rattle.campaign_law.specs.Outcome.{seat_of}
-use Rattle.campaign_law.specs.World.{World, steps_of, outcome_of, made_by, scene_after, step, replay}
+use Rattle.campaign_law.specs.World.{World, steps_of, report_of, outcome_of, made_by, scene_after, step, replay}
 use Rattle.campaign_law.specs.Worlds.{FitsTogether}
 use Rattle.campaign_law.proofs.Allowed.{allowed, acts_within}
 use Rattle.campaign_law.proofs.NewTokens.{makes_new}
@@ -26,8 +26,8 @@ by_command : (w : World) (e : Entry) → FitsTogether w → HasTables w.scene �
 unfolding scene_by
 by_command w e fits is None none = is
 by_command w e fits is (Some c) done =
-    scene_kept (steps_of w e) (outcome_of w e).intents (seat_of e) w.scene c (seat_plays w (seat_of e) fits (acts_within w e (steps_of w e) (outcome_of w e) c refl done))
-    (allowed w e (steps_of w e) (outcome_of w e) c refl done) (makes_new w e (steps_of w e) (outcome_of w e) c fits refl done) is
+    scene_kept (steps_of w e) (outcome_of w e).intents (seat_of e) w.scene c (seat_plays w (seat_of e) fits (acts_within w e (report_of w e) (outcome_of w e) c refl done))
+    (allowed w e (report_of w e) (outcome_of w e) c refl done) (makes_new w e (report_of w e) (outcome_of w e) c fits refl done) is
 
 pub tables_after : (w : World) (e : Entry) → FitsTogether w → HasTables w.scene → HasTables (scene_after w e)
 unfolding scene_after

@@ -16,8 +16,8 @@ use Rattle.player_view.specs.View.{view_of}
 use Rattle.campaign_law.specs.declared.entry.Entry.{Entry}
 use Rattle.campaign_law.specs.declared.entry.Entry.TheVariants.{Join, Line, Leave, Taken, Cut}
 use Rattle.campaign_law.specs.Seat.{Seat, let_go, is_let_go, freed_seat, fresh_seat}
-use Rattle.campaign_law.specs.Outcome.{outcome_at, seat_of}
-use Rattle.campaign_law.specs.World.{World, seat_at, asked_of, steps_of, outcome_of, made_by, scene_after, seat_after, changed, mapped_from, step, replay, queued_lines}
+use Rattle.campaign_law.specs.Outcome.{Report, outcome_at, seat_of}
+use Rattle.campaign_law.specs.World.{World, seat_at, asked_of, steps_of, report_of, outcome_of, made_by, scene_after, seat_after, changed, mapped_from, step, replay, queued_lines}
 use Rattle.campaign_law.proofs.Lists.{slice_get-mapped_from, map-mapped_from, length-mapped_from}
 use Rattle.campaign_law.specs.Worlds.{opened_of, opening_world, FitsTogether}
 use Rattle.campaign_law.proofs.Tokens.{all_pass_after}
@@ -50,7 +50,7 @@ module _ (w : World) (e : Entry) where
   book_after k s = (seat_after w e k s).book
 
   keeps : (s : Seat) → slice_get w.seats (seat_of e) ≡ Some s → KeepsBook s.book (outcome_of w e)
-  keeps s at = subst (λ (before : Option Seat). KeepsBook s.book (outcome_at (asked_of w (seat_of e)) (steps_of w e) before e)) (sym at) (present_keeps (asked_of w (seat_of e)) (steps_of w e) s.book e)
+  keeps s at = subst (λ (before : Option Seat). KeepsBook s.book (outcome_at (asked_of w (seat_of e)) (report_of w e) before e)) (sym at) (present_keeps (asked_of w (seat_of e)) (report_of w e) s.book e)
 
   changed_follows : (k : ℕ) (s : Seat) → slice_get w.seats k ≡ Some s → Follows s.book (changed (outcome_of w e) (eqb (seat_of e) k) s).book
   changed_follows k s at = by (eqb (seat_of e) k) refl
@@ -110,19 +110,19 @@ module _ (w : World) (e : Entry) where
   made_after : (c : Command) → (outcome_of w e).done ≡ Some c → (tag : List ℕ) → tag_made c ≡ Some tag → is_used next_books (record { maker = seat_of e; tag = tag }) ≡ true
   made_after c done tag made = ap (λ o. used_by o tag) (slice_get-mapped_from book_after 0 w.seats (seat_of e)) ∙ by (slice_get w.seats (seat_of e)) refl
     where
-      absent : (asked : _) (steps : ℕ) (e : Entry) → (outcome_at asked steps None e).done ≡ Some c → ⊥
-      absent asked steps (Join seat key reader writer) h = cc
-      absent asked steps (Line seat bytes) h = cc
-      absent asked steps (Leave seat drop) h = cc
-      absent asked steps (Taken seat count) h = cc
-      absent asked steps (Cut seat) h = cc
+      absent : (asked : _) (report : Report) (e : Entry) → (outcome_at asked report None e).done ≡ Some c → ⊥
+      absent asked report (Join seat key reader writer) h = cc
+      absent asked report (Line seat bytes) h = cc
+      absent asked report (Leave seat drop) h = cc
+      absent asked report (Taken seat count) h = cc
+      absent asked report (Cut seat) h = cc
 
       of_next : (s : Seat) (o : Option Book) → IfSome o (λ next. tag_used next.tags tag ≡ true) → ((next : Book) × (o ≡ Some next)) → tag_used (unwrap_or o s.book).tags tag ≡ true
       of_next s None h some = absurd (let e = some.1 in cc)
       of_next s (Some next) h some = h
 
       by : (o : Option Seat) → slice_get w.seats (seat_of e) ≡ o → used_by (option_map (book_after (0 + seat_of e)) o) tag ≡ true
-      by None at = absurd (absent (asked_of w (seat_of e)) (steps_of w e) e (ap (λ (before : Option Seat). (outcome_at (asked_of w (seat_of e)) (steps_of w e) before e).done) (sym at) ∙ done))
+      by None at = absurd (absent (asked_of w (seat_of e)) (report_of w e) e (ap (λ (before : Option Seat). (outcome_at (asked_of w (seat_of e)) (report_of w e) before e).done) (sym at) ∙ done))
       by (Some s) at =
           let from_start : seat_of e ≡ 0 + seat_of e = omega arith in
           let kept = keeps s at in

@@ -34,7 +34,7 @@ use Rattle.command_effects.specs.MacroEffects.{with_text, setting_text, drawing}
 use Rattle.player_view.specs.Asked.{Asked}
 use Rattle.campaign_law.specs.declared.entry.Entry.{Entry}
 use Rattle.campaign_law.specs.declared.entry.Entry.TheVariants.{Join, Line, Leave, Taken, Cut}
-use Rattle.campaign_law.specs.Outcome.{Outcome, nothing, join_outcome, present_outcome, read_outcome, roll_rule, dice_in, macro_rule, broken_rule, called_by, accepted_with, decided, refused_direct, book_done}
+use Rattle.campaign_law.specs.Outcome.{Report, Outcome, nothing, join_outcome, present_outcome, read_outcome, roll_rule, dice_in, macro_rule, broken_rule, called_by, accepted_with, decided, refused_direct, book_done}
 use Rattle.campaign_law.specs.Written.{is_written_text, are_written_texts}
 
 -- ---- texts under names
@@ -122,24 +122,24 @@ setting_none asked seat b c h =
     first_none None second h = refl
     first_none (Some r) second h = cc
 
-accepted_written : (steps seat : ℕ) (b : Book) (c : Command) (run : Called) → IsCommand c → setting_rule b.macros (new_text_in c) ≡ None → KeepsMacros b (accepted_with steps seat b c run)
-accepted_written steps seat b c run form rule all =
+accepted_written : (report : Report) (seat : ℕ) (b : Book) (c : Command) (run : Called) → IsCommand c → setting_rule b.macros (new_text_in c) ≡ None → KeepsMacros b (accepted_with report seat b c run)
+accepted_written report seat b c run form rule all =
     let drawn : Book = drawing run (counted b) in
     let same : drawn.macros ≡ b.macros = macros_drawn run (counted b) in
     ap are_written_texts (macros_done c drawn)
     ∙ setting_written (new_text_in c) drawn (ap (λ macros. setting_rule macros (new_text_in c)) same ∙ rule) (new_form c form) (ap are_written_texts same ∙ all)
 
-decided_written : (asked : Asked) (steps seat : ℕ) (b : Book) (c : Command) (r : Option Refusal) → IsCommand c → broken_rule asked seat b c ≡ r → KeepsMacros b (decided asked steps seat b c r)
-decided_written asked steps seat b c None form is all = accepted_written steps seat b c (called_by asked seat b c) form (setting_none asked seat b c is) all
-decided_written asked steps seat b c (Some r) form is all = all
+decided_written : (asked : Asked) (report : Report) (seat : ℕ) (b : Book) (c : Command) (r : Option Refusal) → IsCommand c → broken_rule asked seat b c ≡ r → KeepsMacros b (decided asked report seat b c r)
+decided_written asked report seat b c None form is all = accepted_written report seat b c (called_by asked seat b c) form (setting_none asked seat b c is) all
+decided_written asked report seat b c (Some r) form is all = all
 
-read_written : (asked : Asked) (steps seat : ℕ) (b : Book) (r : Result Command LineFault) → ((c : Command) → r ≡ Ok c → IsCommand c) → KeepsMacros b (read_outcome asked steps seat b r)
-read_written asked steps seat b (Err fault) form all = all
-read_written asked steps seat b (Ok c) form all = decided_written asked steps seat b c (broken_rule asked seat b c) (form c refl) refl all
+read_written : (asked : Asked) (report : Report) (seat : ℕ) (b : Book) (r : Result Command LineFault) → ((c : Command) → r ≡ Ok c → IsCommand c) → KeepsMacros b (read_outcome asked report seat b r)
+read_written asked report seat b (Err fault) form all = all
+read_written asked report seat b (Ok c) form all = decided_written asked report seat b c (broken_rule asked seat b c) (form c refl) refl all
 
-line_written : (asked : Asked) (steps seat : ℕ) (b : Book) (bytes : List ℕ) (j : Bool) → KeepsMacros b (cond j (read_outcome asked steps seat b (command_of bytes (eqb seat 0))) (refused_direct 0 NoHello))
-line_written asked steps seat b bytes true all = read_written asked steps seat b (command_of bytes (eqb seat 0)) (keeps_limits bytes (eqb seat 0)) all
-line_written asked steps seat b bytes false all = tt
+line_written : (asked : Asked) (report : Report) (seat : ℕ) (b : Book) (bytes : List ℕ) (j : Bool) → KeepsMacros b (cond j (read_outcome asked report seat b (command_of bytes (eqb seat 0))) (refused_direct 0 NoHello))
+line_written asked report seat b bytes true all = read_written asked report seat b (command_of bytes (eqb seat 0)) (keeps_limits bytes (eqb seat 0)) all
+line_written asked report seat b bytes false all = tt
 
 join_written : (asked : Asked) (b : Book) (reader writer : ℕ) (r : Option JoinRefusal) → KeepsMacros b (join_outcome asked b reader writer r)
 join_written asked b reader writer (Some r) all = tt
@@ -153,9 +153,9 @@ cut_written : (b : Book) (j : Bool) → KeepsMacros b (cond j (record nothing { 
 cut_written b true all = all
 cut_written b false all = tt
 
-pub present_written : (asked : Asked) (steps : ℕ) (b : Book) (e : Entry) → KeepsMacros b (present_outcome asked steps b e)
-present_written asked steps b (Join seat key reader writer) all = join_written asked b reader writer (join_refusal b key) all
-present_written asked steps b (Line seat bytes) all = line_written asked steps seat b bytes (is_joined b.state) all
-present_written asked steps b (Leave seat drop) all = leave_written drop b all
-present_written asked steps b (Taken seat count) all = tt
-present_written asked steps b (Cut seat) all = cut_written b (is_joined b.state) all
+pub present_written : (asked : Asked) (report : Report) (b : Book) (e : Entry) → KeepsMacros b (present_outcome asked report b e)
+present_written asked report b (Join seat key reader writer) all = join_written asked b reader writer (join_refusal b key) all
+present_written asked report b (Line seat bytes) all = line_written asked report seat b bytes (is_joined b.state) all
+present_written asked report b (Leave seat drop) all = leave_written drop b all
+present_written asked report b (Taken seat count) all = tt
+present_written asked report b (Cut seat) all = cut_written b (is_joined b.state) all

@@ -14,7 +14,7 @@ use Rattle.command_effects.specs.Settle.{settled as settled_scene}
 use Rattle.campaign_law.specs.declared.entry.Entry.{Entry}
 use Rattle.campaign_law.specs.Seat.{Seat, let_go, is_let_go, freed_seat}
 use Rattle.campaign_law.specs.Outcome.{outcome_at, seat_of}
-use Rattle.campaign_law.specs.World.{World, seat_at, asked_of, steps_of, outcome_of, changed, queued_lines, made_by, scene_after, mapped_from, step, replay}
+use Rattle.campaign_law.specs.World.{World, seat_at, asked_of, steps_of, report_of, outcome_of, changed, queued_lines, made_by, scene_after, mapped_from, step, replay}
 use Rattle.campaign_law.specs.Written.{is_written_key, are_written_keys, are_written_tokens, are_written_texts, are_written_macros, IsWritten}
 use Rattle.campaign_law.specs.Worlds.{opened_of, opening_world}
 use Rattle.campaign_law.proofs.Allowed.{outcome_none}
@@ -59,8 +59,8 @@ or_else_written (Some next) b all h = h
 
 outcome_written : (w : World) (e : Entry) (s : Seat) → slice_get w.seats (seat_of e) ≡ Some s → are_written_texts s.book.macros ≡ true → IfSome (outcome_of w e).book (λ next. are_written_texts next.macros ≡ true)
 outcome_written w e s at all =
-    subst (λ (before : Option Seat). IfSome (outcome_at (asked_of w (seat_of e)) (steps_of w e) before e).book (λ next. are_written_texts next.macros ≡ true)) (sym at)
-    (present_written (asked_of w (seat_of e)) (steps_of w e) s.book e all)
+    subst (λ (before : Option Seat). IfSome (outcome_at (asked_of w (seat_of e)) (report_of w e) before e).book (λ next. are_written_texts next.macros ≡ true)) (sym at)
+    (present_written (asked_of w (seat_of e)) (report_of w e) s.book e all)
 
 changed_written : (w : World) (e : Entry) (k : ℕ) (s : Seat) → slice_get w.seats k ≡ Some s → are_written_texts s.book.macros ≡ true → are_written_texts (changed (outcome_of w e) (eqb (seat_of e) k) s).book.macros ≡ true
 changed_written w e k s at all = by (eqb (seat_of e) k) refl
@@ -83,7 +83,7 @@ macros_after w e h = pass_after (λ b. are_written_texts b.macros) w e (seat_wri
 tokens_after : (w : World) (e : Entry) (o : Option Command) → (outcome_of w e).done ≡ o → are_written_tokens w.scene.tokens ≡ true → are_written_tokens (scene_by (steps_of w e) (outcome_of w e).intents (seat_of e) w.scene o).tokens ≡ true
 unfolding scene_by
 tokens_after w e None is h = h
-tokens_after w e (Some c) is h = written_after (steps_of w e) (outcome_of w e).intents (seat_of e) w.scene c (outcome_none (asked_of w (seat_of e)) (steps_of w e) (seat_at w (seat_of e)) e c is).broke.form h
+tokens_after w e (Some c) is h = written_after (steps_of w e) (outcome_of w e).intents (seat_of e) w.scene c (outcome_none (asked_of w (seat_of e)) (report_of w e) (seat_at w (seat_of e)) e c is).broke.form h
 
 written_step : (w : World) (e : Entry) → IsWritten (opened_of w) → IsWritten (opened_of (step w e))
 unfolding scene_after

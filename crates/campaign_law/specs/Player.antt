@@ -7,7 +7,7 @@ use Rattle.player_view.specs.View.{view_of, no_view}
 use Rattle.player_view.specs.Asked.{asked_of_view}
 use Rattle.campaign_law.specs.Views.{change_line}
 use Rattle.campaign_law.specs.Seat.{Seat, fresh_seat, settled}
-use Rattle.campaign_law.specs.Outcome.{Outcome, outcome_at, seat_of, blank_entry}
+use Rattle.campaign_law.specs.Outcome.{Outcome, of_steps, outcome_at, seat_of, blank_entry}
 use Rattle.campaign_law.specs.World.{World, seat_at, outcome_of, steps_of, scene_after, is_present, view_lines, messages_to, queued_reply, changed, step}
 
 -- ---- what a player may know: its opening and its trace
@@ -59,7 +59,7 @@ pub record Machine : Type 0 where
   pub due : Bool
 
 abbrev pub own_outcome : Machine → Entry → ℕ → Outcome
-own_outcome m e steps = outcome_at (asked_of_view m.seats m.last) steps m.seat e
+own_outcome m e steps = outcome_at (asked_of_view m.seats m.last) (of_steps steps) m.seat e
 
 -- what the machine says to itself
 abbrev pub own_messages : Option Seat → ℕ → Outcome → List (List ℕ)

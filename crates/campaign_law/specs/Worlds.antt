@@ -9,11 +9,8 @@ use Rattle.campaign_law.specs.declared.entry.Entry.{Entry}
 use Rattle.campaign_law.specs.Seat.{fresh_seat}
 use Rattle.campaign_law.specs.Outcome.{seat_of}
 use Rattle.campaign_law.specs.World.{World, outcome_of, replay}
+pub use Rattle.campaign_law.specs.World.{opened_of}
 use Rattle.campaign_law.specs.Written.{IsWritten}
-
--- its scene and its seats' books, without what is queued
-abbrev pub opened_of : World → Opened
-opened_of w = record { scene = w.scene; books = map (λ s. s.book) w.seats }
 
 -- it has 1 to 33 seats, numbered by their places, all but the first are players, and they made its tokens
 abbrev pub FitsTogether : World → Type 0

@@ -34,7 +34,7 @@ use Rattle.command_json.specs.declared.verbs.GmVerb.TheVariants as G
 use Rattle.command_json.specs.Verbs.{verbs, gm_verbs, keys_of, gm_keys_of}
 use Rattle.command_json.specs.Faults.{Fails}
 use Rattle.command_json.specs.EverySeat.{hello_in, bye_in, look_in, say_in, roll_in, macro_in, setmacro_in, move_in, setprop_in, light_in, make_in, remove_in, fields_in}
-use Rattle.command_json.specs.GameMaster.{map_in, mode_in, show_in, terrain_in, wall_in, unwall_in, lighttype_in, sighttype_in, token_in, own_in, layer_in, visible_in, sight_in, place_in, secret_in, expose_in, hide_in, gm_fields_in}
+use Rattle.command_json.specs.GameMaster.{map_in, mode_in, show_in, terrain_in, wall_in, unwall_in, lighttype_in, sighttype_in, token_in, own_in, layer_in, visible_in, sight_in, place_in, secret_in, expose_in, hide_in, dump_in, gm_fields_in}
 use Rattle.command_json.specs.Commands.{by_gm_verb, by_verb, command_in, of_value, command_of, keys_in, IsBadKeyOf, NamesBadKey}
 use Rattle.command_json.specs.Fields.{args_from, texts_from, place_from, places_from, path_from, to_from, number_from, rect_from, letter_of, letter_from, least_place, most_place}
 use Rattle.command_json.specs.Limits.{IsWithin, IsNumber, IsText, IsCoordinate, IsPlace, IsPath, IsRect, AreArgs, IsLetter, IsCommand}
@@ -411,6 +411,10 @@ hide_keeps : (d : Data) → HasRisingKeys d → Keeps (gm_keys_of G.Hide) d (hid
 unfolding hide_in
 hide_keeps d rise = step (codes "seat") refl (field_in (whole_from 0 32) (codes "seat") d) _ (λ seat _. step (codes "map") refl (field_in tag_from (codes "map") d) _ (λ map _. step (codes "rect") refl (field_in rect_from (codes "rect") d) _ (λ rect is_rect. last rise (C.Hide seat map rect) (of_field IsRect rect_from rect_keeps (codes "rect") d rect is_rect))))
 
+dump_keeps : (d : Data) → HasRisingKeys d → Keeps (gm_keys_of G.Dump) d (dump_in d)
+unfolding dump_in
+dump_keeps d rise = last rise C.Dump tt
+
 gm_fields_keep : (d : Data) → HasRisingKeys d → (verb : GmVerb) → Keeps (gm_keys_of verb) d (gm_fields_in d verb)
 unfolding gm_fields_in
 gm_fields_keep d rise G.Map = map_keeps d rise
@@ -430,6 +434,7 @@ gm_fields_keep d rise G.Place = place_keeps d rise
 gm_fields_keep d rise G.Secret = secret_keeps d rise
 gm_fields_keep d rise G.Expose = expose_keeps d rise
 gm_fields_keep d rise G.Hide = hide_keeps d rise
+gm_fields_keep d rise G.Dump = dump_keeps d rise
 
 -- ---- lines
 

@@ -132,6 +132,9 @@ hide_in d = do
   rect ← field (codes "rect") rect_from d
   only (gm_keys_of V.Hide) d (C.Hide seat map rect)
 
+unfoldable pub dump_in : Data → Result Command LineFault
+dump_in d = only (gm_keys_of V.Dump) d C.Dump
+
 -- the fields of the command that the word names
 unfoldable pub gm_fields_in : Data → GmVerb → Result Command LineFault
 gm_fields_in d V.Map = map_in d
@@ -151,3 +154,4 @@ gm_fields_in d V.Place = place_in d
 gm_fields_in d V.Secret = secret_in d
 gm_fields_in d V.Expose = expose_in d
 gm_fields_in d V.Hide = hide_in d
+gm_fields_in d V.Dump = dump_in d

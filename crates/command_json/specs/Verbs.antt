@@ -40,7 +40,8 @@ gm_verbs =
     (codes "place", G.Place) ∷
     (codes "secret", G.Secret) ∷
     (codes "expose", G.Expose) ∷
-    (codes "hide", G.Hide) ∷ []
+    (codes "hide", G.Hide) ∷
+    (codes "dump", G.Dump) ∷ []
 
 -- ---- the keys of the fields that each command has, in their order
 
@@ -76,3 +77,4 @@ gm_keys_of G.Place = codes "token" ∷ codes "map" ∷ codes "cell" ∷ []
 gm_keys_of G.Secret = codes "token" ∷ codes "name" ∷ codes "value" ∷ []
 gm_keys_of G.Expose = codes "seat" ∷ codes "map" ∷ codes "rect" ∷ []
 gm_keys_of G.Hide = codes "seat" ∷ codes "map" ∷ codes "rect" ∷ []
+gm_keys_of G.Dump = []

@@ -2,7 +2,7 @@
 ghost use Rattle.serde_json.specs.View.{view};
 ghost use Rattle.json_fields.specs.Objects.{Gives};
 ghost use Rattle.command_json.specs.Faults.{Fails};
-ghost use Rattle.command_json.specs.GameMaster.{map_in, mode_in, show_in, terrain_in, wall_in, unwall_in, lighttype_in, sighttype_in, token_in, own_in, layer_in, visible_in, sight_in, place_in, secret_in, expose_in, hide_in, gm_fields_in};
+ghost use Rattle.command_json.specs.GameMaster.{map_in, mode_in, show_in, terrain_in, wall_in, unwall_in, lighttype_in, sighttype_in, token_in, own_in, layer_in, visible_in, sight_in, place_in, secret_in, expose_in, hide_in, dump_in, gm_fields_in};
 
 use crate::command::{Command, LineFault};
 use crate::fields;
@@ -278,6 +278,13 @@ fn hide_of(alloc: Global, object: &Value) -> Result<Command, LineFault>
     )
 }
 
+#[tactic(auto, unfolding(crate::specs::GameMaster::dump_in))]
+fn dump_of(alloc: Global, object: &Value) -> Result<Command, LineFault>
+    ensures { Gives Fails (λ c. c) result (dump_in (view object.now)) }
+{
+    fields::only(alloc, object, &["do"], Command::Dump)
+}
+
 /// The command that the word names, with its fields.
 #[tactic(auto, unfolding(crate::specs::GameMaster::gm_fields_in))]
 pub(crate) fn read_gm_fields(
@@ -305,5 +312,6 @@ pub(crate) fn read_gm_fields(
         GmVerb::Secret => secret_of(alloc, object),
         GmVerb::Expose => expose_of(alloc, object),
         GmVerb::Hide => hide_of(alloc, object),
+        GmVerb::Dump => dump_of(alloc, object),
     }
 }

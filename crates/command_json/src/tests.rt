@@ -35,6 +35,7 @@ fn told(answer: &Result<Command, LineFault>) -> (&str, &str) {
         Ok(Command::Secret { .. }) => ("secret", ""),
         Ok(Command::Expose { .. }) => ("expose", ""),
         Ok(Command::Hide { .. }) => ("hide", ""),
+        Ok(Command::Dump) => ("dump", ""),
         Err(LineFault::BadJson) => ("BadJson", ""),
         Err(LineFault::BadCommand) => ("BadCommand", ""),
         Err(LineFault::GmOnly) => ("GmOnly", ""),
@@ -146,6 +147,7 @@ fn lines_are_commands_or_faults(rt: HostRuntime) -> Result<(), Fail> {
             r#"{"do":"hide","seat":1,"map":"cave","rect":[0,0,1,3]}"#,
             ("hide", ""),
         ),
+        (r#"{"do":"dump"}"#, ("dump", "")),
         (r#"{"do":"#, ("BadJson", "")),
         (
             r#"{"do":"move","path":[[1.5,0]],"token":"1:ann"}"#,

@@ -44,6 +44,7 @@ pub(crate) enum GmVerb {
     Secret,
     Expose,
     Hide,
+    Dump,
 }
 
 pub(crate) fn read_verb(value: &Value) -> Option<Verb>
@@ -87,6 +88,7 @@ pub(crate) fn read_gm_verb(value: &Value) -> Option<GmVerb>
         ("secret", GmVerb::Secret),
         ("expose", GmVerb::Expose),
         ("hide", GmVerb::Hide),
+        ("dump", GmVerb::Dump),
     ];
     word(value, "do", &table)
 }

@@ -21,7 +21,7 @@ use Rattle.topology.specs.WallFaults.{wall_fault}
 use Rattle.topology.specs.declared.walls.WallFault.{WallFault}
 use Rattle.topology.specs.declared.walls.WallFault.TheVariants as wall_faults
 use Rattle.command_json.specs.declared.command.Command.{Command}
-use Rattle.command_json.specs.declared.command.Command.TheVariants.{Map, Mode, Show, Terrain, Wall, Unwall, Lighttype, Sighttype, Token as TokenCommand, Own, Layer, Visible, Sight, Place, Secret, Expose, Hide}
+use Rattle.command_json.specs.declared.command.Command.TheVariants.{Map, Mode, Show, Terrain, Wall, Unwall, Lighttype, Sighttype, Token as TokenCommand, Own, Layer, Visible, Sight, Place, Secret, Expose, Hide, Dump}
 use Rattle.world.specs.Scene.{Scene}
 use Rattle.world.specs.Rules.{is_known}
 use Rattle.command_rules.specs.declared.refusal.Refusal.{Refusal}
@@ -129,4 +129,5 @@ gm_rule s tags (Place token map cell) = token_rule (λ t. map_rule (square_rule 
 gm_rule s tags (Secret token name value) = token_rule (λ t. room_rule t.secret name) (token_of token s.tokens)
 gm_rule s tags (Expose seat map rect) = then_rule (player_rule s.fog.players seat) (map_rule (rect_rule rect) (map_of map s.maps))
 gm_rule s tags (Hide seat map rect) = then_rule (player_rule s.fog.players seat) (map_rule (rect_rule rect) (map_of map s.maps))
+gm_rule s tags Dump = None
 gm_rule s tags c = Some BadCommand

@@ -373,6 +373,7 @@ pub(crate) fn gm_rule(
         Command::Secret { token, name, .. } => secret_rule(scene, *token, *name),
         Command::Expose { seat, map, rect } => fog_rule(scene, *seat, *map, *rect),
         Command::Hide { seat, map, rect } => fog_rule(scene, *seat, *map, *rect),
+        Command::Dump => None,
         _ => Some(Refusal::BadCommand),
     }
 }

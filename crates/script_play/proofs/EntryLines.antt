@@ -23,8 +23,8 @@ use Rattle.player_view.specs.Asked.{Asked}
 use Rattle.views.specs.declared.view.View.{View}
 use Rattle.player_view.specs.View.{view_of}
 use Rattle.campaign_law.specs.Seat.{Seat, freed_seat, is_let_go}
-use Rattle.campaign_law.specs.Outcome.{Outcome, outcome_at, join_outcome, read_outcome, decided, accepted, refused_direct, refused_line, broken_rule, called_by, is_bye, dice_in, rolling, book_done, seat_of}
-use Rattle.campaign_law.specs.World.{World, seat_at, asked_of, steps_of, outcome_of, scene_after, is_present, queued_reply, queued_lines, other_lines, lines_if_present, entry_lines, some_to_list, changed, seat_after, lines_of, step, replay}
+use Rattle.campaign_law.specs.Outcome.{Outcome, outcome_at, join_outcome, read_outcome, decided, accepted, refused_direct, refused_line, broken_rule, called_by, is_bye, dice_in, rolling, book_done, seat_of, Report}
+use Rattle.campaign_law.specs.World.{World, seat_at, asked_of, report_of, outcome_of, scene_after, is_present, queued_reply, queued_lines, other_lines, lines_if_present, entry_lines, some_to_list, changed, seat_after, lines_of, step, replay}
 use Rattle.campaign_law.specs.Law.{first_line}
 use Rattle.campaign_law.specs.Session.{queued_of, unless_free}
 use Rattle.campaign_law.specs.State.{mail_after}
@@ -105,29 +105,29 @@ join_leaves : (asked : Asked) (s : Seat) (reader writer : ℕ) (refusal : Option
 join_leaves asked s reader writer (Some refusal) = direct_leaves s _ _
 join_leaves asked s reader writer None = busy_leaves s (join_outcome asked s.book reader writer None) (is_free-joined s.book reader writer) refl
 
-decided_leaves : (asked : Asked) (steps seat : ℕ) (s : Seat) (c : Command) (refusal : Option Refusal) → is_joined s.book.state ≡ true → Leaves s (decided asked steps seat s.book c refusal)
-decided_leaves asked steps seat s c (Some refusal) j = busy_leaves s (refused_line s.book refusal) (is_free-counted s.book ∙ joined_not_free s.book.state j) refl
-decided_leaves asked steps seat s c None j =
+decided_leaves : (asked : Asked) (report : Report) (seat : ℕ) (s : Seat) (c : Command) (refusal : Option Refusal) → is_joined s.book.state ≡ true → Leaves s (decided asked report seat s.book c refusal)
+decided_leaves asked report seat s c (Some refusal) j = busy_leaves s (refused_line s.book refusal) (is_free-counted s.book ∙ joined_not_free s.book.state j) refl
+decided_leaves asked report seat s c None j =
     let run : Called = called_by asked seat s.book c in
-    busy_leaves s (accepted asked steps seat s.book c)
+    busy_leaves s (accepted asked report seat s.book c)
     (book_done_free c (drawing run (counted s.book)) ∙ drawing_free run (counted s.book) ∙ is_free-counted s.book ∙ joined_not_free s.book.state j) refl
 
-read_leaves : (asked : Asked) (steps seat : ℕ) (s : Seat) (r : Result Command LineFault) → is_joined s.book.state ≡ true → Leaves s (read_outcome asked steps seat s.book r)
-read_leaves asked steps seat s (Err fault) j = busy_leaves s (refused_line s.book _) (is_free-counted s.book ∙ joined_not_free s.book.state j) refl
-read_leaves asked steps seat s (Ok command) j = decided_leaves asked steps seat s command (broken_rule asked seat s.book command) j
+read_leaves : (asked : Asked) (report : Report) (seat : ℕ) (s : Seat) (r : Result Command LineFault) → is_joined s.book.state ≡ true → Leaves s (read_outcome asked report seat s.book r)
+read_leaves asked report seat s (Err fault) j = busy_leaves s (refused_line s.book _) (is_free-counted s.book ∙ joined_not_free s.book.state j) refl
+read_leaves asked report seat s (Ok command) j = decided_leaves asked report seat s command (broken_rule asked seat s.book command) j
 
-line_leaves : (asked : Asked) (steps seat : ℕ) (s : Seat) (bytes : List ℕ) (j : Bool) → is_joined s.book.state ≡ j → Leaves s (cond j (read_outcome asked steps seat s.book (command_of bytes (eqb seat 0))) (refused_direct 0 NoHello))
-line_leaves asked steps seat s bytes true h = read_leaves asked steps seat s (command_of bytes (eqb seat 0)) h
-line_leaves asked steps seat s bytes false h = direct_leaves s 0 NoHello
+line_leaves : (asked : Asked) (report : Report) (seat : ℕ) (s : Seat) (bytes : List ℕ) (j : Bool) → is_joined s.book.state ≡ j → Leaves s (cond j (read_outcome asked report seat s.book (command_of bytes (eqb seat 0))) (refused_direct 0 NoHello))
+line_leaves asked report seat s bytes true h = read_leaves asked report seat s (command_of bytes (eqb seat 0)) h
+line_leaves asked report seat s bytes false h = direct_leaves s 0 NoHello
 
 entry_leaves : (w : World) (seat : ℕ) (bytes : List ℕ) (key : Option (List ℕ)) (s : Seat) → seat_at w seat ≡ Some s → Leaves s (outcome_of w (entry_by seat bytes key))
 entry_leaves w seat bytes (Some key) s is =
     let e : Entry = entry_by seat bytes (Some key) in
-    subst (λ b. Leaves s (outcome_at (asked_of w seat) (steps_of w e) b e)) (sym is) (join_leaves (asked_of w seat) s seat seat (join_refusal s.book key))
+    subst (λ b. Leaves s (outcome_at (asked_of w seat) (report_of w e) b e)) (sym is) (join_leaves (asked_of w seat) s seat seat (join_refusal s.book key))
 entry_leaves w seat bytes None s is =
     let e : Entry = entry_by seat bytes None in
-    subst (λ b. Leaves s (outcome_at (asked_of w seat) (steps_of w e) b e)) (sym is)
-    (line_leaves (asked_of w seat) (steps_of w e) seat s bytes (is_joined s.book.state) refl)
+    subst (λ b. Leaves s (outcome_at (asked_of w seat) (report_of w e) b e)) (sym is)
+    (line_leaves (asked_of w seat) (report_of w e) seat s bytes (is_joined s.book.state) refl)
 
 pub seat_of_entry_by : (seat : ℕ) (bytes : List ℕ) (key : Option (List ℕ)) → seat_of (entry_by seat bytes key) ≡ seat
 seat_of_entry_by seat bytes (Some key) = refl

@@ -14,8 +14,8 @@ use Rattle.player_view.specs.View.{view_of}
 use Rattle.command_effects.specs.Settle.{IsSettled}
 use Rattle.campaign_law.specs.Views.{change_line}
 use Rattle.campaign_law.specs.Seat.{Seat, freed_seat, is_let_go, settled}
-use Rattle.campaign_law.specs.Outcome.{Outcome, outcome_at}
-use Rattle.campaign_law.specs.World.{World, seat_at, asked_of, steps_of, outcome_of, scene_after, addressed, is_present, some_to_list, lines_if_present, queued_lines, changed, seat_after, lines_of, step, replay}
+use Rattle.campaign_law.specs.Outcome.{Outcome, outcome_at, Report}
+use Rattle.campaign_law.specs.World.{World, seat_at, asked_of, report_of, outcome_of, scene_after, addressed, is_present, some_to_list, lines_if_present, queued_lines, changed, seat_after, lines_of, step, replay}
 use Rattle.campaign_law.proofs.Lists.{ap₂}
 use Rattle.campaign_law.proofs.Settled.{scene_stays, replay_settled}
 use Rattle.campaign_law.proofs.Views.{same_no_change}
@@ -28,12 +28,12 @@ use Rattle.script_play.proofs.EntryLines.{slice_get-past}
 
 -- ---- what the definitions of views say of a Taken: it leaves what every seat is shown
 
-done_none : (asked : Asked) (steps : ℕ) (before : Option Seat) (seat count : ℕ) → (outcome_at asked steps before (Taken seat count)).done ≡ None
-done_none asked steps None seat count = refl
-done_none asked steps (Some s) seat count = refl
+done_none : (asked : Asked) (report : Report) (before : Option Seat) (seat count : ℕ) → (outcome_at asked report before (Taken seat count)).done ≡ None
+done_none asked report None seat count = refl
+done_none asked report (Some s) seat count = refl
 
 scene_kept : (w : World) (seat count : ℕ) → IsSettled w.scene → scene_after w (Taken seat count) ≡ w.scene
-scene_kept w seat count is = scene_stays w (Taken seat count) is (done_none (asked_of w seat) (steps_of w (Taken seat count)) (seat_at w seat) seat count)
+scene_kept w seat count is = scene_stays w (Taken seat count) is (done_none (asked_of w seat) (report_of w (Taken seat count)) (seat_at w seat) seat count)
 
 addressed_none : (p : ℕ) → addressed p [] ≡ []
 unfolding addressed
@@ -63,12 +63,12 @@ record IsQuiet (o : Outcome) : Type 0 where
   full : o.full ≡ false
   book : o.book ≡ None
 
-quiet_at : (asked : Asked) (steps : ℕ) (before : Option Seat) (seat count : ℕ) → IsQuiet (outcome_at asked steps before (Taken seat count))
-quiet_at asked steps None seat count = record { reply = refl; direct = refl; messages = refl; full = refl; book = refl }
-quiet_at asked steps (Some s) seat count = record { reply = refl; direct = refl; messages = refl; full = refl; book = refl }
+quiet_at : (asked : Asked) (report : Report) (before : Option Seat) (seat count : ℕ) → IsQuiet (outcome_at asked report before (Taken seat count))
+quiet_at asked report None seat count = record { reply = refl; direct = refl; messages = refl; full = refl; book = refl }
+quiet_at asked report (Some s) seat count = record { reply = refl; direct = refl; messages = refl; full = refl; book = refl }
 
 quiet_of : (w : World) (seat count : ℕ) → IsQuiet (outcome_of w (Taken seat count))
-quiet_of w seat count = quiet_at (asked_of w seat) (steps_of w (Taken seat count)) (seat_at w seat) seat count
+quiet_of w seat count = quiet_at (asked_of w seat) (report_of w (Taken seat count)) (seat_at w seat) seat count
 
 reply_none : (acts : Bool) (reply : List (List ℕ)) → reply ≡ [] → cond acts reply [] ≡ []
 reply_none true reply h = h
@@ -144,8 +144,8 @@ taken_seat s o sound book taken =
     by_going c true h = refl
     by_going c false h = h ∙ sym (add-zero c.queued)
 
-count_at : (asked : Asked) (steps : ℕ) (before : Option Seat) (s : Seat) (seat count : ℕ) → before ≡ Some s → (outcome_at asked steps before (Taken seat count)).taken ≡ count
-count_at asked steps before s seat count is = ap (λ b. (outcome_at asked steps b (Taken seat count)).taken) is
+count_at : (asked : Asked) (report : Report) (before : Option Seat) (s : Seat) (seat count : ℕ) → before ≡ Some s → (outcome_at asked report before (Taken seat count)).taken ≡ count
+count_at asked report before s seat count is = ap (λ b. (outcome_at asked report b (Taken seat count)).taken) is
 
 -- a seat after a Taken, before it is steady
 after_taken : (w : World) (seat count p : ℕ) (s : Seat) → IsSettled w.scene → seat_at w p ≡ Some s → seat_at (step w (Taken seat count)) p ≡ Some (settled 0 (changed (outcome_of w (Taken seat count)) (eqb seat p) s))
@@ -159,7 +159,7 @@ own_taken w seat s steady is sound =
     let o : Outcome = outcome_of w (Taken seat s.queued) in
     let acts : eqb seat seat ≡ true = eq-eqb seat seat refl in
     subst (λ b. IfSome b IsTaken) (sym (after_taken w seat s.queued seat s steady is ∙ ap (λ a. Some (settled 0 (changed o a s))) acts))
-    (taken_seat s o sound (quiet_of w seat s.queued).book (count_at (asked_of w seat) (steps_of w (Taken seat s.queued)) (seat_at w seat) s seat s.queued is))
+    (taken_seat s o sound (quiet_of w seat s.queued).book (count_at (asked_of w seat) (report_of w (Taken seat s.queued)) (seat_at w seat) s seat s.queued is))
 
 -- other seats stay as they were
 other_kept : (w : World) (seat count p : ℕ) (before : Option Seat) → IsSettled w.scene → seat_at w p ≡ before → eqb seat p ≡ false → IfSome before IsSound → seat_at (step w (Taken seat count)) p ≡ before

@@ -20,8 +20,8 @@ use Rattle.player_view.specs.Asked.{Asked}
 use Rattle.campaign_law.specs.declared.entry.Entry.{Entry}
 use Rattle.campaign_law.specs.declared.entry.Entry.TheVariants.{Line}
 use Rattle.campaign_law.specs.Seat.{Seat, freed_seat, is_let_go, settled}
-use Rattle.campaign_law.specs.Outcome.{Outcome, is_bye, dice_in, rolling, called_by, decided, broken_rule, read_outcome, outcome_at}
-use Rattle.campaign_law.specs.World.{World, seat_at, asked_of, steps_of, outcome_of, scene_after, changed, queued_lines, seat_after, step, replay}
+use Rattle.campaign_law.specs.Outcome.{Outcome, is_bye, dice_in, rolling, called_by, decided, broken_rule, read_outcome, outcome_at, Report}
+use Rattle.campaign_law.specs.World.{World, seat_at, asked_of, report_of, outcome_of, scene_after, changed, queued_lines, seat_after, step, replay}
 use Rattle.campaign_law.specs.Session.{standing, standing_after, is_held_by}
 use Rattle.campaign_law.proofs.Seats.{grown}
 use Rattle.campaign_law.proofs.Sessions.{seat_at-after, replay_more}
@@ -74,18 +74,18 @@ abbrev book_after : Outcome → Book → Book
 book_after o b = unwrap_or o.book b
 
 -- what a Joined seat's line does to its book, but for a bye
-by_rule : (asked : Asked) (steps seat : ℕ) (b : Book) (c : Command) (r : Option Refusal) → is_bye c ≡ false → IsCounted b (book_after (decided asked steps seat b c r) b)
-by_rule asked steps seat b c (Some refusal) other = record { state = refl; lines = refl }
-by_rule asked steps seat b c None other =
+by_rule : (asked : Asked) (report : Report) (seat : ℕ) (b : Book) (c : Command) (r : Option Refusal) → is_bye c ≡ false → IsCounted b (book_after (decided asked report seat b c r) b)
+by_rule asked report seat b c (Some refusal) other = record { state = refl; lines = refl }
+by_rule asked report seat b c None other =
     let drawn : Book = drawing (called_by asked seat b c) (counted b) in
     subst (λ t. IsCounted b (cond t (left drawn) (using_tag (tag_made c) (setting_text (new_text_in c) (rolling (dice_in c) drawn))))) (sym other)
     (tag_counted b (setting_text (new_text_in c) (rolling (dice_in c) drawn)) (tag_made c)
     (setting_counted b (rolling (dice_in c) drawn) (new_text_in c) (dice_counted b drawn (dice_in c) (drawing_counted b (called_by asked seat b c)))))
 
 -- a bye closes it, unless it is refused
-by_bye : (asked : Asked) (steps seat : ℕ) (b : Book) (c : Command) (r : Option Refusal) → is_bye c ≡ true → IsLined b (book_after (decided asked steps seat b c r) b)
-by_bye asked steps seat b c (Some refusal) bye = record { state = λ _. refl; lines = refl }
-by_bye asked steps seat b c None bye =
+by_bye : (asked : Asked) (report : Report) (seat : ℕ) (b : Book) (c : Command) (r : Option Refusal) → is_bye c ≡ true → IsLined b (book_after (decided asked report seat b c r) b)
+by_bye asked report seat b c (Some refusal) bye = record { state = λ _. refl; lines = refl }
+by_bye asked report seat b c None bye =
     let drawn : Book = drawing (called_by asked seat b c) (counted b) in
     subst (λ t. IsLined b (cond t (left drawn) (using_tag (tag_made c) (setting_text (new_text_in c) (rolling (dice_in c) drawn))))) (sym bye)
     (record { state = λ is. absurd (closed_never drawn.state is); lines = (drawing_counted b (called_by asked seat b c)).lines })
@@ -95,18 +95,18 @@ record Lined (seat : ℕ) (bytes : List ℕ) (b c : Book) : Type 0 where
   lined : IsLined b c
   which : IsBye seat bytes ⊎ IsCounted b c
 
-by_reading : (asked : Asked) (steps seat : ℕ) (b : Book) (bytes : List ℕ) (r : Result Command LineFault) → command_of bytes (eqb seat 0) ≡ r → Lined seat bytes b (book_after (read_outcome asked steps seat b r) b)
-by_reading asked steps seat b bytes (Err fault) reads = record { lined = record { state = λ _. refl; lines = refl }; which = inr (record { state = refl; lines = refl }) }
-by_reading asked steps seat b bytes (Ok c) reads = by_kind (is_bye c) refl
+by_reading : (asked : Asked) (report : Report) (seat : ℕ) (b : Book) (bytes : List ℕ) (r : Result Command LineFault) → command_of bytes (eqb seat 0) ≡ r → Lined seat bytes b (book_after (read_outcome asked report seat b r) b)
+by_reading asked report seat b bytes (Err fault) reads = record { lined = record { state = λ _. refl; lines = refl }; which = inr (record { state = refl; lines = refl }) }
+by_reading asked report seat b bytes (Ok c) reads = by_kind (is_bye c) refl
   where
-    by_kind : (t : Bool) → is_bye c ≡ t → Lined seat bytes b (book_after (read_outcome asked steps seat b (Ok c)) b)
-    by_kind true is = record { lined = by_bye asked steps seat b c (broken_rule asked seat b c) is; which = inl (record { command = c; reads = reads; bye = is }) }
-    by_kind false is = let counts = by_rule asked steps seat b c (broken_rule asked seat b c) is in record { lined = counted_lined b _ counts; which = inr counts }
+    by_kind : (t : Bool) → is_bye c ≡ t → Lined seat bytes b (book_after (read_outcome asked report seat b (Ok c)) b)
+    by_kind true is = record { lined = by_bye asked report seat b c (broken_rule asked seat b c) is; which = inl (record { command = c; reads = reads; bye = is }) }
+    by_kind false is = let counts = by_rule asked report seat b c (broken_rule asked seat b c) is in record { lined = counted_lined b _ counts; which = inr counts }
 
-line_counts : (asked : Asked) (steps seat : ℕ) (s : Seat) (bytes : List ℕ) → is_joined s.book.state ≡ true → Lined seat bytes s.book (book_after (outcome_at asked steps (Some s) (Line seat bytes)) s.book)
-line_counts asked steps seat s bytes joined =
-    subst (λ t. Lined seat bytes s.book (book_after (cond t (read_outcome asked steps seat s.book (command_of bytes (eqb seat 0))) (outcome_at asked steps None (Line seat bytes))) s.book)) (sym joined)
-    (by_reading asked steps seat s.book bytes (command_of bytes (eqb seat 0)) refl)
+line_counts : (asked : Asked) (report : Report) (seat : ℕ) (s : Seat) (bytes : List ℕ) → is_joined s.book.state ≡ true → Lined seat bytes s.book (book_after (outcome_at asked report (Some s) (Line seat bytes)) s.book)
+line_counts asked report seat s bytes joined =
+    subst (λ t. Lined seat bytes s.book (book_after (cond t (read_outcome asked report seat s.book (command_of bytes (eqb seat 0))) (outcome_at asked report None (Line seat bytes))) s.book)) (sym joined)
+    (by_reading asked report seat s.book bytes (command_of bytes (eqb seat 0)) refl)
 
 -- ---- the seat behind the line
 
@@ -177,7 +177,7 @@ module _ (w : World) (h : List Entry) (hold : Hold) (bytes : List ℕ) (reads : 
   there s is = seat_at-after v e hold.seat ∙ ap (option_map (seat_after v e hold.seat)) is
 
   lined : (s : Seat) → seat_at v hold.seat ≡ Some s → is_joined s.book.state ≡ true → Lined hold.seat bytes s.book (book_after (outcome_of v e) s.book)
-  lined s is joined = subst (λ b. Lined hold.seat bytes s.book (book_after (outcome_at (asked_of v hold.seat) (steps_of v e) b e) s.book)) (sym is) (line_counts (asked_of v hold.seat) (steps_of v e) hold.seat s bytes joined)
+  lined s is joined = subst (λ b. Lined hold.seat bytes s.book (book_after (outcome_at (asked_of v hold.seat) (report_of v e) b e) s.book)) (sym is) (line_counts (asked_of v hold.seat) (report_of v e) hold.seat s bytes joined)
 
   -- one behind which the seat isn't read, but isn't spent, is a bye
   pub closed_by_bye : is_read w (h ++ e ∷ []) hold ≡ false → is_spent (seat_at (replay w (h ++ e ∷ [])) hold.seat) ≡ false → IsBye hold.seat bytes

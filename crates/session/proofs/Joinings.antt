@@ -15,7 +15,7 @@ use Rattle.campaign_law.specs.declared.entry.Entry.TheVariants.{Join}
 use Rattle.campaign_law.specs.Seat.{Seat, is_let_go, settled}
 use Rattle.campaign_law.specs.Texts.{refusal_line}
 use Rattle.campaign_law.specs.Outcome.{Outcome, outcome_at, join_outcome, refusal_of_join, count_if_joined}
-use Rattle.campaign_law.specs.World.{World, seat_at, asked_of, steps_of, outcome_of, scene_after, changed, queued_lines, seat_after, step, replay}
+use Rattle.campaign_law.specs.World.{World, seat_at, asked_of, report_of, outcome_of, scene_after, changed, queued_lines, seat_after, step, replay}
 use Rattle.campaign_law.specs.Law.{IsOpening, answer_of}
 use Rattle.campaign_law.specs.Session.{standing, standing_after, is_held_by, IsSeated}
 use Rattle.campaign_law.proofs.Joins.{join_seats}
@@ -42,7 +42,7 @@ module _ (v : World) (seat : ℕ) (key : List ℕ) (reader writer : ℕ) where
   told_by steps b None = inl refl
   told_by steps b (Some refusal) = inr (refusal, refusal_line (count_if_joined b) (refusal_of_join refusal), refl, refl)
 
-  told_at : (steps : ℕ) (before : Option Seat) → TellsJoin (answer_of steps (outcome_at asked (steps_of v e) before e))
+  told_at : (steps : ℕ) (before : Option Seat) → TellsJoin (answer_of steps (outcome_at asked (report_of v e) before e))
   told_at steps None = inr (joins.BadKey, refusal_line 0 BadKey, refl, refl)
   told_at steps (Some s) = told_by steps s.book (join_refusal s.book key)
 
@@ -67,10 +67,10 @@ module _ (v : World) (seat : ℕ) (key : List ℕ) (reader writer : ℕ) where
   join_spends accepted closing = by_seat (seat_at v seat) refl
     where
       by_seat : (before : Option Seat) → seat_at v seat ≡ before → is_spent (seat_at (step v e) seat) ≡ true
-      by_seat None is = let z : (outcome_at asked (steps_of v e) None e).refusal ≡ None = sym (ap (λ b. (outcome_at asked (steps_of v e) b e).refusal) is) ∙ accepted in absurd cc
+      by_seat None is = let z : (outcome_at asked (report_of v e) None e).refusal ≡ None = sym (ap (λ b. (outcome_at asked (report_of v e) b e).refusal) is) ∙ accepted in absurd cc
       by_seat (Some s) is =
           let o : Outcome = join_outcome asked s.book reader writer (join_refusal s.book key) in
-          let same : outcome_of v e ≡ o = ap (λ b. outcome_at asked (steps_of v e) b e) is in
+          let same : outcome_of v e ≡ o = ap (λ b. outcome_at asked (report_of v e) b e) is in
           let count : Outcome → ℕ = λ x. length (queued_lines seat (eqb seat seat) (Some s) x (view_of v.scene seat) (view_of (scene_after v e) seat)) in
           let there : seat_at (step v e) seat ≡ Some (settled (count o) (changed o (eqb seat seat) s)) =
           seat_at-after v e seat ∙ ap (option_map (seat_after v e seat)) is ∙ ap (λ x. Some (settled (count x) (changed x (eqb seat seat) s))) same in
@@ -91,10 +91,10 @@ module _ (v : World) (seat : ℕ) (key : List ℕ) (reader writer : ℕ) where
   join_goes_on accepted joined = by_seat (seat_at v seat) refl
     where
       by_seat : (before : Option Seat) → seat_at v seat ≡ before → is_spent (seat_at (step v e) seat) ≡ false
-      by_seat None is = let z : (outcome_at asked (steps_of v e) None e).refusal ≡ None = sym (ap (λ b. (outcome_at asked (steps_of v e) b e).refusal) is) ∙ accepted in absurd cc
+      by_seat None is = let z : (outcome_at asked (report_of v e) None e).refusal ≡ None = sym (ap (λ b. (outcome_at asked (report_of v e) b e).refusal) is) ∙ accepted in absurd cc
       by_seat (Some s) is =
           let o : Outcome = join_outcome asked s.book reader writer (join_refusal s.book key) in
-          let same : outcome_of v e ≡ o = ap (λ b. outcome_at asked (steps_of v e) b e) is in
+          let same : outcome_of v e ≡ o = ap (λ b. outcome_at asked (report_of v e) b e) is in
           let count : Outcome → ℕ = λ x. length (queued_lines seat (eqb seat seat) (Some s) x (view_of v.scene seat) (view_of (scene_after v e) seat)) in
           let there : seat_at (step v e) seat ≡ Some (settled (count o) (changed o (eqb seat seat) s)) =
           seat_at-after v e seat ∙ ap (option_map (seat_after v e seat)) is ∙ ap (λ x. Some (settled (count x) (changed x (eqb seat seat) s))) same in

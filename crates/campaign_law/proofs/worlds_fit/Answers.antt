@@ -1,5 +1,5 @@
 use Rattle.std.proofs.Common.{refl}
-use Rattle.campaign_law.specs.World.{steps_of, outcome_of}
+use Rattle.campaign_law.specs.World.{report_of, outcome_of}
 use Rattle.campaign_law.proofs.Worlds.{fits_opened, fits_always}
 use Rattle.campaign_law.proofs.NewTokens.{makes_new}
 use Rattle.campaign_law.proofs.WrittenWorlds.{written_opened, written_always}
@@ -14,7 +14,7 @@ pub returns-clause-always : goal.returns-clause-always
 returns-clause-always c = fits_always
 
 pub returns-clause-new : goal.returns-clause-new
-returns-clause-new c = λ w e command fits done. makes_new w e (steps_of w e) (outcome_of w e) command fits refl done
+returns-clause-new c = λ w e command fits done. makes_new w e (report_of w e) (outcome_of w e) command fits refl done
 
 pub returns-clause-opens_written : goal.returns-clause-opens_written
 returns-clause-opens_written c = written_opened
