@@ -13,6 +13,7 @@ use Rattle.campaign_law.specs.Worlds.{opened_of}
 use Rattle.campaign_law.specs.Written.{IsWritten as IsWrittenByLaw}
 use Rattle.campaign_law.proofs.WrittenWorlds.{written_always}
 use Rattle.campaign_core.specs.declared.campaign.Staged.{Staged}
+use Rattle.campaign_core.specs.CutList.{Ledger}
 use Rattle.campaign_core.specs.Places.{Place, Standing, posted, law}
 use Rattle.campaign_core.specs.Running.{IsRunning}
 use Rattle.campaign_core.proofs.Running.{world_now, running_fits}
@@ -31,12 +32,12 @@ standing s = record { scene = s.scene; books = map book_of s.posts }
 standing_is : (s : Standing) → standing s ≡ opened_of (world_in (law s))
 standing_is s = ap (λ books. record { scene = s.scene; books = books }) (books_of s.posts)
 
-module _ (origin : World) (h : List Entry) (room : ℕ) (s : Standing) (kept : Kept) (stage : Option Staged) (r : IsRunning origin h room s kept stage) where
+module _ (origin : World) (h : List Entry) (ledger : Ledger) (s : Standing) (kept : Kept) (stage : Option Staged) (r : IsRunning origin h ledger s kept stage) where
   pub standing_fits : IsWorld (standing s)
-  standing_fits = subst IsWorld (sym (standing_is s)) (running_fits origin h room s kept stage r)
+  standing_fits = subst IsWorld (sym (standing_is s)) (running_fits origin h ledger s kept stage r)
 
   pub standing_now : standing s ≡ opened_of (replay origin h)
-  standing_now = standing_is s ∙ ap opened_of (world_now origin h room s kept stage r)
+  standing_now = standing_is s ∙ ap opened_of (world_now origin h ledger s kept stage r)
 
   -- it is one that the campaign text takes
   pub now_written : IsWritten (opened_of (replay origin h))

@@ -15,8 +15,8 @@ use Rattle.player_view.specs.Asked.{Asked}
 use Rattle.campaign_law.specs.declared.entry.Entry.{Entry}
 use Rattle.campaign_law.specs.declared.entry.Entry.TheVariants.{Leave}
 use Rattle.campaign_law.specs.Seat.{Seat, IsFreshSeat, freed_seat, is_let_go, let_go, settled, taken_to}
-use Rattle.campaign_law.specs.Outcome.{Outcome, nothing, outcome_at, seat_of}
-use Rattle.campaign_law.specs.World.{World, seat_at, asked_of, steps_of, outcome_of, changed, addressed, view_lines, some_to_list, is_present, queued_reply, queued_lines, scene_after, mapped_from, replay}
+use Rattle.campaign_law.specs.Outcome.{Outcome, Report, nothing, of_steps, outcome_at, seat_of}
+use Rattle.campaign_law.specs.World.{World, seat_at, asked_of, report_of, steps_of, outcome_of, changed, addressed, view_lines, some_to_list, is_present, queued_reply, queued_lines, scene_after, mapped_from, replay}
 use Rattle.campaign_law.specs.Session.{session, leaves, standing, changes_state}
 use Rattle.campaign_law.specs.State.{Post, State, world_in, post_by, post_after, mail_after, state_after, state_of}
 use Rattle.campaign_law.specs.Law.{IsOpening, answer_of}
@@ -31,7 +31,7 @@ use Rattle.campaign_law.proofs.Views.{same_no_change}
 use Rattle.campaign_core.specs.Places.{Place, posted}
 use Rattle.campaign_core.proofs.Nexts.{no_steps}
 use Rattle.campaign_core.specs.Sound.{IsSound, AreSound}
-use Rattle.campaign_core.specs.Leaving.{mail_of, left_book, left_seat, left_post, left_posts, due_of, due}
+use Rattle.campaign_core.specs.Leaving.{mail_of, left_book, left_seat, left_post, left_posts, places_for, due_of, due, cut_due_of, cut_due}
 
 -- ---- a post between entries
 
@@ -168,28 +168,28 @@ lent_none now xs i (Some y) is item = cc
 
 -- ---- the state after a Leave
 
-pub no_done : (asked : Asked) (steps : ℕ) (before : Option Seat) (seat : ℕ) (drop : Bool) → (outcome_at asked steps before (Leave seat drop)).done ≡ None
-no_done asked steps None seat drop_it = refl
-no_done asked steps (Some s) seat drop_it = refl
+pub no_done : (asked : Asked) (report : Report) (before : Option Seat) (seat : ℕ) (drop : Bool) → (outcome_at asked report before (Leave seat drop)).done ≡ None
+no_done asked report None seat drop_it = refl
+no_done asked report (Some s) seat drop_it = refl
 
-others_none : (asked : Asked) (steps : ℕ) (before : Option Seat) (seat : ℕ) (drop : Bool) (p : ℕ) (s : Seat) (v : View) → queued_lines p false (Some s) (outcome_at asked steps before (Leave seat drop)) v v ≡ []
-others_none asked steps None seat drop_it p s v = quiet p v (is_present false (Some s) nothing) false refl
-others_none asked steps (Some t) seat drop_it p s v = no_lines p false drop_it t s v
+others_none : (asked : Asked) (report : Report) (before : Option Seat) (seat : ℕ) (drop : Bool) (p : ℕ) (s : Seat) (v : View) → queued_lines p false (Some s) (outcome_at asked report before (Leave seat drop)) v v ≡ []
+others_none asked report None seat drop_it p s v = quiet p v (is_present false (Some s) nothing) false refl
+others_none asked report (Some t) seat drop_it p s v = no_lines p false drop_it t s v
 
 pub leave_stays : (w : World) (seat : ℕ) (drop : Bool) → IsSettled w.scene → scene_after w (Leave seat drop) ≡ w.scene
-leave_stays w seat drop_it settled = scene_stays w (Leave seat drop_it) settled (no_done (asked_of w seat) (steps_of w (Leave seat drop_it)) (seat_at w seat) seat drop_it)
+leave_stays w seat drop_it settled = scene_stays w (Leave seat drop_it) settled (no_done (asked_of w seat) (report_of w (Leave seat drop_it)) (seat_at w seat) seat drop_it)
 
 left_at : (w : World) (seat : ℕ) (drop : Bool) (p : ℕ) (post : Post) (acts : Bool) → eqb seat p ≡ acts → IsSettled w.scene → seat_at w p ≡ Some post.seat → IsSound post
     → post_by p acts (outcome_of w (Leave seat drop)) (view_of w.scene p) (view_of (scene_after w (Leave seat drop)) p) post ≡ cond acts (left_post drop post) post
 left_at w seat drop_it p post false is settled at sound =
     let o : Outcome = outcome_of w (Leave seat drop_it) in
     ap (λ scene. post_by p false o (view_of w.scene p) (view_of scene p) post) (leave_stays w seat drop_it settled)
-    ∙ rests p o (view_of w.scene p) (view_of w.scene p) post sound (others_none (asked_of w seat) (steps_of w (Leave seat drop_it)) (seat_at w seat) seat drop_it p post.seat (view_of w.scene p))
+    ∙ rests p o (view_of w.scene p) (view_of w.scene p) post sound (others_none (asked_of w seat) (report_of w (Leave seat drop_it)) (seat_at w seat) seat drop_it p post.seat (view_of w.scene p))
 left_at w seat drop_it p post true is settled at sound =
     let o : Outcome = outcome_of w (Leave seat drop_it) in
     let own : seat_at w seat ≡ Some post.seat = ap (seat_at w) (eqb-true seat p is) ∙ at in
     ap (λ scene. post_by p true o (view_of w.scene p) (view_of scene p) post) (leave_stays w seat drop_it settled)
-    ∙ ap (λ b. post_by p true (outcome_at (asked_of w seat) (steps_of w (Leave seat drop_it)) b (Leave seat drop_it)) (view_of w.scene p) (view_of w.scene p) post) own
+    ∙ ap (λ b. post_by p true (outcome_at (asked_of w seat) (report_of w (Leave seat drop_it)) b (Leave seat drop_it)) (view_of w.scene p) (view_of w.scene p) post) own
     ∙ own_leaves p drop_it (view_of w.scene p) post
 
 pub leave_state : (state : State) (seat : ℕ) (drop : Bool) → IsSettled state.scene → AreSound state.posts → record { posts = left_posts seat drop state.posts; scene = state.scene } ≡ state_after state (Leave seat drop)
@@ -202,15 +202,15 @@ leave_state state seat drop_it settled sound =
       scene = leave_stays w seat drop_it settled i;
     })
 
-answer_at : (asked : Asked) (n steps : ℕ) (before : Option Seat) (seat : ℕ) (drop : Bool) → record { refusal = None; taken = n; line = None } ≡ answer_of n (outcome_at asked steps before (Leave seat drop))
-answer_at asked n steps None seat drop_it = refl
-answer_at asked n steps (Some s) seat drop_it = refl
+answer_at : (asked : Asked) (n : ℕ) (report : Report) (before : Option Seat) (seat : ℕ) (drop : Bool) → record { refusal = None; taken = n; line = None } ≡ answer_of n (outcome_at asked report before (Leave seat drop))
+answer_at asked n report None seat drop_it = refl
+answer_at asked n report (Some s) seat drop_it = refl
 
 -- a Leave has no answer
 pub leave_answer : (w : World) (seat : ℕ) (drop : Bool) → record { refusal = None; taken = 0; line = None } ≡ answer_of (steps_of w (Leave seat drop)) (outcome_of w (Leave seat drop))
 leave_answer w seat drop_it =
-    ap (λ n. record { refusal = None; taken = n; line = None }) (no_steps w (Leave seat drop_it) (outcome_at (asked_of w seat) 0 (seat_at w seat) (Leave seat drop_it)) refl (no_done (asked_of w seat) 0 (seat_at w seat) seat drop_it))
-    ∙ answer_at (asked_of w seat) (steps_of w (Leave seat drop_it)) (steps_of w (Leave seat drop_it)) (seat_at w seat) seat drop_it
+    ap (λ n. record { refusal = None; taken = n; line = None }) (no_steps w (Leave seat drop_it) (outcome_at (asked_of w seat) (of_steps 0) (seat_at w seat) (Leave seat drop_it)) refl (no_done (asked_of w seat) (of_steps 0) (seat_at w seat) seat drop_it))
+    ∙ answer_at (asked_of w seat) (steps_of w (Leave seat drop_it)) (report_of w (Leave seat drop_it)) (seat_at w seat) seat drop_it
 
 -- ---- places for Leaves
 
@@ -223,27 +223,28 @@ due_most (post ∷ posts) = let rest = due_most posts in let one = most post.sea
     most (Joined reader writer) = omega arith
     most (Closing reader writer) = omega arith
 
-abbrev state_in : Option Post → SeatState
+abbrev pub state_in : Option Post → SeatState
 state_in None = Free
 state_in (Some post) = post.seat.book.state
 
-due_same : (f : Post → Post) (place k : ℕ) (posts : List Post) → place < k → due (mapped_from (at_place f place) k posts) ≡ due posts
-due_same f place k posts lt = ap due (apart f place k posts lt)
+same_places : (m : SeatState → ℕ) (f : Post → Post) (place k : ℕ) (posts : List Post) → place < k → places_for m (mapped_from (at_place f place) k posts) ≡ places_for m posts
+same_places m f place k posts lt = ap (places_for m) (apart f place k posts lt)
 
--- a Leave that changes the state of a seat takes one place or more
-due_put : (f : Post → Post) (place k i : ℕ) (posts : List Post) (post : Post) → k + i ≡ place → slice_get posts i ≡ Some post → due_of (f post).seat.book.state + 1 ≤ due_of post.seat.book.state → due (mapped_from (at_place f place) k posts) + 1 ≤ due posts
-due_put f place k i [] post is at less = cc
-due_put f place k zero (y ∷ ys) post is at less =
+-- where a change of one seat gives so many places back
+fewer_places : (m : SeatState → ℕ) (n : ℕ) (f : Post → Post) (place k i : ℕ) (posts : List Post) (post : Post) → k + i ≡ place → slice_get posts i ≡ Some post → m (f post).seat.book.state + n ≤ m post.seat.book.state
+    → places_for m (mapped_from (at_place f place) k posts) + n ≤ places_for m posts
+fewer_places m n f place k i [] post is at less = cc
+fewer_places m n f place k zero (y ∷ ys) post is at less =
     let same : y ≡ post = cc in
     let here : k ≡ place = omega (arith, is) in
-    let rest = due_same f place (suc k) ys (omega (arith, here)) in
-    let head : due_of (at_place f place k y).seat.book.state ≡ due_of (f post).seat.book.state =
-    (λ j. due_of (cond ((ap (λ n. eqb n k) (sym here) ∙ eqb_same k) j) (f (same j)) (same j)).seat.book.state) in
-    let old : due_of y.seat.book.state ≡ due_of post.seat.book.state = ap (λ (x : Post). due_of x.seat.book.state) same in
+    let rest = same_places m f place (suc k) ys (omega (arith, here)) in
+    let head : m (at_place f place k y).seat.book.state ≡ m (f post).seat.book.state =
+    (λ j. m (cond ((ap (λ x. eqb x k) (sym here) ∙ eqb_same k) j) (f (same j)) (same j)).seat.book.state) in
+    let old : m y.seat.book.state ≡ m post.seat.book.state = ap (λ (x : Post). m x.seat.book.state) same in
     omega (arith, rest, head, old, less)
-due_put f place k (suc i) (y ∷ ys) post is at less =
-    let rest = due_put f place (suc k) i ys post (omega (arith, is)) at less in
-    let head : due_of (at_place f place k y).seat.book.state ≡ due_of y.seat.book.state = ap (λ b. due_of (cond b (f y) y).seat.book.state) (eqb_apart place k (omega (arith, is))) in
+fewer_places m n f place k (suc i) (y ∷ ys) post is at less =
+    let rest = fewer_places m n f place (suc k) i ys post (omega (arith, is)) at less in
+    let head : m (at_place f place k y).seat.book.state ≡ m y.seat.book.state = ap (λ b. m (cond b (f y) y).seat.book.state) (eqb_apart place k (omega (arith, is))) in
     omega (arith, rest, head)
 
 -- what is left once a seat was let go, or not
@@ -271,15 +272,52 @@ less_left drop_it s moves = by_state s.book.state refl moves
 
 moved_there : (state : State) (seat : ℕ) (drop : Bool) (o : Option Post) → slice_get state.posts seat ≡ o → leaves (standing (option_map (λ p. p.seat) o)) drop ≡ true → due (left_posts seat drop state.posts) + 1 ≤ due state.posts
 moved_there state seat drop_it None at moves = cc
-moved_there state seat drop_it (Some post) at moves = due_put (left_post drop_it) seat 0 seat state.posts post (zero-add seat) at (less_left drop_it post.seat moves)
+moved_there state seat drop_it (Some post) at moves = fewer_places due_of 1 (left_post drop_it) seat 0 seat state.posts post (zero-add seat) at (less_left drop_it post.seat moves)
 
 pub due_left : (state : State) (seat : ℕ) (drop : Bool) → changes_state (world_in state) (Leave seat drop) ≡ true → due (left_posts seat drop state.posts) + 1 ≤ due state.posts
 due_left state seat drop_it moves = moved_there state seat drop_it (slice_get state.posts seat) refl (sym (ap (λ o. leaves (standing o) drop_it) (slice_get-map (λ (x : Post). x.seat) state.posts seat)) ∙ moves)
 
 -- an opening owes none
-pub due_fresh : (posts : List Post) → AllByRecursion IsFreshSeat (map (λ post. post.seat) posts) → due posts ≡ 0
-due_fresh [] fresh = refl
-due_fresh (post ∷ posts) fresh = let rest = due_fresh posts fresh.1 in let one : due_of post.seat.book.state ≡ 0 = ap due_of fresh.0.book.state in omega (arith, rest, one)
+pub due_fresh : (m : SeatState → ℕ) (posts : List Post) → m Free ≡ 0 → AllByRecursion IsFreshSeat (map (λ post. post.seat) posts) → places_for m posts ≡ 0
+due_fresh m [] none fresh = refl
+due_fresh m (post ∷ posts) none fresh = let rest = due_fresh m posts none fresh.1 in let one : m post.seat.book.state ≡ 0 = ap m fresh.0.book.state ∙ none in omega (arith, rest, one)
+
+-- ---- places for Cuts
+
+pub cut_due_most : (posts : List Post) → cut_due posts ≤ length posts
+cut_due_most [] = omega arith
+cut_due_most (post ∷ posts) = let rest = cut_due_most posts in let one = most post.seat.book.state in omega (arith, rest, one)
+  where
+    most : (state : SeatState) → cut_due_of state ≤ 1
+    most Free = omega arith
+    most (Joined reader writer) = omega arith
+    most (Closing reader writer) = omega arith
+
+-- no seat that was left is Joined
+none_to_cut : (drop : Bool) (s : Seat) → cut_due_of (left_seat drop s).book.state ≡ 0
+none_to_cut drop_it s = by_let_go (is_let_go c) c (by_drop drop_it s.book.state)
+  where
+    c : Seat
+    c = record s { book = left_book drop_it s.book }
+
+    by_let_go : (t : Bool) (x : Seat) → cut_due_of x.book.state ≡ 0 → cut_due_of (cond t (freed_seat x) x).book.state ≡ 0
+    by_let_go true x h = refl
+    by_let_go false x h = h
+
+    by_state : (state : SeatState) → cut_due_of (closed state) ≡ 0
+    by_state Free = refl
+    by_state (Joined reader writer) = refl
+    by_state (Closing reader writer) = refl
+
+    by_drop : (d : Bool) (state : SeatState) → cut_due_of (left_book d s.book).state ≡ 0
+    by_drop true state = refl
+    by_drop false state = by_state s.book.state
+
+pub cut_there : (posts : List Post) (seat : ℕ) (drop : Bool) (n : ℕ) (o : Option Post) → slice_get posts seat ≡ o → n ≤ cut_due_of (state_in o) → cut_due (left_posts seat drop posts) + n ≤ cut_due posts
+cut_there posts seat drop_it n None at few = let same = ap cut_due (left_nowhere seat drop_it posts at) in omega (arith, same, few)
+cut_there posts seat drop_it n (Some post) at few =
+    let none = none_to_cut drop_it post.seat in
+    fewer_places cut_due_of n (left_post drop_it) seat 0 seat posts post (zero-add seat) at (omega (arith, none, few))
 
 -- ---- posts with room
 

@@ -7,7 +7,11 @@ pub mod Nexts
 pub mod Bounds
 pub mod Following
 pub mod Leaving
+pub mod Cutting
+pub mod CutLists
 pub mod Laws
+pub mod Overs
+pub mod SeenSums
 pub mod Posts
 pub mod Puts
 pub mod Shows

@@ -25,12 +25,14 @@ use Rattle.campaign_core.specs.declared.next.Prepared.{Prepared}
 use Rattle.campaign_core.specs.declared.campaign.Made.{Made}
 use Rattle.campaign_core.specs.declared.campaign.Made.TheVariants.{Whole, Alone}
 use Rattle.campaign_core.specs.declared.campaign.Staged.{Staged}
-use Rattle.campaign_core.specs.Leaving.{due}
+use Rattle.campaign_core.specs.CutList.{AreCuts, Ledger, cut_by}
+use Rattle.campaign_core.specs.Leaving.{due, cut_due}
 use Rattle.campaign_core.specs.Places.{Standing, posted, law}
 use Rattle.campaign_core.specs.Shown.{AreShown, kept_view}
 use Rattle.campaign_core.specs.Sound.{AreSound}
 use Rattle.campaign_core.specs.Running.{IsRunning, IsStaged, IsMade}
-use Rattle.campaign_core.proofs.Leaving.{due_most, replayed_sound}
+use Rattle.campaign_core.proofs.CutLists.{cuts_more}
+use Rattle.campaign_core.proofs.Leaving.{cut_due_most, due_most, replayed_sound}
 use Rattle.campaign_core.proofs.Following.{put_of}
 
 -- ---- an opening
@@ -46,33 +48,33 @@ opening_shown w views opening = record { each = λ seat joined. (let no : true �
 
 -- ---- what holds between entries
 
-pub world_now : (origin : World) (h : List Entry) (room : ℕ) (before : Standing) (kept : Kept) (stage : Option Staged) → IsRunning origin h room before kept stage → world_in (law before) ≡ replay origin h
-world_now origin h room before kept stage r = ap world_in r.now ∙ world_in-state_of origin h
+pub world_now : (origin : World) (h : List Entry) (ledger : Ledger) (before : Standing) (kept : Kept) (stage : Option Staged) → IsRunning origin h ledger before kept stage → world_in (law before) ≡ replay origin h
+world_now origin h ledger before kept stage r = ap world_in r.now ∙ world_in-state_of origin h
 
-pub running_settled : (origin : World) (h : List Entry) (room : ℕ) (before : Standing) (kept : Kept) (stage : Option Staged) → IsRunning origin h room before kept stage → IsSettled before.scene
-running_settled origin h room before kept stage r = subst (λ (w : World). IsSettled w.scene) (sym (world_now origin h room before kept stage r)) (replay_settled origin h r.opening.scene)
+pub running_settled : (origin : World) (h : List Entry) (ledger : Ledger) (before : Standing) (kept : Kept) (stage : Option Staged) → IsRunning origin h ledger before kept stage → IsSettled before.scene
+running_settled origin h ledger before kept stage r = subst (λ (w : World). IsSettled w.scene) (sym (world_now origin h ledger before kept stage r)) (replay_settled origin h r.opening.scene)
 
-pub running_sound : (origin : World) (h : List Entry) (room : ℕ) (before : Standing) (kept : Kept) (stage : Option Staged) → IsRunning origin h room before kept stage → AreSound (law before).posts
-running_sound origin h room before kept stage r = replayed_sound origin h (law before) r.opening r.fits r.now
+pub running_sound : (origin : World) (h : List Entry) (ledger : Ledger) (before : Standing) (kept : Kept) (stage : Option Staged) → IsRunning origin h ledger before kept stage → AreSound (law before).posts
+running_sound origin h ledger before kept stage r = replayed_sound origin h (law before) r.opening r.fits r.now
 
-pub running_fits : (origin : World) (h : List Entry) (room : ℕ) (before : Standing) (kept : Kept) (stage : Option Staged) → IsRunning origin h room before kept stage → FitsTogether (world_in (law before))
-running_fits origin h room before kept stage r = subst FitsTogether (sym (world_now origin h room before kept stage r)) (fits_always origin h r.fits)
+pub running_fits : (origin : World) (h : List Entry) (ledger : Ledger) (before : Standing) (kept : Kept) (stage : Option Staged) → IsRunning origin h ledger before kept stage → FitsTogether (world_in (law before))
+running_fits origin h ledger before kept stage r = subst FitsTogether (sym (world_now origin h ledger before kept stage r)) (fits_always origin h r.fits)
 
-pub running_tables : (origin : World) (h : List Entry) (room : ℕ) (before : Standing) (kept : Kept) (stage : Option Staged) → IsRunning origin h room before kept stage → HasTables before.scene
-running_tables origin h room before kept stage r = subst (λ (w : World). HasTables w.scene) (sym (world_now origin h room before kept stage r)) (tables_always origin h r.fits r.tables)
+pub running_tables : (origin : World) (h : List Entry) (ledger : Ledger) (before : Standing) (kept : Kept) (stage : Option Staged) → IsRunning origin h ledger before kept stage → HasTables before.scene
+running_tables origin h ledger before kept stage r = subst (λ (w : World). HasTables w.scene) (sym (world_now origin h ledger before kept stage r)) (tables_always origin h r.fits r.tables)
 
 -- the kept view of a seat that is Joined is what it is shown
-pub shown_now : (origin : World) (h : List Entry) (room : ℕ) (before : Standing) (kept : Kept) (stage : Option Staged) → IsRunning origin h room before kept stage → (seat : ℕ)
+pub shown_now : (origin : World) (h : List Entry) (ledger : Ledger) (before : Standing) (kept : Kept) (stage : Option Staged) → IsRunning origin h ledger before kept stage → (seat : ℕ)
     → was_joined (seat_at (replay origin h) seat) ≡ true → view_at seat kept.views ≡ Some (view_of (replay origin h).scene seat)
-shown_now origin h room before kept stage r seat joined =
-    let shown : AreShown (replay origin h) kept.views = subst (λ (w : World). AreShown w kept.views) (world_now origin h room before kept stage r) r.views in
+shown_now origin h ledger before kept stage r seat joined =
+    let shown : AreShown (replay origin h) kept.views = subst (λ (w : World). AreShown w kept.views) (world_now origin h ledger before kept stage r) r.views in
     shown.each seat joined
 
 -- the view that was put for a seat that is Joined is what it is shown
-pub put_now : (origin : World) (h : List Entry) (room : ℕ) (before : Standing) (kept : Kept) (stage : Option Staged) → IsRunning origin h room before kept stage → (seat : ℕ) (s : Seat)
+pub put_now : (origin : World) (h : List Entry) (ledger : Ledger) (before : Standing) (kept : Kept) (stage : Option Staged) → IsRunning origin h ledger before kept stage → (seat : ℕ) (s : Seat)
     → Some s ≡ seat_at (replay origin h) seat → is_joined s.book.state ≡ true → put_at seat kept.views ≡ Some (view_of (replay origin h).scene seat)
-put_now origin h room before kept stage r seat s at joined =
-    put_of seat kept.views (view_of (replay origin h).scene seat) (shown_now origin h room before kept stage r seat (sym (ap was_joined at) ∙ joined))
+put_now origin h ledger before kept stage r seat s at joined =
+    put_of seat kept.views (view_of (replay origin h).scene seat) (shown_now origin h ledger before kept stage r seat (sym (ap was_joined at) ∙ joined))
 
 pub view_joined : (w : World) (seat : ℕ) (s : Seat) → Some s ≡ seat_at w seat → is_joined s.book.state ≡ true → Some (view_of w.scene seat) ≡ kept_view w seat
 view_joined w seat s at joined = ap (λ b. cond b (Some (view_of w.scene seat)) None) (sym joined ∙ ap was_joined at)
@@ -80,11 +82,13 @@ view_joined w seat s at joined = ap (λ b. cond b (Some (view_of w.scene seat)) 
 -- ---- staging
 
 -- what leaves the state as it is and takes no place leaves it running
-pub restaged : (origin : World) (h : List Entry) (room room' : ℕ) (before after : Standing) (kept : Kept) (stage stage' : Option Staged) → IsRunning origin h room before kept stage
-    → law after ≡ law before → length after.posts ≡ length before.posts → room ≤ room' → IfSome stage' (IsStaged room' after kept) → IsRunning origin h room' after kept stage'
-restaged origin h room room' before after kept stage stage' r same count more staged =
+pub restaged : (origin : World) (h : List Entry) (ledger ledger' : Ledger) (before after : Standing) (kept : Kept) (stage stage' : Option Staged) → IsRunning origin h ledger before kept stage
+    → law after ≡ law before → length after.posts ≡ length before.posts → ledger'.cuts ≡ ledger.cuts → ledger.places ≤ ledger'.places → ledger.cut_places ≤ ledger'.cut_places → IfSome stage' (IsStaged ledger' after kept) → IsRunning origin h ledger' after kept stage'
+restaged origin h ledger ledger' before after kept stage stage' r same count list more more_cuts staged =
     let places = r.owed in
     let owed = ap (λ (s : State). due s.posts) same in
+    let cut_places = r.owed_cuts in
+    let owed_cuts = ap (λ (s : State). cut_due s.posts) same in
     record {
       now = same ∙ r.now;
       opening = r.opening;
@@ -95,7 +99,9 @@ restaged origin h room room' before after kept stage stage' r same count more st
       views = subst (λ (s : State). AreShown (world_in s) kept.views) (sym same) r.views;
       count = r.count ∙ sym count;
       most = r.most;
+      cuts = subst (AreCuts origin h) (sym list) r.cuts;
       owed = omega (arith, places, owed, more);
+      owed_cuts = omega (arith, cut_places, owed_cuts, more_cuts);
       staged = staged;
     }
 
@@ -108,10 +114,10 @@ world_after s e =
     (map-mapped_from (post_after w e) (λ (post : Post). post.seat) 0 s.posts ∙ sym (mapped_from-map (seat_after w e) (λ (post : Post). post.seat) 0 s.posts))
 
 -- an entry more
-pub advances : (origin : World) (h h' : List Entry) (room room' : ℕ) (before after : Standing) (kept kept' : Kept) (stage : Option Staged) (e : Entry) → IsRunning origin h room before kept stage
+pub advances : (origin : World) (h h' : List Entry) (ledger ledger' : Ledger) (before after : Standing) (kept kept' : Kept) (stage : Option Staged) (e : Entry) → IsRunning origin h ledger before kept stage
     → law after ≡ state_after (law before) e → length after.posts ≡ length before.posts → AreKept after.scene kept'.fields → AreShown (step (world_in (law before)) e) kept'.views
-    → length kept'.views ≡ length kept.views → due (law after).posts ≤ room' → h' ≡ h ++ e ∷ [] → IsRunning origin h' room' after kept' None
-advances origin h h' room room' before after kept kept' stage e r next seats fields shown same owed more = record {
+    → length kept'.views ≡ length kept.views → due (law after).posts ≤ ledger'.places → cut_due (law after).posts ≤ ledger'.cut_places → h' ≡ h ++ e ∷ [] → ledger'.cuts ≡ ledger.cuts ++ cut_by (replay origin h) (length h) e → IsRunning origin h' ledger' after kept' None
+advances origin h h' ledger ledger' before after kept kept' stage e r next seats fields shown same owed owed_cuts more list = record {
   now = next ∙ ap (λ s. state_after s e) r.now ∙ state_of-more origin h e r.opening ∙ ap (state_of origin) (sym more);
   opening = r.opening;
   fits = r.fits;
@@ -121,14 +127,25 @@ advances origin h h' room room' before after kept kept' stage e r next seats fie
   views = subst (λ w. AreShown w kept'.views) (sym (ap world_in next ∙ world_after (law before) e)) shown;
   count = same ∙ r.count ∙ sym seats;
   most = subst (λ n. n ≤ 33) (sym same) r.most;
+  cuts = cuts_more origin h h' e ledger.cuts ledger'.cuts r.cuts more list;
   owed = owed;
+  owed_cuts = owed_cuts;
   staged = tt;
 }
 
 -- no more is owed than two places a seat
-pub owed_most : (origin : World) (h : List Entry) (room : ℕ) (before after : Standing) (kept : Kept) (stage : Option Staged) → IsRunning origin h room before kept stage → length after.posts ≡ length before.posts → due (law after).posts ≤ 66
-owed_most origin h room before after kept stage r seats =
+pub owed_most : (origin : World) (h : List Entry) (ledger : Ledger) (before after : Standing) (kept : Kept) (stage : Option Staged) → IsRunning origin h ledger before kept stage → length after.posts ≡ length before.posts → due (law after).posts ≤ 66
+owed_most origin h ledger before after kept stage r seats =
     let few = due_most (law after).posts in
+    let posts : length (law after).posts ≡ length after.posts = length-map after.posts posted in
+    let count = r.count in
+    let most = r.most in
+    omega (arith, few, posts, seats, count, most)
+
+-- and one place in the list of cuts
+pub owed_cuts_most : (origin : World) (h : List Entry) (ledger : Ledger) (before after : Standing) (kept : Kept) (stage : Option Staged) → IsRunning origin h ledger before kept stage → length after.posts ≡ length before.posts → cut_due (law after).posts ≤ 33
+owed_cuts_most origin h ledger before after kept stage r seats =
+    let few = cut_due_most (law after).posts in
     let posts : length (law after).posts ≡ length after.posts = length-map after.posts posted in
     let count = r.count in
     let most = r.most in
@@ -136,8 +153,8 @@ owed_most origin h room before after kept stage r seats =
 
 -- ---- what is staged
 
-pub made_is : (places : ℕ) (before : Standing) (kept : Kept) (stage : Option Staged) (s : Staged) (made : Made) → Some s ≡ stage → s.made ≡ made → IfSome stage (IsStaged places before kept) → IsMade places before kept s.entry made
-made_is places before kept stage s made is at fits = subst (IsMade places before kept s.entry) at (subst (λ o. IfSome o (IsStaged places before kept)) (sym is) fits)
+pub made_is : (ledger : Ledger) (before : Standing) (kept : Kept) (stage : Option Staged) (s : Staged) (made : Made) → Some s ≡ stage → s.made ≡ made → IfSome stage (IsStaged ledger before kept) → IsMade ledger before kept s.entry made
+made_is ledger before kept stage s made is at fits = subst (IsMade ledger before kept s.entry) at (subst (λ o. IfSome o (IsStaged ledger before kept)) (sym is) fits)
 
 pub if_is : {A : Type 0} (o : Option A) (a : A) (P : A → Type 0) → o ≡ Some a → P a → IfSome o P
 if_is o a P is h = subst (λ x. IfSome x P) (sym is) h

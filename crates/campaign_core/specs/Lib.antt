@@ -9,4 +9,7 @@ pub mod Shown
 pub mod Glances
 pub mod Changed
 pub mod Prepared
+pub mod Over
+pub mod Totals
+pub mod CutList
 pub mod Running

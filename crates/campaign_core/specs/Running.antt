@@ -1,5 +1,5 @@
 -- What holds of a running campaign.
-use Rattle.std.specs.Prelude.{◌≡◌, ◌≤◌, ℕ, true, List, length, Option, IfSome}
+use Rattle.std.specs.Prelude.{◌≡◌, ◌≤◌, true, false, List, length, Option, IfSome}
 use Rattle.view_keep.specs.Kept.{Kept}
 use Rattle.player_view.specs.Tables.{HasTables}
 use Rattle.command_looks.specs.Fields.{AreKept}
@@ -14,7 +14,8 @@ use Rattle.campaign_core.specs.declared.next.Prepared.{Prepared}
 use Rattle.campaign_core.specs.declared.campaign.Made.{Made}
 use Rattle.campaign_core.specs.declared.campaign.Made.TheVariants.{Whole, Alone}
 use Rattle.campaign_core.specs.declared.campaign.Staged.{Staged}
-use Rattle.campaign_core.specs.Leaving.{due}
+use Rattle.campaign_core.specs.CutList.{AreCuts, Ledger}
+use Rattle.campaign_core.specs.Leaving.{due, cut_due}
 use Rattle.campaign_core.specs.Places.{Standing, law, HaveRoom}
 use Rattle.campaign_core.specs.Shown.{AreShown}
 use Rattle.campaign_core.specs.Prepared.{IsPrepared}
@@ -23,23 +24,26 @@ abbrev pub entry_in : Staged → Entry
 entry_in staged = staged.entry
 
 -- all that the entry makes is prepared, and there is room for it: in the queues, and in the history a place for it and two for
--- each of 33 seats
-pub record IsWhole (places : ℕ) (before : Standing) (kept : Kept) (e : Entry) (p : Prepared) : Type 0 where
-  pub enough : 67 ≤ places
+-- each of 33 seats, of which each has a place in the list of cuts
+pub record IsWhole (ledger : Ledger) (before : Standing) (kept : Kept) (e : Entry) (p : Prepared) : Type 0 where
+  pub still : changes_state (world_in (law before)) e ≡ false
+  pub enough : 67 ≤ ledger.places
+  pub enough_cuts : 33 ≤ ledger.cut_places
   pub room : HaveRoom p.nexts.items before.posts
   pub prepared : IsPrepared (law before) kept e p
 
--- an entry stages itself alone only as a Leave that changes its seat's state
-abbrev pub IsMade : ℕ → Standing → Kept → Entry → Made → Type 0
-IsMade places before kept e (Whole p) = IsWhole places before kept e p
-IsMade places before kept e Alone = changes_state (world_in (law before)) e ≡ true
+-- an entry stages itself alone only as a Leave that changes its seat's state, or as a Cut of a Joined seat
+abbrev pub IsMade : Ledger → Standing → Kept → Entry → Made → Type 0
+IsMade ledger before kept e (Whole p) = IsWhole ledger before kept e p
+IsMade ledger before kept e Alone = changes_state (world_in (law before)) e ≡ true
 
-abbrev pub IsStaged : ℕ → Standing → Kept → Staged → Type 0
-IsStaged places before kept s = IsMade places before kept s.entry s.made
+abbrev pub IsStaged : Ledger → Standing → Kept → Staged → Type 0
+IsStaged ledger before kept s = IsMade ledger before kept s.entry s.made
 
--- the state is that after the history; its fields are kept, and the view of each seat that is Joined; in the history there are
--- places for all the Leaves that still change a seat's state; what is staged fits
-pub record IsRunning (origin : World) (history : List Entry) (places : ℕ) (before : Standing) (kept : Kept) (stage : Option Staged) : Type 0 where
+-- the state is that after the history; its fields are kept, and the view of each seat that is Joined; so is the list of cuts; in the
+-- history there are places for all the Leaves and Cuts that still change a seat's state, and in the list for these Cuts; what is
+-- staged fits
+pub record IsRunning (origin : World) (history : List Entry) (ledger : Ledger) (before : Standing) (kept : Kept) (stage : Option Staged) : Type 0 where
   pub now : law before ≡ state_of origin history
   pub opening : IsOpening origin
   pub fits : FitsTogether origin
@@ -49,5 +53,7 @@ pub record IsRunning (origin : World) (history : List Entry) (places : ℕ) (bef
   pub views : AreShown (world_in (law before)) kept.views
   pub count : length kept.views ≡ length before.posts
   pub most : length kept.views ≤ 33
-  pub owed : due (law before).posts ≤ places
-  pub staged : IfSome stage (IsStaged places before kept)
+  pub cuts : AreCuts origin history ledger.cuts
+  pub owed : due (law before).posts ≤ ledger.places
+  pub owed_cuts : cut_due (law before).posts ≤ ledger.cut_places
+  pub staged : IfSome stage (IsStaged ledger before kept)

@@ -10,12 +10,18 @@ ghost use Rattle.command_looks.specs.Fields.{field_for};
 ghost use Rattle.command_looks.specs.Touched.{looks_of, looks_of_opening};
 ghost use Rattle.campaign_core.specs.Shown.{kept_view};
 ghost use Rattle.campaign_law.specs.World.{outcome_of, seat_at};
-ghost use Rattle.campaign_law.specs.Session.{session, waiting, changes_state};
+ghost use Rattle.seats.specs.SeatState.{is_joined};
+ghost use Rattle.campaign_law.specs.Session.{session, waiting, standing, changes_state};
+ghost use Rattle.campaign_law.specs.Cuts.{is_cut_since};
+ghost use Rattle.campaign_core.specs.Over.{over_of};
+ghost use Rattle.campaign_core.specs.Totals.{seen_total as seen_total_lem};
 ghost use Rattle.campaign_law.specs.Law.{IsOpening, IsSentAsMachine, ChangesLittle, world_of, answer_after};
 
+use crate::cuts::{SeatCut, add_cut, any_since};
 use crate::next::{Prepared, act, leave, made_by};
 use crate::state::{Post, State};
 use crate::tables::open_tables;
+use crate::totals::seen_total;
 use campaign_file::{BadCampaign, FileFault, read_campaign};
 use campaign_law::{Answer, Entry};
 use cells::CellSet;
@@ -38,12 +44,15 @@ mod dumping;
 /// A place in the history for an entry, and two for each seat: a Joined one becomes Closing, and then Free.
 const PLACES: usize = 67;
 
+/// A place in the list of cuts for each seat.
+const CUT_PLACES: usize = 33;
+
 /// What is made of an entry before it is committed.
 #[derive(Drop)]
 pub(crate) enum Made {
     /// All that it makes.
     Whole(Prepared),
-    /// Nothing: a Leave that changes its seat's state is done in place.
+    /// Nothing: a Leave that changes its seat's state, or a Cut of a Joined seat, is done in place.
     Alone,
 }
 
@@ -56,7 +65,7 @@ pub(crate) struct Staged {
 
 /// A campaign: the world that it opened with, and its history since. Its state is the replay of the
 /// history from that world. By its eye it finds what tokens see; the fields that it found are kept, and the
-/// view of each Joined seat. An entry may be staged.
+/// view of each Joined seat; so is the list of the Cuts that freed a seat. An entry may be staged.
 #[derive(Drop)]
 pub struct Campaign<E: Eye> {
     alloc: Global,
@@ -65,6 +74,7 @@ pub struct Campaign<E: Eye> {
     state: State,
     keep: Keep,
     history: Vec<Entry>,
+    cuts: Vec<SeatCut>,
     staged: Option<Staged>,
 }
 
@@ -79,7 +89,7 @@ impl<E: Eye> Model for Campaign<E> {
 
     ghost view = { λ c. record { origin = world_in (law c.origin); history = c.history.items; staged = option_map entry_in c.staged; looks = E.looks_made c.eye } };
 
-    ghost invariant = { λ c. IsRunning (world_in (law c.origin)) c.history.items (vec_capacity c.history - vec_len c.history) c.state c.keep c.staged };
+    ghost invariant = { λ c. IsRunning (world_in (law c.origin)) c.history.items (record { places = vec_capacity c.history - vec_len c.history; cuts = c.cuts.items; cut_places = vec_capacity c.cuts - vec_len c.cuts }) c.state c.keep c.staged };
 }
 
 /// The world that a campaign opened with. No value of it is made.
@@ -174,12 +184,14 @@ impl<E: Eye + Drop> Campaign<E> {
             state,
             keep,
             history: Vec::new(alloc),
+            cuts: Vec::new(alloc),
             staged: None,
         })
     }
 
     /// Takes all memory that the entry needs, and stages it. An entry that was staged before is dropped. The entry comes
-    /// back only for want of memory, and then none is staged. A Leave that changes its seat's state takes no memory.
+    /// back only for want of memory, and then none is staged. A Leave that changes its seat's state takes no memory, nor does a
+    /// Cut of a Joined seat.
     pub fn prepare(&mut self, entry: Entry) -> Result<(), Entry>
         ensures staged { OnOk result (self.new ≡ record self.old { staged = Some entry; looks = self.new.looks }) }
         ensures back { IfErr result (λ e. e ≡ entry) }
@@ -204,6 +216,9 @@ impl<E: Eye + Drop> Campaign<E> {
             return Err(entry);
         }
         if self.history.reserve(PLACES).is_err() {
+            return Err(entry);
+        }
+        if self.cuts.reserve(CUT_PLACES).is_err() {
             return Err(entry);
         }
         let made = Made::Whole(prepared);
@@ -238,6 +253,8 @@ impl<E: Eye + Drop> Campaign<E> {
         let prepared = match made {
             Made::Whole(prepared) => prepared,
             Made::Alone => {
+                let place = self.history.len() as u64;
+                add_cut(&mut self.cuts, &self.state, place, &entry);
                 let answer = leave(&mut self.state, &entry);
                 self.history.push_reserved(entry);
                 return answer;
@@ -250,7 +267,7 @@ impl<E: Eye + Drop> Campaign<E> {
 
     /// Applies an entry and appends it to the history. The entry comes back only for want of memory, and
     /// the campaign is then as before, but for its looks; none is staged then. A Leave that changes its seat's state
-    /// takes no memory.
+    /// takes no memory, nor does a Cut of a Joined seat.
     pub fn step(&mut self, entry: Entry) -> Result<Answer, Entry>
         ensures origin { self.new.origin ≡ self.old.origin }
         ensures history { OnOk result (self.new.history ≡ self.old.history ++ entry ∷ []) }
@@ -288,6 +305,16 @@ impl<E: Eye + Drop> Campaign<E> {
         ensures { option_copied result ≡ field_for (world_of self.now).scene id }
     {
         self.keep.fields().get(id)
+    }
+
+    /// How many cells the players see, over all maps: a cell counts for each player that sees it. `Memory` is want of memory.
+    pub fn seen_total(&self) -> Result<u64, Memory>
+        ensures { IfOk result (λ n. n ≡ seen_total_lem (world_of self.now).scene) }
+    {
+        let scene = self.state.scene();
+        let fields = self.keep.fields();
+        serve(scene, fields);
+        seen_total(self.alloc, scene, fields)
     }
 
     /// How many looks the eye made.
@@ -344,6 +371,25 @@ impl<E: Eye + Drop> Campaign<E> {
         ensures { Some result ≡ option_map (λ s. s.queued) (seat_at (world_of self.now) seat) }
     {
         self.post(seat).queued
+    }
+
+    /// The least seat that is Joined and for which more than 4,194,304 bytes wait, the LF of each line counted; `None` exactly
+    /// where there is none. Only the seats are walked, and none of the lines.
+    pub fn over(&self) -> Option<SeatNo>
+        ensures value { result ≡ over_of self.now.origin self.now.history }
+        ensures joined { IfSome result (λ seat. is_joined (standing (seat_at (world_of self.now) seat)) ≡ true) }
+        ensures seat { IfSome result (λ seat. seat < length self.now.origin.seats) }
+    {
+        self.state.over()
+    }
+
+    /// Whether a Cut of the seat stands in the history at this place or behind it, before which the seat was Joined with these
+    /// pass numbers.
+    pub fn cut_since(&self, place: u64, seat: SeatNo, reader: u64, writer: u64) -> bool
+        requires { seat < length self.now.origin.seats }
+        ensures { result ≡ is_cut_since self.now.origin self.now.history place seat reader writer }
+    {
+        any_since(&self.cuts, place, seat, reader, writer)
     }
 
     /// The lines of the seat's session that weren't taken, from the number `first` on, counted from 0

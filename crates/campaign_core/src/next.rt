@@ -14,7 +14,8 @@ ghost use Rattle.campaign_law.specs.Worlds.{FitsTogether};
 ghost use Rattle.campaign_law.specs.Session.{changes_state};
 ghost use Rattle.campaign_law.specs.State.{state_after, world_in};
 ghost use Rattle.campaign_core.specs.Places.{law, world_at, put_all, HaveRoom};
-ghost use Rattle.campaign_core.specs.Leaving.{due};
+ghost use Rattle.campaign_core.specs.CutList.{cut_by};
+ghost use Rattle.campaign_core.specs.Leaving.{cut_due, due, frees as frees_lem};
 ghost use Rattle.campaign_core.specs.Sound.{AreSound};
 ghost use Rattle.campaign_law.specs.Law.{answer_of};
 ghost use Rattle.campaign_core.specs.Changed.{IsChanged, scene_in, fields_in};
@@ -377,7 +378,7 @@ pub(crate) fn act(state: &mut State, keep: &mut Keep, entry: &Entry, prepared: P
     answer
 }
 
-/// The entry is a Leave that changes its seat's state. It takes no memory.
+/// The entry is a Leave that changes its seat's state, or a Cut of a Joined seat. It takes no memory.
 pub(crate) fn leave(state: &mut State, entry: &Entry) -> Answer
     requires settled { IsSettled state.old.scene }
     requires sound { AreSound (law state.old).posts }
@@ -386,15 +387,24 @@ pub(crate) fn leave(state: &mut State, entry: &Entry) -> Answer
     ensures seats { length state.new.posts ≡ length state.old.posts }
     ensures scene { state.new.scene ≡ state.old.scene }
     ensures owed { due (law state.new).posts + 1 ≤ due (law state.old).posts }
+    ensures owed_cuts { (place : ℕ) → cut_due (law state.new).posts + length (cut_by (world_in (law state.old)) place entry.now) ≤ cut_due (law state.old).posts }
     ensures answer { result ≡ answer_of (steps_of (world_in (law state.old)) entry.now) (outcome_of (world_in (law state.old)) entry.now) }
 {
-    match entry {
-        Entry::Leave { seat, drop } => state.leave(*seat, *drop),
-        Entry::Join { .. } | Entry::Line { .. } | Entry::Taken { .. } => unreachable!(),
-    }
+    state.leave(entry.seat(), frees(entry));
     Answer {
         refusal: None,
         taken: 0,
         line: None,
+    }
+}
+
+/// Whether the entry frees a seat whose state it changes.
+fn frees(entry: &Entry) -> bool
+    ensures { result ≡ frees_lem entry.now }
+{
+    match entry {
+        Entry::Leave { drop, .. } => *drop,
+        Entry::Cut { .. } => true,
+        Entry::Join { .. } | Entry::Line { .. } | Entry::Taken { .. } => false,
     }
 }

@@ -8,6 +8,7 @@ pub mod Session
 pub mod State
 pub mod Player
 pub mod Law
+pub mod Hellos
 pub mod Cuts
 pub mod SessionLaws
 pub mod Written

@@ -1,6 +1,7 @@
 //! The lines that wait for a seat.
-ghost use Rattle.std.specs.Prelude.{◌≡◌, ◌≤◌, ◌++◌, ◌-◌, [], ◌∷◌, IfOk, IfSome, OnOk, drop, length, map};
+ghost use Rattle.std.specs.Prelude.{◌≡◌, ◌≤◌, ◌++◌, ◌-◌, [], ◌∷◌, IfOk, IfSome, OnOk, drop, length, map, nat_lt};
 ghost use Rattle.mails.specs.Texts.{text_of};
+ghost use Rattle.mails.specs.Waiting.{IsSum};
 
 use names::{LineText, Memory};
 use std::alloc::Global;
@@ -11,16 +12,20 @@ use std::marker::Model;
 #[derive(Drop)]
 pub struct Mail {
     lines: VecDeque<LineText>,
+    /// How many bytes they have, with their LFs; none, where they once were more than can be counted.
+    size: Option<u64>,
 }
 
 impl Model for Mail {
     ghost use Rattle.std.specs.Prelude.{◌-◌};
     ghost use Rattle.std.specs.VecDeque.{deque_len, deque_capacity};
-    ghost use Rattle.mails.specs.Waiting.{Waiting};
+    ghost use Rattle.mails.specs.Waiting.{Waiting, IsCounted};
 
     ghost Value = { Waiting };
 
     ghost view = { λ m. record { lines = m.lines.items; room = deque_capacity m.lines - deque_len m.lines } };
+
+    ghost invariant = { λ m. IsCounted m.size m.lines.items };
 }
 
 impl Mail {
@@ -30,6 +35,7 @@ impl Mail {
     {
         Mail {
             lines: VecDeque::new(alloc),
+            size: Some(0),
         }
     }
 
@@ -51,7 +57,8 @@ impl Mail {
                 return Err(Memory);
             }
         }
-        Ok(Mail { lines })
+        let size = self.size;
+        Ok(Mail { lines, size })
     }
 
     /// The lines from the place `first` on, each with its LF.
@@ -118,9 +125,26 @@ impl Mail {
 
     /// Takes out all lines.
     pub fn clear(&mut self)
-        ensures { self.new.lines ≡ [] }
+        ensures lines { self.new.lines ≡ [] }
+        ensures room { self.old.room ≤ self.new.room }
     {
         self.lines.clear();
+        self.size = Some(0);
+    }
+
+    /// How many bytes the lines from the place `gone` on have, with their LFs, by those before it; none, where they once
+    /// were more than can be counted.
+    fn size_past(&self, gone: usize) -> Option<u64>
+        requires { gone ≤ length self.now.lines }
+        ensures { IfSome result (λ n. n ≡ length (text_of (drop gone self.now.lines))) }
+    {
+        let mut size = self.size?;
+        for place in 0..gone {
+            size = size
+                .checked_sub(self.lines[place].bytes().len() as u64)?
+                .checked_sub(1)?;
+        }
+        Some(size)
     }
 
     /// Takes out the first `gone` lines, in the time of these.
@@ -129,10 +153,12 @@ impl Mail {
         ensures room { self.old.room ≤ self.new.room }
     {
         if gone >= self.lines.len() as u64 {
-            self.lines.clear();
+            self.clear();
             return;
         }
+        let size = self.size_past(gone as usize);
         let _gone = self.lines.drain(..gone as usize);
+        self.size = size;
     }
 
     /// Puts in further lines, for which there are places. It takes no memory.
@@ -140,12 +166,57 @@ impl Mail {
         requires { length lines.items ≤ self.old.room }
         ensures { self.new.lines ≡ self.old.lines ++ lines.items }
     {
+        let size = sum_of(self.size, size_of(&lines));
         let mut further = VecDeque::from_vec(lines);
         match self.lines.append(&mut further) {
             Ok(()) => {}
             Err(_) => unreachable!(),
         }
+        self.size = size;
     }
+
+    /// Whether the lines have more bytes than this, with their LFs. No line is walked, unless they once were more than can
+    /// be counted.
+    pub fn is_longer_than(&self, limit: u64) -> bool
+        ensures { result ≡ nat_lt limit (length (text_of self.now.lines)) }
+    {
+        match self.size {
+            Some(size) => limit < size,
+            None => self.is_walked_past(limit),
+        }
+    }
+
+    /// The same, line by line.
+    fn is_walked_past(&self, limit: u64) -> bool
+        ensures { result ≡ nat_lt limit (length (text_of self.now.lines)) }
+    {
+        let mut left = limit;
+        for place in 0..self.lines.len() {
+            let length = self.lines[place].bytes().len() as u64;
+            if length >= left {
+                return true;
+            }
+            left -= length + 1;
+        }
+        false
+    }
+}
+
+/// How many bytes these lines have, with their LFs; none, where they are more than can be counted.
+fn size_of(lines: &[LineText]) -> Option<u64>
+    ensures { IfSome result (λ n. n ≡ length (text_of lines.now)) }
+{
+    let mut size: u64 = 0;
+    for line in lines {
+        size = size.checked_add(line.bytes().len() as u64)?.checked_add(1)?;
+    }
+    Some(size)
+}
+
+fn sum_of(first: Option<u64>, second: Option<u64>) -> Option<u64>
+    ensures { IfSome result (IsSum first second) }
+{
+    first?.checked_add(second?)
 }
 
 /// The line with its LF.

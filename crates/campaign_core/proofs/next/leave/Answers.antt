@@ -1,20 +1,18 @@
-use Rattle.std.proofs.Common.{◌≡◌, ◌≤◌, ◌+◌, ◌∙◌, ap, sym, subst, true, arith, ℕ, map, length}
+use Rattle.std.proofs.Common.{◌≡◌, ◌≤◌, ◌+◌, ◌∙◌, ap, sym, arith, ℕ, map, length}
 use Rattle.std.proofs.lemmas.List.{length-map}
-use Rattle.campaign_law.specs.declared.entry.Entry.{Entry}
-use Rattle.campaign_law.specs.declared.entry.Entry.TheVariants.{Leave}
-use Rattle.campaign_law.specs.World.{steps_of, outcome_of}
-use Rattle.campaign_law.specs.Session.{changes_state}
-use Rattle.campaign_law.specs.State.{State, world_in, state_after}
-use Rattle.campaign_law.specs.Law.{answer_of}
+use Rattle.campaign_law.specs.State.{State, world_in}
 use Rattle.campaign_law.proofs.Lists.{length-mapped_from}
-use Rattle.campaign_core.specs.Leaving.{due}
+use Rattle.campaign_core.specs.Leaving.{cut_due, due, frees, left_posts}
 use Rattle.campaign_core.specs.Places.{law, posted}
-use Rattle.campaign_core.proofs.Leaving.{leave_state, leave_answer, due_left}
+use Rattle.campaign_law.specs.Outcome.{seat_of}
+use Rattle.campaign_core.proofs.Cutting.{moved_answer, moved_cuts, moved_due, moved_state}
 use Rattle.campaign_core.proofs.next.leave.Goals as goal
 
 pub returns-clause-state : goal.returns-clause-state
 returns-clause-state c =
-    c.leave.ensures ∙ leave_state (law c.args.state.now) c.in-Leave.seat c.in-Leave.drop c.requires.settled c.requires.sound ∙ ap (state_after (law c.args.state.now)) (sym c.in-Leave.is)
+    c.leave.ensures
+    ∙ (λ i. record { posts = left_posts (c.seat.ensures i) (c.frees.ensures i) (law c.args.state.now).posts; scene = c.args.state.now.scene })
+    ∙ moved_state (law c.args.state.now) c.args.entry.now c.requires.moves c.requires.settled c.requires.sound
 
 pub returns-clause-seats : goal.returns-clause-seats
 returns-clause-seats c =
@@ -26,12 +24,15 @@ returns-clause-scene c = ap (λ (s : State). s.scene) c.leave.ensures
 
 pub returns-clause-owed : goal.returns-clause-owed
 returns-clause-owed c =
-    let moves : changes_state (world_in (law c.args.state.now)) (Leave c.in-Leave.seat c.in-Leave.drop) ≡ true = ap (changes_state (world_in (law c.args.state.now))) (sym c.in-Leave.is) ∙ c.requires.moves in
-    let less = due_left (law c.args.state.now) c.in-Leave.seat c.in-Leave.drop moves in
-    let now = ap (λ (s : State). due s.posts) c.leave.ensures in
+    let less = moved_due (law c.args.state.now) c.args.entry.now c.requires.moves in
+    let now = ap (λ (s : State). due s.posts) c.leave.ensures ∙ (λ i. due (left_posts (c.seat.ensures i) (c.frees.ensures i) (law c.args.state.now).posts)) in
     omega (arith, less, now)
 
+pub returns-clause-owed_cuts : goal.returns-clause-owed_cuts
+returns-clause-owed_cuts c = λ place. (
+    let less = moved_cuts (law c.args.state.now) c.args.entry.now place c.requires.moves in
+    let now = ap (λ (s : State). cut_due s.posts) c.leave.ensures ∙ (λ i. cut_due (left_posts (c.seat.ensures i) (c.frees.ensures i) (law c.args.state.now).posts)) in
+    omega (arith, less, now))
+
 pub returns-clause-answer : goal.returns-clause-answer
-returns-clause-answer c =
-    leave_answer (world_in (law c.args.state.now)) c.in-Leave.seat c.in-Leave.drop
-    ∙ ap (λ (e : Entry). answer_of (steps_of (world_in (law c.args.state.now)) e) (outcome_of (world_in (law c.args.state.now)) e)) (sym c.in-Leave.is)
+returns-clause-answer c = moved_answer (world_in (law c.args.state.now)) c.args.entry.now c.requires.moves

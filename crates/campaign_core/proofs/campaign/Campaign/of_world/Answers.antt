@@ -1,4 +1,4 @@
-use Rattle.std.proofs.Common.{◌≡◌, ◌∙◌, sym, ap, subst, ◌+◌, length, map, arith}
+use Rattle.std.proofs.Common.{◌≡◌, ◌∙◌, refl, sym, ap, subst, ◌+◌, length, map, arith}
 use Rattle.std.proofs.lemmas.List.{length-replicate}
 use Rattle.world.specs.Scene.{Scene}
 use Rattle.view_keep.specs.Kept.{Kept}
@@ -16,7 +16,8 @@ use Rattle.campaign_law.proofs.WrittenWorlds.{written_opened}
 use Rattle.campaign_law.specs.Law.{IsOpening}
 use Rattle.campaign_law.proofs.States.{opened}
 use Rattle.campaign_core.specs.Places.{law}
-use Rattle.campaign_core.specs.Leaving.{due}
+use Rattle.campaign_core.specs.Leaving.{cut_due, cut_due_of, due, due_of}
+use Rattle.campaign_core.proofs.CutLists.{none_yet}
 use Rattle.campaign_core.proofs.Leaving.{due_fresh}
 use Rattle.campaign_core.proofs.Openings.{opening_is, opened_seats}
 use Rattle.campaign_core.proofs.Nexts.{kept_settled, settled_keeps, settled_looks}
@@ -50,7 +51,8 @@ invariant_of-result g c =
     let opening : IsOpening (world_in (law c.in_ok-origin.origin)) = subst (λ (s : State). IsOpening (world_in s)) (sym is_opened) (opening_is c.args.world.books c.args.world.scene c.requires.opening) in
     let count : length c.put_fields.new.self.views ≡ length c.in_ok-state.state.posts =
     ap (λ (k : Kept). length k.views) c.put_fields.ensures ∙ ap (λ (k : Kept). length k.views) c.in_ok-keep.ensures ∙ length-replicate _ _ ∙ c.seats.ensures.value in
-    let none : due (law c.in_ok-state.state).posts ≡ 0 = ap (λ (s : State). due s.posts) c.in_ok-state.ensures ∙ due_fresh (law c.in_ok-origin.origin).posts opening.seats in
+    let none : due (law c.in_ok-state.state).posts ≡ 0 = ap (λ (s : State). due s.posts) c.in_ok-state.ensures ∙ due_fresh due_of (law c.in_ok-origin.origin).posts refl opening.seats in
+    let none_cut : cut_due (law c.in_ok-state.state).posts ≡ 0 = ap (λ (s : State). cut_due s.posts) c.in_ok-state.ensures ∙ due_fresh cut_due_of (law c.in_ok-origin.origin).posts refl opening.seats in
     record {
       now = c.in_ok-state.ensures ∙ is_opened ∙ opened c.args.world.books c.args.world.scene ∙ (λ i. state_of (world_in (sym is_opened i)) (sym c.new-3.ensures.items i));
       opening = opening;
@@ -63,7 +65,9 @@ invariant_of-result g c =
       views = opening_shown (world_in (law c.in_ok-state.state)) c.put_fields.new.self.views (subst (λ (s : State). IsOpening (world_in s)) (sym c.in_ok-state.ensures) opening);
       count = count;
       most = omega (arith, count, c.seats.ensures.value, c.seats.ensures.bound);
+      cuts = none_yet (world_in (law c.in_ok-origin.origin)) _ _ c.new-3.ensures.items c.new-4.ensures.items;
       owed = omega (arith, none);
+      owed_cuts = omega (arith, none_cut);
       staged = tt;
     }
 
