@@ -10,7 +10,7 @@ use Rattle.campaign_core.proofs.dumps.campaign_now.Goals as goal
 pub returns-in-Ok-clause-tree : goal.returns-in-Ok-clause-tree
 returns-in-Ok-clause-tree c =
     let given : Opened = record { scene = c.scene.result.now; books = c.as_slice.result.now } in
-    let same : given ≡ standing c.args.state.now = λ i. record { scene = c.scene.ensures i; books = (c.as_slice.ensures ∙ c.in_ok-books.ensures ∙ ap (map book_of) c.posts.ensures.value) i } in
+    let same : given ≡ standing c.args.state.now = λ i. record { scene = c.scene.ensures i; books = (c.as_slice.ensures.value ∙ c.in_ok-books.ensures ∙ ap (map book_of) c.posts.ensures.value) i } in
     c.in-Ok.ensures.tree ∙ ap campaign_tree (same ∙ standing_at c.args.state.now)
 
 pub returns-in-Ok-clause-exact : goal.returns-in-Ok-clause-exact
