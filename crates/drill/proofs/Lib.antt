@@ -1,0 +1,6 @@
+pub mod TagLemmas
+pub mod Maps
+pub mod Tokens
+pub mod Lines
+pub mod Walls
+pub mod Written
