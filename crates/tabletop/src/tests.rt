@@ -3,6 +3,7 @@
 
 mod campaigns;
 mod checks;
+mod dumps;
 mod evening;
 mod macros;
 mod plays;
