@@ -26,6 +26,8 @@ pub(crate) enum ReadEnd {
     Bye,
     /// The seat's last line was entered.
     Spent,
+    /// The session was cut.
+    Cut,
     /// No further line was read.
     Stopped(Stop),
 }
@@ -55,14 +57,17 @@ pub(crate) fn read_half<R: Wait, I: Source>(
         let lines = match next_lines(alloc, reader, input) {
             Ok(lines) => lines,
             Err(stop) => {
-                leave(rt, hall, pass, hold);
-                return (ReadEnd::Stopped(stop), false);
+                let cut = leave(rt, hall, pass, hold);
+                return (stopped(stop, cut), false);
             }
         };
-        match speak(rt, hall, pass, hold, lines) {
+        let (said, cut) = speak(rt, hall, pass, hold, lines);
+        match said {
             Said::Goes => {}
-            Said::Bye => return (ReadEnd::Bye, false),
-            Said::Spent => return (ReadEnd::Spent, false),
+            Said::Bye => return (unless_cut(ReadEnd::Bye, cut), false),
+            Said::Spent => return (unless_cut(ReadEnd::Spent, cut), false),
+            Said::Cut => return (ReadEnd::Cut, false),
+            Said::Gone if cut => return (ReadEnd::Cut, false),
             Said::Gone => return (ReadEnd::Stopped(read_on(rt, reader, input)), true),
             Said::Memory => {
                 leave(rt, hall, pass, hold);
@@ -73,6 +78,23 @@ pub(crate) fn read_half<R: Wait, I: Source>(
     unreachable!()
 }
 
+// The end of a reading half whose session may have been cut.
+fn unless_cut(end: ReadEnd, cut: bool) -> ReadEnd
+    ensures { result ≡ unless_cut_lem end cut }
+{
+    if cut { ReadEnd::Cut } else { end }
+}
+
+// The same where no further line was read. Want of memory is told first.
+fn stopped(stop: Stop, cut: bool) -> ReadEnd
+    ensures { result ≡ stopped_lem stop cut }
+{
+    match stop {
+        Stop::Memory => ReadEnd::Stopped(Stop::Memory),
+        stop => unless_cut(ReadEnd::Stopped(stop), cut),
+    }
+}
+
 // One turn: the lines are entered, as long as the passes hold the seat as Joined.
 fn speak<R: Wait>(
     rt: &R,
@@ -80,31 +102,35 @@ fn speak<R: Wait>(
     pass: &mut Pass<Table>,
     hold: &Hold,
     lines: Vec<LineText>,
-) -> Said
+) -> (Said, bool)
     requires { IsPassOf hall.now pass.old }
+    requires opening { IsOpening hall.now.origin }
     ensures hall { IsPassOf hall.now pass.new }
-    ensures turn { SpeaksAll hall.now.origin hold.now lines.items result pass.old pass.new }
+    ensures turn { SpeaksAll hall.now.origin hold.now lines.items result.0 result.1 pass.old pass.new }
 {
     let mut turn = Speaking {
         hold: hold.copy(),
         lines: Some(lines),
         said: Said::Gone,
+        cut: false,
         turn: None,
     };
     hall.act(rt, pass, &mut turn);
-    turn.said
+    (turn.said, turn.cut)
 }
 
-// One turn, after which the seat's lines aren't read any more.
-fn leave<R: Wait>(rt: &R, hall: &Hall<Table>, pass: &mut Pass<Table>, hold: &Hold)
+// One turn, after which the seat's lines aren't read any more. Whether the session was cut.
+fn leave<R: Wait>(rt: &R, hall: &Hall<Table>, pass: &mut Pass<Table>, hold: &Hold) -> bool
     requires { IsPassOf hall.now pass.old }
     ensures hall { IsPassOf hall.now pass.new }
-    ensures turn { Leaves hall.now.origin hold.now pass.old pass.new }
+    ensures turn { Leaves hall.now.origin hold.now result pass.old pass.new }
 {
     let mut turn = Leaving {
         hold: hold.copy(),
         drop: false,
         entered: false,
+        cut: false,
     };
     hall.act(rt, pass, &mut turn);
+    turn.cut
 }
