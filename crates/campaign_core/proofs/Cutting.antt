@@ -14,8 +14,8 @@ use Rattle.command_effects.specs.Settle.{settled, IsSettled}
 use Rattle.campaign_law.specs.declared.entry.Entry.{Entry}
 use Rattle.campaign_law.specs.declared.entry.Entry.TheVariants.{Join, Line, Leave, Taken, Cut}
 use Rattle.campaign_law.specs.Seat.{Seat}
-use Rattle.campaign_law.specs.Outcome.{Outcome, nothing, outcome_at, seat_of}
-use Rattle.campaign_law.specs.World.{World, seat_at, asked_of, steps_of, outcome_of, scene_after, seat_by, step, mapped_from}
+use Rattle.campaign_law.specs.Outcome.{Outcome, Report, nothing, of_steps, outcome_at, seat_of}
+use Rattle.campaign_law.specs.World.{World, seat_at, asked_of, dumped_of, report_of, steps_of, outcome_of, scene_after, seat_by, step, mapped_from}
 use Rattle.campaign_law.specs.Session.{leaves, standing, changes_state}
 use Rattle.campaign_law.specs.State.{Post, State, world_in, post_by, state_after}
 use Rattle.campaign_law.specs.Law.{answer_of}
@@ -26,17 +26,17 @@ use Rattle.campaign_core.proofs.Leaving.{state_in, leave_state, leave_answer, du
 
 -- ---- a Cut
 
-same_outcome : (asked : Asked) (steps : ℕ) (before : Option Seat) (seat : ℕ) → is_joined (standing before) ≡ true → outcome_at asked steps before (Cut seat) ≡ outcome_at asked steps before (Leave seat true)
-same_outcome asked steps None seat joined = cc
-same_outcome asked steps (Some s) seat joined = ap (λ j. cond j (record nothing { book = Some (freed s.book) }) nothing) joined
+same_outcome : (asked : Asked) (report : Report) (before : Option Seat) (seat : ℕ) → is_joined (standing before) ≡ true → outcome_at asked report before (Cut seat) ≡ outcome_at asked report before (Leave seat true)
+same_outcome asked report None seat joined = cc
+same_outcome asked report (Some s) seat joined = ap (λ j. cond j (record nothing { book = Some (freed s.book) }) nothing) joined
 
 same_steps : (w : World) (seat : ℕ) → is_joined (standing (seat_at w seat)) ≡ true → steps_of w (Cut seat) ≡ steps_of w (Leave seat true)
-same_steps w seat joined = ap (λ (o : Outcome). steps_by w.scene seat o.done) (same_outcome (asked_of w seat) 0 (seat_at w seat) seat joined)
+same_steps w seat joined = ap (λ (o : Outcome). steps_by w.scene seat o.done) (same_outcome (asked_of w seat) (of_steps 0) (seat_at w seat) seat joined)
 
 cut_outcome_is : (w : World) (seat : ℕ) → is_joined (standing (seat_at w seat)) ≡ true → outcome_of w (Cut seat) ≡ outcome_of w (Leave seat true)
 cut_outcome_is w seat joined =
-    same_outcome (asked_of w seat) (steps_of w (Cut seat)) (seat_at w seat) seat joined
-    ∙ ap (λ n. outcome_at (asked_of w seat) n (seat_at w seat) (Leave seat true)) (same_steps w seat joined)
+    same_outcome (asked_of w seat) (report_of w (Cut seat)) (seat_at w seat) seat joined
+    ∙ ap (λ n. outcome_at (asked_of w seat) (record { steps = n; dumped = dumped_of w seat }) (seat_at w seat) (Leave seat true)) (same_steps w seat joined)
 
 cut_scene : (w : World) (seat : ℕ) → is_joined (standing (seat_at w seat)) ≡ true → scene_after w (Cut seat) ≡ scene_after w (Leave seat true)
 unfolding scene_after

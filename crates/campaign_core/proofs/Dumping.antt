@@ -14,11 +14,11 @@ use Rattle.campaign_law.specs.Written.{IsWritten as IsWrittenByLaw}
 use Rattle.campaign_law.proofs.WrittenWorlds.{written_always}
 use Rattle.campaign_core.specs.declared.campaign.Staged.{Staged}
 use Rattle.campaign_core.specs.CutList.{Ledger}
-use Rattle.campaign_core.specs.Places.{Place, Standing, posted, law}
+use Rattle.campaign_core.specs.Places.{Place, Standing, posted, law, world_at}
 use Rattle.campaign_core.specs.Running.{IsRunning}
 use Rattle.campaign_core.proofs.Running.{world_now, running_fits}
 
-abbrev book_of : Place → Book
+abbrev pub book_of : Place → Book
 book_of place = place.seat.book
 
 books_of : (places : List Place) → map book_of places ≡ map (λ (s : Seat). s.book) (map (λ (post : Post). post.seat) (map posted places))
@@ -31,6 +31,13 @@ standing s = record { scene = s.scene; books = map book_of s.posts }
 
 standing_is : (s : Standing) → standing s ≡ opened_of (world_in (law s))
 standing_is s = ap (λ books. record { scene = s.scene; books = books }) (books_of s.posts)
+
+books_at : (places : List Place) → map book_of places ≡ map (λ (s : Seat). s.book) (map (λ (p : Place). p.seat) places)
+books_at [] = refl
+books_at (p ∷ places) = ap (λ books. p.seat.book ∷ books) (books_at places)
+
+pub standing_at : (s : Standing) → standing s ≡ opened_of (world_at s)
+standing_at s = ap (λ books. record { scene = s.scene; books = books }) (books_at s.posts)
 
 module _ (origin : World) (h : List Entry) (ledger : Ledger) (s : Standing) (kept : Kept) (stage : Option Staged) (r : IsRunning origin h ledger s kept stage) where
   pub standing_fits : IsWorld (standing s)

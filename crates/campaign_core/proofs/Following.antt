@@ -19,7 +19,7 @@ use Rattle.macro_eval.specs.declared.intent.Intent.{Intent}
 use Rattle.world.specs.Scene.{Scene}
 use Rattle.campaign_law.specs.declared.entry.Entry.{Entry}
 use Rattle.campaign_law.specs.Outcome.{seat_of}
-use Rattle.campaign_law.specs.World.{World, outcome_of, scene_after, steps_of}
+use Rattle.campaign_law.specs.World.{World, outcome_of, report_of, scene_after, steps_of}
 use Rattle.campaign_law.specs.Worlds.{FitsTogether}
 use Rattle.campaign_law.proofs.Allowed.{allowed}
 use Rattle.campaign_law.proofs.ScenesOfWorlds.{tables_after}
@@ -33,7 +33,7 @@ still_follows steps intents seat s = record { sizes = λ name size h. h; lights 
 
 by_done : (w : World) (e : Entry) (d : Option Command) → (outcome_of w e).done ≡ d → Follows w.scene (settled (scene_by (steps_of w e) (outcome_of w e).intents (seat_of e) w.scene d))
 by_done w e None is = still_follows (steps_of w e) (outcome_of w e).intents (seat_of e) w.scene
-by_done w e (Some c) is = scenes_follow (steps_of w e) (outcome_of w e).intents (seat_of e) w.scene c (allowed w e (steps_of w e) (outcome_of w e) c refl is)
+by_done w e (Some c) is = scenes_follow (steps_of w e) (outcome_of w e).intents (seat_of e) w.scene c (allowed w e (report_of w e) (outcome_of w e) c refl is)
 
 after_follows : (w : World) (e : Entry) → Follows w.scene (scene_after w e)
 unfolding scene_after

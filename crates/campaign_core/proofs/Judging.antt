@@ -36,7 +36,7 @@ use Rattle.campaign_law.specs.declared.entry.Entry.{Entry}
 use Rattle.campaign_law.specs.declared.entry.Entry.TheVariants.{Join, Line, Leave, Taken, Cut}
 use Rattle.campaign_law.specs.Messages.{texts_in}
 use Rattle.campaign_law.specs.Seat.{Seat}
-use Rattle.campaign_law.specs.Outcome.{Outcome, broken_rule, called_by, decided, dice_in, join_outcome, macro_rule, nothing, outcome_at, read_outcome, refused_direct, roll_rule, seat_of}
+use Rattle.campaign_law.specs.Outcome.{Outcome, Report, broken_rule, called_by, decided, dice_in, join_outcome, macro_rule, nothing, outcome_at, read_outcome, refused_direct, roll_rule, seat_of}
 use Rattle.campaign_law.specs.World.{World, asked_of, seat_at}
 use Rattle.campaign_core.specs.declared.rulings.Ruling.{Ruling}
 use Rattle.campaign_core.specs.declared.rulings.Ruling.TheVariants.{Refused, Allowed}
@@ -142,21 +142,21 @@ run_sets seat asked NoRun h = refl
 run_sets seat asked (Stopped refusal) h = cc
 run_sets seat asked (Ran run) h = h
 
-decided_sets : (asked : Asked) (steps seat : ℕ) (b : Book) (c : Command) (r : Option Refusal) → broken_rule asked seat b c ≡ r → intents_rule seat asked.mine (decided asked steps seat b c r).intents ≡ None
-decided_sets asked steps seat b c None e =
+decided_sets : (asked : Asked) (report : Report) (seat : ℕ) (b : Book) (c : Command) (r : Option Refusal) → broken_rule asked seat b c ≡ r → intents_rule seat asked.mine (decided asked report seat b c r).intents ≡ None
+decided_sets asked report seat b c None e =
     run_sets seat asked (called_by asked seat b c)
     (second_none (setting_rule b.macros (new_text_in c)) (run_rule seat asked.mine (called_by asked seat b c))
     (second_none (roll_rule (dice_in c)) (macro_rule asked seat b c)
     (second_none (rule_of asked seat b.tags c) (then_rule (roll_rule (dice_in c)) (macro_rule asked seat b c)) e)))
-decided_sets asked steps seat b c (Some refusal) e = refl
+decided_sets asked report seat b c (Some refusal) e = refl
 
-read_sets : (asked : Asked) (steps seat : ℕ) (b : Book) (r : Result Command LineFault) → intents_rule seat asked.mine (read_outcome asked steps seat b r).intents ≡ None
-read_sets asked steps seat b (Err fault) = refl
-read_sets asked steps seat b (Ok c) = decided_sets asked steps seat b c (broken_rule asked seat b c) refl
+read_sets : (asked : Asked) (report : Report) (seat : ℕ) (b : Book) (r : Result Command LineFault) → intents_rule seat asked.mine (read_outcome asked report seat b r).intents ≡ None
+read_sets asked report seat b (Err fault) = refl
+read_sets asked report seat b (Ok c) = decided_sets asked report seat b c (broken_rule asked seat b c) refl
 
-line_sets : (asked : Asked) (steps seat : ℕ) (b : Book) (r : Result Command LineFault) (j : Bool) → intents_rule seat asked.mine (cond j (read_outcome asked steps seat b r) (refused_direct 0 NoHello)).intents ≡ None
-line_sets asked steps seat b r true = read_sets asked steps seat b r
-line_sets asked steps seat b r false = refl
+line_sets : (asked : Asked) (report : Report) (seat : ℕ) (b : Book) (r : Result Command LineFault) (j : Bool) → intents_rule seat asked.mine (cond j (read_outcome asked report seat b r) (refused_direct 0 NoHello)).intents ≡ None
+line_sets asked report seat b r true = read_sets asked report seat b r
+line_sets asked report seat b r false = refl
 
 join_sets : (asked : Asked) (seat : ℕ) (b : Book) (reader writer : ℕ) (r : Option JoinRefusal) → intents_rule seat asked.mine (join_outcome asked b reader writer r).intents ≡ None
 join_sets asked seat b reader writer None = refl
@@ -166,19 +166,19 @@ cut_sets : (asked : Asked) (seat : ℕ) (b : Book) (j : Bool) → intents_rule s
 cut_sets asked seat b true = refl
 cut_sets asked seat b false = refl
 
-outcome_sets : (asked : Asked) (steps : ℕ) (before : Option Seat) (e : Entry) → intents_rule (seat_of e) asked.mine (outcome_at asked steps before e).intents ≡ None
-outcome_sets asked steps None (Join seat key reader writer) = refl
-outcome_sets asked steps None (Line seat bytes) = refl
-outcome_sets asked steps None (Leave seat drop) = refl
-outcome_sets asked steps None (Taken seat count) = refl
-outcome_sets asked steps None (Cut seat) = refl
-outcome_sets asked steps (Some s) (Join seat key reader writer) = join_sets asked seat s.book reader writer (join_refusal s.book key)
-outcome_sets asked steps (Some s) (Line seat bytes) = line_sets asked steps seat s.book (command_of bytes (eqb seat 0)) (is_joined s.book.state)
-outcome_sets asked steps (Some s) (Leave seat drop) = refl
-outcome_sets asked steps (Some s) (Taken seat count) = refl
-outcome_sets asked steps (Some s) (Cut seat) = cut_sets asked seat s.book (is_joined s.book.state)
+outcome_sets : (asked : Asked) (report : Report) (before : Option Seat) (e : Entry) → intents_rule (seat_of e) asked.mine (outcome_at asked report before e).intents ≡ None
+outcome_sets asked report None (Join seat key reader writer) = refl
+outcome_sets asked report None (Line seat bytes) = refl
+outcome_sets asked report None (Leave seat drop) = refl
+outcome_sets asked report None (Taken seat count) = refl
+outcome_sets asked report None (Cut seat) = refl
+outcome_sets asked report (Some s) (Join seat key reader writer) = join_sets asked seat s.book reader writer (join_refusal s.book key)
+outcome_sets asked report (Some s) (Line seat bytes) = line_sets asked report seat s.book (command_of bytes (eqb seat 0)) (is_joined s.book.state)
+outcome_sets asked report (Some s) (Leave seat drop) = refl
+outcome_sets asked report (Some s) (Taken seat count) = refl
+outcome_sets asked report (Some s) (Cut seat) = cut_sets asked seat s.book (is_joined s.book.state)
 
 -- in the world before the entry
-pub may_set_all : (w : World) (e : Entry) (steps : ℕ) (o : Outcome) → o ≡ outcome_at (asked_of w (seat_of e)) steps (seat_at w (seat_of e)) e → MaySetAll w.scene (seat_of e) o.intents
+pub may_set_all : (w : World) (e : Entry) (report : Report) (o : Outcome) → o ≡ outcome_at (asked_of w (seat_of e)) report (seat_at w (seat_of e)) e → MaySetAll w.scene (seat_of e) o.intents
 unfolding asked_of_scene
-may_set_all w e steps o is = subst (λ (x : Outcome). MaySetAll w.scene (seat_of e) x.intents) (sym is) (outcome_sets (asked_of w (seat_of e)) steps (seat_at w (seat_of e)) e)
+may_set_all w e report o is = subst (λ (x : Outcome). MaySetAll w.scene (seat_of e) x.intents) (sym is) (outcome_sets (asked_of w (seat_of e)) report (seat_at w (seat_of e)) e)

@@ -15,8 +15,8 @@ use Rattle.player_view.specs.Asked.{Asked}
 use Rattle.campaign_law.specs.declared.entry.Entry.{Entry}
 use Rattle.campaign_law.specs.declared.entry.Entry.TheVariants.{Leave}
 use Rattle.campaign_law.specs.Seat.{Seat, IsFreshSeat, freed_seat, is_let_go, let_go, settled, taken_to}
-use Rattle.campaign_law.specs.Outcome.{Outcome, nothing, outcome_at, seat_of}
-use Rattle.campaign_law.specs.World.{World, seat_at, asked_of, steps_of, outcome_of, changed, addressed, view_lines, some_to_list, is_present, queued_reply, queued_lines, scene_after, mapped_from, replay}
+use Rattle.campaign_law.specs.Outcome.{Outcome, Report, nothing, of_steps, outcome_at, seat_of}
+use Rattle.campaign_law.specs.World.{World, seat_at, asked_of, report_of, steps_of, outcome_of, changed, addressed, view_lines, some_to_list, is_present, queued_reply, queued_lines, scene_after, mapped_from, replay}
 use Rattle.campaign_law.specs.Session.{session, leaves, standing, changes_state}
 use Rattle.campaign_law.specs.State.{Post, State, world_in, post_by, post_after, mail_after, state_after, state_of}
 use Rattle.campaign_law.specs.Law.{IsOpening, answer_of}
@@ -168,28 +168,28 @@ lent_none now xs i (Some y) is item = cc
 
 -- ---- the state after a Leave
 
-pub no_done : (asked : Asked) (steps : ℕ) (before : Option Seat) (seat : ℕ) (drop : Bool) → (outcome_at asked steps before (Leave seat drop)).done ≡ None
-no_done asked steps None seat drop_it = refl
-no_done asked steps (Some s) seat drop_it = refl
+pub no_done : (asked : Asked) (report : Report) (before : Option Seat) (seat : ℕ) (drop : Bool) → (outcome_at asked report before (Leave seat drop)).done ≡ None
+no_done asked report None seat drop_it = refl
+no_done asked report (Some s) seat drop_it = refl
 
-others_none : (asked : Asked) (steps : ℕ) (before : Option Seat) (seat : ℕ) (drop : Bool) (p : ℕ) (s : Seat) (v : View) → queued_lines p false (Some s) (outcome_at asked steps before (Leave seat drop)) v v ≡ []
-others_none asked steps None seat drop_it p s v = quiet p v (is_present false (Some s) nothing) false refl
-others_none asked steps (Some t) seat drop_it p s v = no_lines p false drop_it t s v
+others_none : (asked : Asked) (report : Report) (before : Option Seat) (seat : ℕ) (drop : Bool) (p : ℕ) (s : Seat) (v : View) → queued_lines p false (Some s) (outcome_at asked report before (Leave seat drop)) v v ≡ []
+others_none asked report None seat drop_it p s v = quiet p v (is_present false (Some s) nothing) false refl
+others_none asked report (Some t) seat drop_it p s v = no_lines p false drop_it t s v
 
 pub leave_stays : (w : World) (seat : ℕ) (drop : Bool) → IsSettled w.scene → scene_after w (Leave seat drop) ≡ w.scene
-leave_stays w seat drop_it settled = scene_stays w (Leave seat drop_it) settled (no_done (asked_of w seat) (steps_of w (Leave seat drop_it)) (seat_at w seat) seat drop_it)
+leave_stays w seat drop_it settled = scene_stays w (Leave seat drop_it) settled (no_done (asked_of w seat) (report_of w (Leave seat drop_it)) (seat_at w seat) seat drop_it)
 
 left_at : (w : World) (seat : ℕ) (drop : Bool) (p : ℕ) (post : Post) (acts : Bool) → eqb seat p ≡ acts → IsSettled w.scene → seat_at w p ≡ Some post.seat → IsSound post
     → post_by p acts (outcome_of w (Leave seat drop)) (view_of w.scene p) (view_of (scene_after w (Leave seat drop)) p) post ≡ cond acts (left_post drop post) post
 left_at w seat drop_it p post false is settled at sound =
     let o : Outcome = outcome_of w (Leave seat drop_it) in
     ap (λ scene. post_by p false o (view_of w.scene p) (view_of scene p) post) (leave_stays w seat drop_it settled)
-    ∙ rests p o (view_of w.scene p) (view_of w.scene p) post sound (others_none (asked_of w seat) (steps_of w (Leave seat drop_it)) (seat_at w seat) seat drop_it p post.seat (view_of w.scene p))
+    ∙ rests p o (view_of w.scene p) (view_of w.scene p) post sound (others_none (asked_of w seat) (report_of w (Leave seat drop_it)) (seat_at w seat) seat drop_it p post.seat (view_of w.scene p))
 left_at w seat drop_it p post true is settled at sound =
     let o : Outcome = outcome_of w (Leave seat drop_it) in
     let own : seat_at w seat ≡ Some post.seat = ap (seat_at w) (eqb-true seat p is) ∙ at in
     ap (λ scene. post_by p true o (view_of w.scene p) (view_of scene p) post) (leave_stays w seat drop_it settled)
-    ∙ ap (λ b. post_by p true (outcome_at (asked_of w seat) (steps_of w (Leave seat drop_it)) b (Leave seat drop_it)) (view_of w.scene p) (view_of w.scene p) post) own
+    ∙ ap (λ b. post_by p true (outcome_at (asked_of w seat) (report_of w (Leave seat drop_it)) b (Leave seat drop_it)) (view_of w.scene p) (view_of w.scene p) post) own
     ∙ own_leaves p drop_it (view_of w.scene p) post
 
 pub leave_state : (state : State) (seat : ℕ) (drop : Bool) → IsSettled state.scene → AreSound state.posts → record { posts = left_posts seat drop state.posts; scene = state.scene } ≡ state_after state (Leave seat drop)
@@ -202,15 +202,15 @@ leave_state state seat drop_it settled sound =
       scene = leave_stays w seat drop_it settled i;
     })
 
-answer_at : (asked : Asked) (n steps : ℕ) (before : Option Seat) (seat : ℕ) (drop : Bool) → record { refusal = None; taken = n; line = None } ≡ answer_of n (outcome_at asked steps before (Leave seat drop))
-answer_at asked n steps None seat drop_it = refl
-answer_at asked n steps (Some s) seat drop_it = refl
+answer_at : (asked : Asked) (n : ℕ) (report : Report) (before : Option Seat) (seat : ℕ) (drop : Bool) → record { refusal = None; taken = n; line = None } ≡ answer_of n (outcome_at asked report before (Leave seat drop))
+answer_at asked n report None seat drop_it = refl
+answer_at asked n report (Some s) seat drop_it = refl
 
 -- a Leave has no answer
 pub leave_answer : (w : World) (seat : ℕ) (drop : Bool) → record { refusal = None; taken = 0; line = None } ≡ answer_of (steps_of w (Leave seat drop)) (outcome_of w (Leave seat drop))
 leave_answer w seat drop_it =
-    ap (λ n. record { refusal = None; taken = n; line = None }) (no_steps w (Leave seat drop_it) (outcome_at (asked_of w seat) 0 (seat_at w seat) (Leave seat drop_it)) refl (no_done (asked_of w seat) 0 (seat_at w seat) seat drop_it))
-    ∙ answer_at (asked_of w seat) (steps_of w (Leave seat drop_it)) (steps_of w (Leave seat drop_it)) (seat_at w seat) seat drop_it
+    ap (λ n. record { refusal = None; taken = n; line = None }) (no_steps w (Leave seat drop_it) (outcome_at (asked_of w seat) (of_steps 0) (seat_at w seat) (Leave seat drop_it)) refl (no_done (asked_of w seat) (of_steps 0) (seat_at w seat) seat drop_it))
+    ∙ answer_at (asked_of w seat) (steps_of w (Leave seat drop_it)) (report_of w (Leave seat drop_it)) (seat_at w seat) seat drop_it
 
 -- ---- places for Leaves
 

@@ -10,7 +10,7 @@ use Rattle.campaign_law.specs.Seat.{Seat, settled}
 use Rattle.campaign_law.specs.declared.entry.Entry.{Entry}
 use Rattle.campaign_law.specs.Outcome.{Outcome, seat_of}
 use Rattle.campaign_law.specs.SessionLaws.{lines_per_entry}
-use Rattle.campaign_law.specs.World.{World, asked_of, changed, queued_lines, outcome_of, seat_at, seat_by, steps_of, mapped_from}
+use Rattle.campaign_law.specs.World.{World, asked_of, changed, queued_lines, outcome_of, seat_at, seat_by, report_of, mapped_from}
 use Rattle.campaign_law.specs.State.{Post, State, world_in, post_by, mail_after}
 use Rattle.campaign_law.proofs.Lists.{ap₂, mapped_from-same}
 use Rattle.campaign_law.proofs.Messages.{outcome_few}
@@ -102,7 +102,7 @@ pub queues_few : (w : World) (e : Entry) (o : Outcome) (book : Option Book) → 
 unfolding with_book
 queues_few w e o book is seat acts before v v' =
     subst (λ (x : Outcome). length (queued_lines seat acts before x v v') ≤ lines_per_entry) (sym is)
-    (lines_few seat acts before (outcome_of w e) v v' (outcome_few (asked_of w (seat_of e)) (steps_of w e) (seat_at w (seat_of e)) e))
+    (lines_few seat acts before (outcome_of w e) v v' (outcome_few (asked_of w (seat_of e)) (report_of w e) (seat_at w (seat_of e)) e))
 
 -- ---- one after another
 

@@ -18,8 +18,8 @@ use Rattle.player_view.specs.Asked.{Asked}
 use Rattle.campaign_law.specs.declared.entry.Entry.{Entry}
 use Rattle.campaign_law.specs.declared.entry.Entry.TheVariants.{Join, Line, Leave, Taken, Cut}
 use Rattle.campaign_law.specs.Seat.{Seat, was_joined}
-use Rattle.campaign_law.specs.Outcome.{Outcome, outcome_at, seat_of}
-use Rattle.campaign_law.specs.World.{World, asked_of, changed, is_present, mapped_from, outcome_of, queued_lines, scene_after, seat_after, seat_at, step, steps_of}
+use Rattle.campaign_law.specs.Outcome.{Outcome, Report, outcome_at, seat_of}
+use Rattle.campaign_law.specs.World.{World, asked_of, changed, is_present, mapped_from, outcome_of, queued_lines, report_of, scene_after, seat_after, seat_at, step, steps_of}
 use Rattle.campaign_law.specs.Session.{changes_state}
 use Rattle.campaign_law.proofs.Lists.{mapped_from_more, slice_get-mapped_from}
 use Rattle.campaign_law.proofs.Sessions.{seat_at-after}
@@ -34,12 +34,12 @@ use Rattle.campaign_core.specs.Shown.{AreShown, AreStill, IsShown, is_kept, is_n
 
 -- ---- a seat that joins is due the full line
 
-joins_seat : (asked : _) (steps : ℕ) (before : Option Seat) (e : Entry) → (outcome_at asked steps before e).joins ≡ true → (outcome_at asked steps before e).full ≡ true
-joins_seat asked steps None e h = let no : true ≡ false = sym h ∙ absent_joins asked steps e in cc
-joins_seat asked steps (Some s) e h = (outcome_fits asked steps s e).joins h
+joins_seat : (asked : _) (report : Report) (before : Option Seat) (e : Entry) → (outcome_at asked report before e).joins ≡ true → (outcome_at asked report before e).full ≡ true
+joins_seat asked report None e h = let no : true ≡ false = sym h ∙ absent_joins asked report e in cc
+joins_seat asked report (Some s) e h = (outcome_fits asked report s e).joins h
 
 pub joins_full : (w : World) (e : Entry) → (outcome_of w e).joins ≡ true → (outcome_of w e).full ≡ true
-joins_full w e h = joins_seat (asked_of w (seat_of e)) (steps_of w e) (seat_at w (seat_of e)) e h
+joins_full w e h = joins_seat (asked_of w (seat_of e)) (report_of w e) (seat_at w (seat_of e)) e h
 
 -- ---- before the entry
 
@@ -72,7 +72,7 @@ same_seat a b h = grind (arith, nat_tests, h)
 fit_at : (w : World) (e : Entry) (seat : ℕ) (s : Seat) → seat_at w seat ≡ Some s → eqb (seat_of e) seat ≡ true → IsFit s (outcome_of w e)
 fit_at w e seat s at acts =
     let here : seat_at w (seat_of e) ≡ Some s = ap (seat_at w) (same_seat (seat_of e) seat acts) ∙ at in
-    subst (λ o. IsFit s (outcome_at (asked_of w (seat_of e)) (steps_of w e) o e)) (sym here) (outcome_fits (asked_of w (seat_of e)) (steps_of w e) s e)
+    subst (λ o. IsFit s (outcome_at (asked_of w (seat_of e)) (report_of w e) o e)) (sym here) (outcome_fits (asked_of w (seat_of e)) (report_of w e) s e)
 
 still_by : (w : World) (e : Entry) (fields : List (TokenId × Cells)) (changed : Option Changed) (seat : ℕ) → IsSettled w.scene → IsChanged w e fields changed
     → is_kept (is_none changed) (outcome_of w e) seat ≡ true → view_of (scene_after w e) seat ≡ view_of w.scene seat
@@ -115,9 +115,9 @@ views_stand w e kept made same shown stays is seat joined =
 
 -- ---- a Leave
 
-leave_joins : (asked : Asked) (steps : ℕ) (before : Option Seat) (seat : ℕ) (drop : Bool) → (outcome_at asked steps before (Leave seat drop)).joins ≡ false
-leave_joins asked steps None seat drop_it = refl
-leave_joins asked steps (Some s) seat drop_it = refl
+leave_joins : (asked : Asked) (report : Report) (before : Option Seat) (seat : ℕ) (drop : Bool) → (outcome_at asked report before (Leave seat drop)).joins ≡ false
+leave_joins asked report None seat drop_it = refl
+leave_joins asked report (Some s) seat drop_it = refl
 
 and_false : (acts joins : Bool) → joins ≡ false → (acts && joins) ≡ false
 and_false true joins h = h
@@ -134,7 +134,7 @@ joined_was w seat drop_it p (Some s) at joined = by (is_joined s.book.state) ref
         let e : Entry = Leave seat drop_it in
         let out = outcome_of w e in
         let acts = eqb (seat_of e) p in
-        let none = and_false acts out.joins (leave_joins (asked_of w seat) (steps_of w e) (seat_at w seat) seat drop_it) in
+        let none = and_false acts out.joins (leave_joins (asked_of w seat) (report_of w e) (seat_at w seat) seat drop_it) in
         let some = is_joined_then acts out s (λ yes. fit_at w e p s at yes) (joined_before (length (queued_lines p acts (Some s) out (view_of w.scene p) (view_of (scene_after w e) p))) (changed out acts s) joined) is in
         let no : true ≡ false = sym some ∙ none in
         cc

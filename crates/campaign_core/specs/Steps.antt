@@ -1,18 +1,18 @@
--- Outcomes in parts: the steps of a move in its reply, and the book.
-use Rattle.std.specs.Prelude.{ℕ, List, [], ◌∷◌, Option, Some, None, if◌then◌else◌}
+-- Outcomes in parts: what the reply reports, and the book.
+use Rattle.std.specs.Prelude.{ℕ, List, [], ◌∷◌, Option, Some, None, option_map, if◌then◌else◌}
 use Rattle.seats.specs.Book.{Book}
 use Rattle.command_json.specs.declared.command.Command.{Command}
-use Rattle.campaign_law.specs.Texts.{moved_line}
-use Rattle.campaign_law.specs.Outcome.{Outcome, is_move}
+use Rattle.campaign_law.specs.Texts.{moved_line, dump_line}
+use Rattle.campaign_law.specs.Outcome.{Outcome, Report, is_move, campaign_by}
 
-abbrev pub line_of_steps : ℕ → Option Command → Option Book → Option (List ℕ)
-line_of_steps steps None book = None
-line_of_steps steps (Some c) None = None
-line_of_steps steps (Some c) (Some b) = if is_move c then Some (moved_line b.lines steps) else None
+abbrev pub line_reporting : Report → Option Command → Option Book → Option (List ℕ)
+line_reporting report None book = None
+line_reporting report (Some c) None = None
+line_reporting report (Some c) (Some b) = if is_move c then Some (moved_line b.lines report.steps) else option_map (dump_line b.lines) (campaign_by report.dumped c)
 
--- the line that tells the steps of an accepted move; none for what isn't one
-abbrev pub steps_line : ℕ → Outcome → Option (List ℕ)
-steps_line steps o = line_of_steps steps o.done o.book
+-- the line that reports the steps of an accepted move, or the campaign that a dump gives; none for what is neither
+abbrev pub report_line : Report → Outcome → Option (List ℕ)
+report_line report o = line_reporting report o.done o.book
 
 -- the reply is this line, where there is one
 abbrev pub told : Option (List ℕ) → Outcome → Outcome

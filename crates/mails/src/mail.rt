@@ -208,9 +208,7 @@ fn size_of(lines: &[LineText]) -> Option<u64>
 {
     let mut size: u64 = 0;
     for line in lines {
-        size = size
-            .checked_add(line.bytes().len() as u64)?
-            .checked_add(1)?;
+        size = size.checked_add(line.bytes().len() as u64)?.checked_add(1)?;
     }
     Some(size)
 }

@@ -1,5 +1,5 @@
 -- Turn after turn of the reading half.
-use Rattle.std.proofs.Common.{◌≡◌, ◌≢◌, ℕ, zero, suc, ◌≤◌, ◌<◌, ◌+◌, Bool, true, false, cond, List, [], ◌∷◌, ◌++◌, length, take, get_or, slice_get, refl, sym, ◌∙◌, ap, subst, arith, append_assoc, length-append, ◌⊎◌, inl, inr}
+use Rattle.std.proofs.Common.{◌≡◌, ◌≢◌, ℕ, zero, suc, ◌≤◌, ◌<◌, ◌+◌, Bool, true, false, cond, List, [], ◌∷◌, ◌++◌, length, take, drop, get_or, slice_get, refl, sym, ◌∙◌, ap, subst, arith, append_assoc, length-append, ◌⊎◌, inl, inr}
 use Rattle.std.specs.Prelude.{Option, Some, None, All, Contains, IfSome}
 use Rattle.std.proofs.lemmas.List.{append-nil, append_cancel_left, take-append-le, take_all}
 use Rattle.std.proofs.lemmas.List.Elements.{All-nil, All-cons, All-append, Contains-push, Contains-append_right}
@@ -73,8 +73,10 @@ stand_behind rule h (e ∷ es) lawful =
 lines_behind : (h es : List Entry) → lines_at (h ++ es) (places (length h) es) ≡ lines_in es
 lines_behind h [] = refl
 lines_behind h (e ∷ es) =
+    let longer : h ++ e ∷ es ≡ (h ++ e ∷ []) ++ es = sym (append_assoc h (e ∷ []) es) in
+    let counted : suc (length h) ≡ length (h ++ e ∷ []) = sym (one_longer h e) in
     let rest : lines_at (h ++ e ∷ es) (places (suc (length h)) es) ≡ lines_in es =
-    (λ i. lines_at (append_assoc h (e ∷ []) es (~ i)) (places (one_longer h e (~ i)) es)) ∙ lines_behind (h ++ e ∷ []) es in
+    (λ i. lines_at (longer i) (places (counted i) es)) ∙ lines_behind (h ++ e ∷ []) es in
     ap (λ o. line_in o ++ lines_at (h ++ e ∷ es) (places (suc (length h)) es)) (get_here h e es) ∙ ap (λ l. line_in (Some e) ++ l) rest
 
 places-append : (n : ℕ) (xs ys : List Entry) → places n (xs ++ ys) ≡ places n xs ++ places (n + length xs) ys
@@ -226,7 +228,7 @@ module _ (w : World) (hold : Hold) (p : PassState Entry World) (t : Option (List
     abbrev more : List ℕ
     more = is.more ++ place ∷ []
 
-    x : Extends q behind
+    abbrev x : Extends q behind
     x = record { es = e ∷ []; front = enters.there; own = refl; number = refl }
 
     spoke_got : Got (IsReaders w hold) p behind more
@@ -419,6 +421,16 @@ pub ends_input : (w : World) (hold : Hold) (p q r : PassState Entry World) (stop
 ends_input w hold p q r stop t u v is same left = leaves_reading w hold p t q r [] stop u v is (λ other. (refl, same other)) left
 
 -- ---- the lines of a turn, entered one after another
+
+-- entries were appended to a history that had grown
+pub grown_by : (f h after es : List Entry) → h ≡ f ++ drop (length f) h → after ≡ h ++ es → after ≡ f ++ drop (length f) after
+grown_by f h after es grew more =
+    let whole : after ≡ f ++ (drop (length f) h ++ es) = more ∙ ap (λ l. l ++ es) grew ∙ append_assoc f (drop (length f) h) es in
+    whole ∙ ap (λ l. f ++ l) (sym (drop_here f (drop (length f) h ++ es)) ∙ ap (drop (length f)) (sym whole))
+  where
+    drop_here : (f x : List Entry) → drop (length f) (f ++ x) ≡ x
+    drop_here [] x = refl
+    drop_here (y ∷ f) x = drop_here f x
 
 -- the first ones went on, and the next one does too
 pub go_further : (w : World) (hold : Hold) (before : List Entry) (firsts : List (List ℕ)) (line : List ℕ) (mid after : List Entry) → AllGo w hold before firsts mid → Enters w hold mid line saying.Goes after → AllGo w hold before (firsts ++ line ∷ []) after

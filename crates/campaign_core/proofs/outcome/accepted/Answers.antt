@@ -4,7 +4,7 @@ use Rattle.command_effects.specs.Tags.{MayUseTag, tag_made, using_tag}
 use Rattle.command_effects.specs.MacroEffects.{drawing, setting_text}
 use Rattle.command_rules.specs.MacroRules.{call_in, new_text_in, setting_rule}
 use Rattle.campaign_law.specs.Messages.{message_by, run_messages, texts_in}
-use Rattle.campaign_law.specs.Outcome.{Outcome, dice_in, is_bye, reply_line, rolling, said}
+use Rattle.campaign_law.specs.Outcome.{Outcome, dice_in, is_bye, reply_line, rolling, said, of_steps}
 use Rattle.campaign_core.proofs.Allowing.{done_once_drawn, macros_drawn, may_drawn}
 use Rattle.campaign_core.proofs.Saying.{said_counted}
 use Rattle.campaign_core.proofs.outcome.accepted.Goals as goal
@@ -30,7 +30,7 @@ returns c =
     let drawn = c.in_ok-messages.ensures.book ∙ ap (λ b. rolling (dice_in command) (drawing c.args.run b)) counts in
     let book = c.in_ok-change_book.ensures ∙ ap (λ (b : Book). cond (is_bye command) (left b) (using_tag (tag_made command) (setting_text (new_text_in command) b))) drawn
     ∙ done_once_drawn command (drawing c.args.run (counted c.args.book.now)) in
-    let reply = c.in_ok-reply_line.ensures ∙ ap (λ n. reply_line 0 (n + 1) command) c.lines.ensures.value in
+    let reply = c.in_ok-reply_line.ensures ∙ ap (λ n. reply_line (of_steps 0) (n + 1) command) c.lines.ensures.value in
     let messages = c.in_ok-messages.ensures.messages
     ∙ ap (λ words. message_by c.args.seat words ++ run_messages c.args.seat (call_in command) (texts_in c.args.run)) (ap (λ b. said b command) counts ∙ said_counted c.args.book.now command) in
     λ i. record {

@@ -3,7 +3,7 @@ use Rattle.std.proofs.lemmas.List.{length-map}
 use Rattle.command_rules.specs.declared.calls.Called.{Called}
 use Rattle.seats.specs.Book.{stream_of}
 use Rattle.campaign_law.specs.Messages.{texts_in}
-use Rattle.campaign_law.specs.Outcome.{accepted_with, called_by, decided}
+use Rattle.campaign_law.specs.Outcome.{accepted_with, called_by, decided, of_steps}
 use Rattle.campaign_law.specs.World.{asked_of}
 use Rattle.campaign_core.specs.Places.{Place, world_at}
 use Rattle.campaign_core.specs.Rulings.{IsRunFor}
@@ -51,11 +51,11 @@ pub returns-in-Refused : goal.returns-in-Refused
 returns-in-Refused c =
     let asked = asked_of (world_at c.args.state.now) c.args.seat in
     let refused = refused_with asked c.args.seat c.args.book.now c.args.command c.in_ok-refusal.field-0 c.in-Refused.refusal c.in_ok-refusal.ensures c.in-Refused.is in
-    if_ok c.refused_line.result _ _ (λ o is. is ∙ sym (ap (decided asked 0 c.args.seat c.args.book.now c.args.command) refused)) c.refused_line.ensures
+    if_ok c.refused_line.result _ _ (λ o is. is ∙ sym (ap (decided asked (of_steps 0) c.args.seat c.args.book.now c.args.command) refused)) c.refused_line.ensures
 
 pub returns-in-Allowed : goal.returns-in-Allowed
 returns-in-Allowed c =
     let asked = asked_of (world_at c.args.state.now) c.args.seat in
     let allowed = allowed_with asked c.args.seat c.args.book.now c.args.command c.in_ok-refusal.field-0 c.in-Allowed.run' c.in_ok-refusal.ensures c.in-Allowed.is in
     if_ok c.accepted.result _ _
-    (λ o is. is ∙ ap (accepted_with 0 c.args.seat c.args.book.now c.args.command) allowed.comes ∙ sym (ap (decided asked 0 c.args.seat c.args.book.now c.args.command) allowed.rule)) c.accepted.ensures
+    (λ o is. is ∙ ap (accepted_with (of_steps 0) c.args.seat c.args.book.now c.args.command) allowed.comes ∙ sym (ap (decided asked (of_steps 0) c.args.seat c.args.book.now c.args.command) allowed.rule)) c.accepted.ensures

@@ -1,7 +1,7 @@
 use Rattle.std.proofs.Common.{◌≡◌, Some, None, sym, ◌∙◌, ap, subst}
 use Rattle.std.specs.Prelude.{Option, IfOk, slice_get}
 use Rattle.campaign_law.specs.Seat.{Seat, was_joined}
-use Rattle.campaign_law.specs.Outcome.{outcome_at, seat_of}
+use Rattle.campaign_law.specs.Outcome.{outcome_at, seat_of, of_steps}
 use Rattle.campaign_law.specs.World.{asked_of}
 use Rattle.campaign_core.specs.Places.{Place, world_at}
 use Rattle.campaign_core.proofs.Allowing.{may_use_allowed, seat_found}
@@ -24,11 +24,11 @@ pub returns-in-Some : goal.returns-in-Some
 returns-in-Some c =
     let seat = seat_of c.args.entry.now in
     let found = sym (seat_found c.args.state.now seat (Some c.in-Some.post.now) (c.in-Some.ensures ∙ ap (slice_get c.args.state.now.posts) (c.number.ensures.value ∙ c.seat.ensures))) in
-    subst (λ (before : Option Seat). IfOk c.present_outcome.result (λ o. o ≡ outcome_at (asked_of (world_at c.args.state.now) seat) 0 before c.args.entry.now))
+    subst (λ (before : Option Seat). IfOk c.present_outcome.result (λ o. o ≡ outcome_at (asked_of (world_at c.args.state.now) seat) (of_steps 0) before c.args.entry.now))
     (sym (found ∙ ap (λ (p : Place). Some p.seat) (sym c.post-in-Some.view_is))) c.present_outcome.ensures
 
 pub returns-in-None : goal.returns-in-None
 returns-in-None c =
     let seat = seat_of c.args.entry.now in
-    subst (λ (before : Option Seat). IfOk c.absent_outcome.result (λ o. o ≡ outcome_at (asked_of (world_at c.args.state.now) seat) 0 before c.args.entry.now))
+    subst (λ (before : Option Seat). IfOk c.absent_outcome.result (λ o. o ≡ outcome_at (asked_of (world_at c.args.state.now) seat) (of_steps 0) before c.args.entry.now))
     (seat_found c.args.state.now seat None (c.in-None.ensures ∙ ap (slice_get c.args.state.now.posts) (c.number.ensures.value ∙ c.seat.ensures))) c.absent_outcome.ensures

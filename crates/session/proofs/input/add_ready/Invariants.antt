@@ -4,12 +4,12 @@ use Rattle.line_io.specs.Reader.{bytes_to_come}
 use Rattle.session.specs.Inputs.{CameFirst}
 use Rattle.session.proofs.input.add_ready.Given as goal
 
-abbrev pub invariant-loop : goal.invariant-loop
-invariant-loop l = record {
+abbrev pub invariant-loop-reader : goal.invariant-loop-reader
+invariant-loop-reader l = record {
   lines : (text left : Option (List ℕ)) → CameFirst l.fn.lines.items text (bytes_to_come l.fn.reader left) → CameFirst l.lines.items text (bytes_to_come l.reader left);
   cap : l.reader.cap ≡ l.fn.reader.cap;
   ended : l.reader.ended ≡ l.fn.reader.ended;
 }
 
-abbrev pub decreases-loop : goal.decreases-loop
-decreases-loop l = vec_capacity l.lines - vec_len l.lines
+abbrev pub decreases-loop-reader : goal.decreases-loop-reader
+decreases-loop-reader l = vec_capacity l.lines - vec_len l.lines
