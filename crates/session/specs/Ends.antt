@@ -23,8 +23,11 @@ ended_at stops.Memory = ends.Memory
 abbrev pub ended_by : ReadEnd → Wrote → Ended
 ended_by read writes.WriteFault = ends.WriteFault
 ended_by read writes.Memory = ends.Memory
+ended_by (reads.Stopped stops.Memory) writes.Cut = ends.Memory
+ended_by read writes.Cut = ends.Cut
 ended_by reads.Bye writes.All = ends.Left
 ended_by reads.Spent writes.All = ends.Spent
+ended_by reads.Cut writes.All = ends.Cut
 ended_by (reads.Stopped stop) writes.All = ended_at stop
 
 -- all that came was entered, and all that was queued was written
@@ -33,6 +36,7 @@ is_whole ends.Left = true
 is_whole (ends.Refused refusal) = false
 is_whole ends.TooLong = true
 is_whole ends.Spent = true
+is_whole ends.Cut = false
 is_whole ends.ReadFault = true
 is_whole ends.WriteFault = false
 is_whole ends.Memory = false

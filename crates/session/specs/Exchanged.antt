@@ -5,8 +5,8 @@ use Rattle.campaign_law.specs.World.{World, seat_at, replay}
 use Rattle.campaign_law.specs.Session.{session, waiting}
 use Rattle.session.specs.declared.hold.Hold.{Hold}
 use Rattle.session.specs.declared.exchange.Found.{Found}
-use Rattle.session.specs.declared.exchange.Found.TheVariants.{Lines, Gone, Memory}
-use Rattle.session.specs.Held.{is_held}
+use Rattle.session.specs.declared.exchange.Found.TheVariants.{Lines, Gone, Cut, Memory}
+use Rattle.session.specs.Held.{is_held, is_cut}
 
 -- these lines wait behind the first `count`, each with its LF
 abbrev pub Waits : World → List Entry → Hold → ℕ → List (List ℕ) → Type 0
@@ -21,8 +21,13 @@ pub record WaitsAs (w : World) (h : List Entry) (hold : Hold) (count : ℕ) (tex
 
 abbrev pub Finds : World → Hold → ℕ → List Entry → Found → Type 0
 Finds w hold count h (Lines text number) = (is_held w h hold ≡ true) × WaitsAs w h hold count text number
-Finds w hold count h Gone = is_held w h hold ≡ false
+Finds w hold count h Gone = (is_held w h hold ≡ false) × (is_cut w h hold ≡ false)
+Finds w hold count h Cut = (is_held w h hold ≡ false) × (is_cut w h hold ≡ true)
 Finds w hold count h Memory = Unit {0}
+
+-- its passes don't hold the seat any more, and whether it was cut
+abbrev pub IsGone : World → Hold → List Entry → Found → Type 0
+IsGone w hold h found = Finds w hold 0 h found
 
 -- the turn found one history and left another
 pub record Exchanged (w : World) (hold : Hold) (count : ℕ) (before : List Entry) (entered : Bool) (found : Found) (after : List Entry) : Type 0 where

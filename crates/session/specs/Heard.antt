@@ -1,18 +1,21 @@
 -- What the reading half read and entered.
-use Rattle.std.specs.Prelude.{◌≡◌, ◌≢◌, ◌==◌, ◌⊎◌, ℕ, Bool, true, false, List, [], ◌∷◌, ◌++◌, take, suc, All, Contains, slice_get, Option, Some, None, IfSome, Ok}
+use Rattle.std.specs.Prelude.{◌≡◌, ◌≢◌, ◌==◌, ◌⊎◌, ℕ, Bool, true, false, List, [], ◌∷◌, ◌++◌, take, suc, map, if◌then◌else◌, All, Contains, slice_get, Option, Some, None, IfSome, Ok}
 use mathlib.Core.List.{IsPrefix}
 use Rattle.line_io.specs.Lines.{lines_of as text_lines}
 use Rattle.line_io.specs.Told.{WhereTold}
 use Rattle.campaign_law.specs.declared.entry.Entry.{Entry}
 use Rattle.campaign_law.specs.declared.entry.Entry.TheVariants.{Join, Line, Leave, Taken, Cut}
 use Rattle.campaign_law.specs.World.{World, seat_at, replay}
-use Rattle.turn_lock.specs.Pass.{PassState}
+use Rattle.campaign_core.specs.Over.{over_of}
+use Rattle.turn_lock.specs.Pass.{PassState, places}
 use Rattle.session.specs.declared.hold.Hold.{Hold}
 use Rattle.session.specs.declared.hearing.ReadEnd.{ReadEnd}
 use Rattle.session.specs.declared.hearing.ReadEnd.TheVariants.{Bye, Spent, Stopped}
-use Rattle.session.specs.declared.input.Stop.TheVariants.{Memory}
-use Rattle.session.specs.Held.{is_held, is_read}
-use Rattle.session.specs.Spoken.{is_spent}
+use Rattle.session.specs.declared.hearing.ReadEnd.TheVariants as reads
+use Rattle.session.specs.declared.input.Stop.{Stop}
+use Rattle.session.specs.declared.input.Stop.TheVariants.{End, TooLong, ReadFault, Memory}
+use Rattle.session.specs.Held.{is_held, is_read, is_cut}
+use Rattle.session.specs.Spoken.{is_spent, AreOver}
 use Rattle.command_json.specs.declared.command.Command.{Command}
 use Rattle.command_json.specs.Commands.{command_of}
 use Rattle.campaign_law.specs.Outcome.{is_bye}
@@ -24,7 +27,7 @@ IsReaders w hold before (Join seat key reader writer) = ⊥
 IsReaders w hold before (Line seat bytes) = (seat ≡ hold.seat) × (is_read w before hold ≡ true)
 IsReaders w hold before (Leave seat drop) = (seat ≡ hold.seat) × (drop ≡ false) × (is_held w before hold ≡ true)
 IsReaders w hold before (Taken seat count) = ⊥
-IsReaders w hold before (Cut seat) = ⊥
+IsReaders w hold before (Cut seat) = over_of w before ≡ Some seat
 
 abbrev pub line_in : Option Entry → List (List ℕ)
 line_in None = []
@@ -87,7 +90,29 @@ IsUnspent w hold before (Cut seat) = Unit {0}
 abbrev pub ClosedBy : ReadEnd → World → List Entry → Hold → List ℕ → Type 0
 ClosedBy Bye w h hold own = (k : ℕ) × Contains own k × IsByeAt h hold.seat k
 ClosedBy Spent w h hold own = (k : ℕ) × Contains (hold.place ∷ own) k × IsSpentAt w h hold.seat k
+ClosedBy reads.Cut w h hold own = is_cut w h hold ≡ true
 ClosedBy (Stopped stop) w h hold own = Unit {0}
+
+-- the end of a reading half whose session may have been cut; want of memory is told first
+abbrev pub unless_cut : ReadEnd → Bool → ReadEnd
+unless_cut end cut = if cut then reads.Cut else end
+
+abbrev pub stopped : Stop → Bool → ReadEnd
+stopped End cut = unless_cut (Stopped End) cut
+stopped TooLong cut = unless_cut (Stopped TooLong) cut
+stopped ReadFault cut = unless_cut (Stopped ReadFault) cut
+stopped Memory cut = Stopped Memory
+
+-- right behind this place stands a Cut of each seat for which too much waits, until there is none, each at an own place
+pub record AreCutBehind (w : World) (h : List Entry) (own : List ℕ) (place : ℕ) : Type 0 where
+  pub seats : List ℕ
+  pub over : AreOver w (take (suc place) h) seats
+  pub there : IsPrefix (take (suc place) h ++ map Cut seats) h
+  pub mine : All (Contains own) (places (suc place) (map Cut seats))
+
+-- behind each Line of these places
+abbrev pub CutsBehindLines : World → List Entry → List ℕ → Type 0
+CutsBehindLines w h own = (place seat : ℕ) (bytes : List ℕ) → Contains own place → slice_get h place ≡ Some (Line seat bytes) → AreCutBehind w h own place
 
 -- a line at one of these places closed the seat: a bye, or the seat's last
 abbrev pub IsClosedBy : World → List Entry → Hold → List ℕ → Type 0
@@ -115,5 +140,8 @@ pub record HasHeard (w : World) (hold : Hold) (p q : PassState Entry World) (end
   -- where it was gone, none of its own entries closed the seat
   pub kept : gone ≡ true → All (IsReadAfter w hold q.front) more
   pub cause : ClosedBy end w q.front hold more
+  -- and where it tells no cut and no want of memory there was none
+  pub uncut : end ≢ reads.Cut → end ≢ Stopped Memory → is_cut w q.front hold ≡ false
+  pub cuts : CutsBehindLines w q.front more
   -- and no other of its lines was the seat's last
   pub unspent : end ≢ Spent → All (StandsAt (IsUnspent w hold) q.front) more

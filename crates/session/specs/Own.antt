@@ -28,13 +28,13 @@ pub record Got (rule : List Entry → Entry → Type 0) {Origin : Type 0} (old n
   pub own : new.own ≡ old.own ++ more
   pub each : All (StandsAt rule new.front) more
 
--- a Taken of the seat, a Leave that drops its lines, or a Cut of it
+-- a Taken of the seat, or a Leave that drops its lines
 abbrev pub takes_from : ℕ → Entry → Bool
 takes_from seat (Join s key reader writer) = false
 takes_from seat (Line s bytes) = false
 takes_from seat (Leave s drop) = drop && (s == seat)
 takes_from seat (Taken s count) = s == seat
-takes_from seat (Cut s) = s == seat
+takes_from seat (Cut s) = false
 
 -- From the Join until the seat is Free nobody else takes or drops its lines, and nobody else joins with its numbers
 pub record IsAlone (w : World) (h : List Entry) (own : List ℕ) (hold : Hold) : Type 0 where
