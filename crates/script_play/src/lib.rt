@@ -6,4 +6,4 @@ mod entries;
 mod run;
 mod sending;
 
-pub use run::{LINE_BYTES, LINE_LIMIT, Played, play};
+pub use run::{LINE_BYTES, LINE_LIMIT, Played, Tally, play, play_counted};

@@ -4,12 +4,15 @@
 ghost use Rattle.std.specs.Prelude.{◌≡◌, IfOk};
 
 mod checking;
+mod drilling;
 mod endings;
 mod files;
 mod last_line;
 #[cfg(test)]
 mod look_tests;
 mod playing;
+mod printing;
+mod quiet;
 mod serve;
 #[cfg(test)]
 mod tests;

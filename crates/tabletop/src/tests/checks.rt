@@ -1,4 +1,4 @@
-//! Campaigns that are checked.
+//! Campaigns that are checked, and campaigns that are written at the end.
 
 use super::campaigns::{CAVE, THREE_SEATS};
 use super::{PLAIN, Run, plain_run, played};
@@ -81,5 +81,37 @@ fn a_breach_is_told_with_its_path(rt: HostRuntime) -> Result<(), Fail> {
             "tabletop: bad campaign at /tokens/0/owners/0: cross\n"
         );
     }
+    Ok(())
+}
+
+// The campaign as it came is written where nothing was played, and opens again once something was.
+#[test]
+fn a_campaign_is_written_at_the_end(rt: HostRuntime) -> Result<(), Fail> {
+    let alloc = rt.alloc();
+    let words = ["play", "--end", "table.json"];
+    let (status, output) = played(alloc, &words, &plain_run(CAVE, ""))?;
+    assert_eq!(rt; status, 0);
+    assert_eq!(rt; output.trim_end(), CAVE);
+    let script = r#"0 {"do":"hello","seat":0,"key":"g"}
+0 {"do":"map","name":"attic","w":3,"h":2}
+0 {"do":"token","tag":"orc","map":"attic","cell":[1,1],"name":"Orc"}
+0 {"do":"bye"}
+"#;
+    let (status, output) = played(alloc, &words, &plain_run(CAVE, script))?;
+    assert_eq!(rt; status, 0);
+    let written = output.lines().last().ok_or("a line")?;
+    let (status, counts) = played(alloc, &CHECK, &plain_run(written, ""))?;
+    assert_eq!(rt; status, 0);
+    assert_eq!(rt; counts.as_str(), "ok: 2 seats, 2 maps, 2 tokens\n");
+    Ok(())
+}
+
+// After a stop no campaign is written.
+#[test]
+fn no_campaign_is_written_after_a_stop(rt: HostRuntime) -> Result<(), Fail> {
+    let words = ["play", "table.json", "--end"];
+    let (status, output) = played(rt.alloc(), &words, &plain_run(CAVE, "9 {}\n"))?;
+    assert_eq!(rt; status, 7);
+    assert_eq!(rt; output.as_str(), "tabletop: bad script line 1\n");
     Ok(())
 }

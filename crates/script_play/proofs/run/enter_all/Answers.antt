@@ -9,3 +9,16 @@ pub returns-in-Err-clause-stopped : goal.returns-in-Err-clause-stopped
 returns-in-Err-clause-stopped g c =
     let same : entries_since c.args.campaign.now c.step.new.self ≡ c.loop-entry.yielded = since_is c.args.campaign.now c.step.new.self c.loop-entry.yielded (ap (λ (x : Course). x.history) c.in-Err.ensures.unchanged ∙ c.loop-entry.invariant.history) in
     subst (λ es. IsPrefix es c.args.entries.items) (sym same) (record { rest = into_iter_items c.loop-entry.entry-iterator; is = sym c.loop-entry.invariant.whole })
+
+pub loop-entry-preserved : goal.loop-entry-preserved
+loop-entry-preserved g c =
+    let inv = c.loop-entry.invariant in
+    let old = c.args.campaign.now in
+    let now = c.loop-entry.campaign in
+    let new = c.step.new.self in
+    record {
+      origin = c.step.ensures.origin ∙ inv.origin;
+      history = c.in-Ok.ensures.history ∙ ap (λ h. h ++ c.loop-entry.entry ∷ []) inv.history ∙ append_assoc old.history c.loop-entry.yielded (c.loop-entry.entry ∷ []);
+      looks = looks_more now new c.loop-entry.entry c.in-Ok.ensures.history old (goes_on old now c.loop-entry.yielded inv.origin inv.history) (goes_on now new (c.loop-entry.entry ∷ []) c.step.ensures.origin c.in-Ok.ensures.history) inv.looks c.step.ensures.looks;
+      whole = search rules;
+    }

@@ -8,7 +8,7 @@ use Rattle.script_play.proofs.AfterEntry.{nothing_since, prefix_none, stays}
 use Rattle.script_play.proofs.Fronts.{wrote_nothing}
 use Rattle.script_play.proofs.Written.{writes}
 use Rattle.script_play.proofs.Reading.{told_same}
-use Rattle.script_play.proofs.run.play.Goals as goal
+use Rattle.script_play.proofs.run.play_counted.Goals as goal
 
 pub returns-in-Ok-clause-sent : goal.returns-in-Ok-clause-sent
 returns-in-Ok-clause-sent g c =
