@@ -40,7 +40,7 @@ fresh_waits : (seats : List Seat) → AllByRecursion IsFreshSeat seats → AllBy
 fresh_waits [] f = tt
 fresh_waits (s ∷ seats) f = (f.0.taken ∙ sym f.0.queued, fresh_waits seats f.1)
 
-opening_world_of : (c : Course) → c.history ≡ [] → world_of c ≡ c.origin
+pub opening_world_of : (c : Course) → c.history ≡ [] → world_of c ≡ c.origin
 opening_world_of c h = ap (replay c.origin) h
 
 pub nothing_waits : (c : Course) → IsOpening c.origin → c.history ≡ [] → NothingWaits (world_of c)
