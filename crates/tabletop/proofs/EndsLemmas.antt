@@ -11,6 +11,8 @@ use Rattle.line_io.specs.declared.desks.DeskFault.TheVariants as desk
 use Rattle.campaign_law.specs.declared.entry.Entry.{Entry}
 use Rattle.campaign_law.specs.Seat.{Seat, IsFreshSeat}
 use Rattle.campaign_law.specs.World.{World, replay, sent}
+use Rattle.campaign_law.specs.Worlds.{opened_of}
+use Rattle.campaign_writing.specs.Canonical.{canonical}
 use Rattle.campaign_law.specs.Player.{opening, trace, machine}
 use Rattle.campaign_law.specs.Law.{Course, IsOpening, IsSentAsMachine, world_of}
 use Rattle.world.specs.World.{World as Opened}
@@ -30,7 +32,7 @@ use Rattle.script_play.proofs.Behind.{sent_behind}
 use Rattle.tabletop.specs.declared.endings.Ended.{Ended}
 use Rattle.tabletop.specs.declared.endings.Ended.TheVariants.{Done, Usage, BadCampaign, ReadFault, WriteFault, Memory, BadLine, TooLarge, DoorFault}
 use Rattle.tabletop.specs.Endings.{status_of, last_line, HasOwnLine}
-use Rattle.tabletop.specs.Ends.{PlaysOn, PlayEnds, CheckEnds, NotFetched, FileEnds, JobEnds, HasEnded, IsToldAs, ended_by, unfetched, campaign_limit}
+use Rattle.tabletop.specs.Ends.{PlaysOn, ScriptEnds, PrintsLine, EndsByLine, end_line, PlayEnds, FollowsPlay, CheckEnds, NotFetched, FileEnds, JobEnds, HasEnded, IsToldAs, ended_by, unfetched, campaign_limit}
 
 -- ---- a campaign that opens
 
@@ -38,7 +40,7 @@ fresh_waits : (seats : List Seat) → AllByRecursion IsFreshSeat seats → AllBy
 fresh_waits [] f = tt
 fresh_waits (s ∷ seats) f = (f.0.taken ∙ sym f.0.queued, fresh_waits seats f.1)
 
-opening_world_of : (c : Course) → c.history ≡ [] → world_of c ≡ c.origin
+pub opening_world_of : (c : Course) → c.history ≡ [] → world_of c ≡ c.origin
 opening_world_of c h = ap (replay c.origin) h
 
 pub nothing_waits : (c : Course) → IsOpening c.origin → c.history ≡ [] → NothingWaits (world_of c)
@@ -46,7 +48,7 @@ nothing_waits c opens h = subst NothingWaits (sym (opening_world_of c h)) (fresh
 
 -- ---- a script that was played
 
-pub plays_on : (answer : Played) (c new : Course) (world : Option World) (script left out after : Option (List ℕ)) → world ≡ Some c.origin → IsOpening c.origin → c.history ≡ [] → GoesOn c new → WhereTold script left (λ text rest. HasEntered answer (script_of (world_of c) text) (entries_since c new)) → WhereTold script left (λ text rest. HasRead answer (world_of c) (entries_since c new) text rest) → Writes answer c new out after → ((p : ℕ) → IsSentAsMachine new.origin new.history p) → PlaysOn answer world script left out after
+unfoldable pub plays_on : (answer : Played) (c new : Course) (world : Option World) (script left out after : Option (List ℕ)) → world ≡ Some c.origin → IsOpening c.origin → c.history ≡ [] → GoesOn c new → WhereTold script left (λ text rest. HasEntered answer (script_of (world_of c) text) (entries_since c new)) → WhereTold script left (λ text rest. HasRead answer (world_of c) (entries_since c new) text rest) → Writes answer c new out after → ((p : ℕ) → IsSentAsMachine new.origin new.history p) → PlaysOn answer world script left out after
 plays_on answer c new world script left out after is opens none g entered read writes sent_as =
     let w : world_of c ≡ c.origin = opening_world_of c none in
     let es : List Entry = entries_since c new in
@@ -72,13 +74,78 @@ plays_on answer c new world script left out after is opens none g entered read w
       };
     }
 
-pub ends_by : (S : Type 0) (answer : Played) (text : List ℕ) (script left out after : Option (List ℕ)) → (answer ≡ played.ReadFault → S) → PlaysOn answer (world_of_text text) script left out after → PlayEnds S (ended_by answer) text script left out after
-ends_by S played.Done text script left out after fault p = p
-ends_by S played.ReadFault text script left out after fault p = (fault refl, p)
-ends_by S played.WriteFault text script left out after fault p = p
-ends_by S (played.BadLine number) text script left out after fault p = p
-ends_by S played.TooLarge text script left out after fault p = p
-ends_by S played.Memory text script left out after fault p = inr p
+-- the line behind it, by the campaign as it is then
+line_behind : (answer : Played) (c new : Course) (world : Option World) (script left out after : Option (List ℕ)) (is : world ≡ Some c.origin) (opens : IsOpening c.origin) (none : c.history ≡ []) (g : GoesOn c new) (entered : WhereTold script left (λ text rest. HasEntered answer (script_of (world_of c) text) (entries_since c new))) (read : WhereTold script left (λ text rest. HasRead answer (world_of c) (entries_since c new) text rest)) (writes : Writes answer c new out after) (sent_as : (p : ℕ) → IsSentAsMachine new.origin new.history p)
+    → canonical (opened_of (world_of new)) ++ 10 ∷ [] ≡ (let p : PlaysOn answer world script left out after = plays_on answer c new world script left out after is opens none g entered read writes sent_as in end_line p.origin p.plays.entries)
+unfolding plays_on
+line_behind answer c new world script left out after is opens none g entered read writes sent_as =
+    let all : new.history ≡ entries_since c new = g.history ∙ ap (λ h. h ++ entries_since c new) none in
+    (λ i. canonical (opened_of (replay (g.origin i) (all i))) ++ 10 ∷ [])
+
+script_ends : (S : Type 0) (answer : Played) (text : List ℕ) (script left out after : Option (List ℕ)) → (answer ≡ played.ReadFault → S) → PlaysOn answer (world_of_text text) script left out after → ScriptEnds S (ended_by answer) text script left out after
+script_ends S played.Done text script left out after fault p = p
+script_ends S played.ReadFault text script left out after fault p = (fault refl, p)
+script_ends S played.WriteFault text script left out after fault p = p
+script_ends S (played.BadLine number) text script left out after fault p = p
+script_ends S played.TooLarge text script left out after fault p = p
+script_ends S played.Memory text script left out after fault p = inr p
+
+by_line : (S : Type 0) (ended : Ended) (text : List ℕ) (script left out after : Option (List ℕ)) → EndsByLine ended (world_of_text text) script left out after → PlayEnds S true ended text script left out after
+by_line S Done text script left out after e = e
+by_line S Usage text script left out after e = inr e
+by_line S (BadCampaign breach) text script left out after e = inr e
+by_line S ReadFault text script left out after e = inr e
+by_line S WriteFault text script left out after e = inr e
+by_line S Memory text script left out after e = inr e
+by_line S (BadLine number) text script left out after e = inr e
+by_line S TooLarge text script left out after e = inr e
+by_line S DoorFault text script left out after e = inr e
+
+-- a stop ends the run whether the campaign was to be written or not
+stopped : (S : Type 0) (end : Bool) (answer : Played) (text : List ℕ) (script left out after : Option (List ℕ)) → (answer ≡ played.Done → ⊥) → ScriptEnds S (ended_by answer) text script left out after → PlayEnds S end (ended_by answer) text script left out after
+stopped S false answer text script left out after stops e = e
+stopped S true played.Done text script left out after stops e = absurd (stops refl)
+stopped S true played.ReadFault text script left out after stops e = inl e
+stopped S true played.WriteFault text script left out after stops e = inl e
+stopped S true (played.BadLine number) text script left out after stops e = inl e
+stopped S true played.TooLarge text script left out after stops e = inl e
+stopped S true played.Memory text script left out after stops e = inl e
+
+-- and so does a text that gives no campaign
+pub no_campaign : (S : Type 0) (end : Bool) (breach : Breach) (text : List ℕ) (script left out : Option (List ℕ)) → campaign_of text ≡ Err breach → PlayEnds S end (BadCampaign breach) text script left out out
+no_campaign S false breach text script left out is = (is, refl)
+no_campaign S true breach text script left out is = inl (is, refl)
+
+pub no_memory : (S : Type 0) (end : Bool) (text : List ℕ) (script left out : Option (List ℕ)) → PlayEnds S end Memory text script left out out
+no_memory S false text script left out = inl refl
+no_memory S true text script left out = inl (inl refl)
+
+module _ (S : Type 0) (end : Bool) (text : List ℕ) (script left out middle after : Option (List ℕ)) where
+  same_out : (ended : Ended) → after ≡ middle → PlayEnds S end ended text script left out middle → PlayEnds S end ended text script left out after
+  same_out ended same e = subst (λ x. PlayEnds S end ended text script left out x) (sym same) e
+
+  stop_ends : (answer : Played) (ended : Ended) → (answer ≡ played.ReadFault → S) → (answer ≡ played.Done → ⊥) → PlaysOn answer (world_of_text text) script left out middle → (ended ≡ ended_by answer) × (after ≡ middle) → PlayEnds S end ended text script left out after
+  stop_ends answer ended fault stops p h =
+      subst (λ e. PlayEnds S end e text script left out after) (sym h.0)
+      (same_out (ended_by answer) h.1 (stopped S end answer text script left out middle stops (script_ends S answer text script left out middle fault p)))
+
+-- a script was played, and what follows it was done
+pub play_ends : (S : Type 0) (end : Bool) (answer : Played) (ended : Ended) (text line : List ℕ) (script left out middle after : Option (List ℕ)) → (answer ≡ played.ReadFault → S) → (p : PlaysOn answer (world_of_text text) script left out middle) → line ≡ end_line p.origin p.plays.entries → FollowsPlay answer end ended line middle after → PlayEnds S end ended text script left out after
+play_ends S true played.Done ended text line script left out middle after fault p is h =
+    by_line S ended text script left out after (record { before_end = middle; plays_on = p; printed = subst (λ l. PrintsLine ended l middle after) is h })
+play_ends S false played.Done ended text line script left out middle after fault p is h = subst (λ e. PlayEnds S false e text script left out after) (sym h.0) (subst (λ x. PlaysOn played.Done (world_of_text text) script left out x) (sym h.1) p)
+play_ends S end played.ReadFault ended text line script left out middle after fault p is h = stop_ends S end text script left out middle after played.ReadFault ended fault (λ e. cc) p h
+play_ends S end played.WriteFault ended text line script left out middle after fault p is h = stop_ends S end text script left out middle after played.WriteFault ended fault (λ e. cc) p h
+play_ends S end (played.BadLine number) ended text line script left out middle after fault p is h = stop_ends S end text script left out middle after (played.BadLine number) ended fault (λ e. cc) p h
+play_ends S end played.TooLarge ended text line script left out middle after fault p is h = stop_ends S end text script left out middle after played.TooLarge ended fault (λ e. cc) p h
+play_ends S end played.Memory ended text line script left out middle after fault p is h = stop_ends S end text script left out middle after played.Memory ended fault (λ e. cc) p h
+
+-- the campaign of the text was played, and what follows was done
+pub campaign_ends : (S : Type 0) (end : Bool) (answer : Played) (ended : Ended) (text line : List ℕ) (c new : Course) (script left out middle after : Option (List ℕ)) → (answer ≡ played.ReadFault → S) → (is : world_of_text text ≡ Some c.origin) (opens : IsOpening c.origin) (none : c.history ≡ []) (g : GoesOn c new) (entered : WhereTold script left (λ text rest. HasEntered answer (script_of (world_of c) text) (entries_since c new))) (read : WhereTold script left (λ text rest. HasRead answer (world_of c) (entries_since c new) text rest)) (writes : Writes answer c new out middle) (sent_as : (p : ℕ) → IsSentAsMachine new.origin new.history p)
+    → line ≡ canonical (opened_of (world_of new)) ++ 10 ∷ [] → FollowsPlay answer end ended line middle after → PlayEnds S end ended text script left out after
+campaign_ends S end answer ended text line c new script left out middle after fault is opens none g entered read writes sent_as told follows =
+    play_ends S end answer ended text line script left out middle after fault (plays_on answer c new (world_of_text text) script left out middle is opens none g entered read writes sent_as)
+    (told ∙ line_behind answer c new (world_of_text text) script left out middle is opens none g entered read writes sent_as) follows
 
 -- ---- a file that wasn't fetched
 
@@ -123,16 +190,30 @@ plays_less number world script left out after p =
       };
     }
 
-play_less : (S : Type 0) (ended : Ended) (text : List ℕ) (script left out after : Option (List ℕ)) → HasOwnLine ended → PlayEnds S ended text script left out after → PlayEnds S Memory text script left out after
-play_less S (BadCampaign breach) text script left out after own p = inl p.1
-play_less S (BadLine number) text script left out after own p = inr (plays_less number (world_of_text text) script left out after p)
-play_less S Done text script left out after own p = absurd own
-play_less S Usage text script left out after own p = absurd own
-play_less S ReadFault text script left out after own p = absurd own
-play_less S WriteFault text script left out after own p = absurd own
-play_less S Memory text script left out after own p = absurd own
-play_less S TooLarge text script left out after own p = absurd own
-play_less S DoorFault text script left out after own p = absurd own
+script_less : (S : Type 0) (ended : Ended) (text : List ℕ) (script left out after : Option (List ℕ)) → HasOwnLine ended → ScriptEnds S ended text script left out after → ScriptEnds S Memory text script left out after
+script_less S (BadCampaign breach) text script left out after own p = inl p.1
+script_less S (BadLine number) text script left out after own p = inr (plays_less number (world_of_text text) script left out after p)
+script_less S Done text script left out after own p = absurd own
+script_less S Usage text script left out after own p = absurd own
+script_less S ReadFault text script left out after own p = absurd own
+script_less S WriteFault text script left out after own p = absurd own
+script_less S Memory text script left out after own p = absurd own
+script_less S TooLarge text script left out after own p = absurd own
+script_less S DoorFault text script left out after own p = absurd own
+
+play_less : (S : Type 0) (end : Bool) (ended : Ended) (text : List ℕ) (script left out after : Option (List ℕ)) → HasOwnLine ended → PlayEnds S end ended text script left out after → PlayEnds S end Memory text script left out after
+play_less S false ended text script left out after own p = script_less S ended text script left out after own p
+play_less S true (BadCampaign breach) text script left out after own (inl p) = inl (script_less S (BadCampaign breach) text script left out after own p)
+play_less S true (BadCampaign breach) text script left out after own (inr p) = absurd p.printed
+play_less S true (BadLine number) text script left out after own (inl p) = inl (script_less S (BadLine number) text script left out after own p)
+play_less S true (BadLine number) text script left out after own (inr p) = absurd p.printed
+play_less S true Done text script left out after own p = absurd own
+play_less S true Usage text script left out after own p = absurd own
+play_less S true ReadFault text script left out after own p = absurd own
+play_less S true WriteFault text script left out after own p = absurd own
+play_less S true Memory text script left out after own p = absurd own
+play_less S true TooLarge text script left out after own p = absurd own
+play_less S true DoorFault text script left out after own p = absurd own
 
 check_less : (ended : Ended) (text : List ℕ) (out after : Option (List ℕ)) → HasOwnLine ended → CheckEnds ended text out after → CheckEnds Memory text out after
 check_less (BadCampaign breach) text out after own p = p.1
@@ -152,7 +233,7 @@ file_less D Ends Less ended campaign out after less (inr f) = inr (record { text
 told_less : (D S : Type 0) (ended : Ended) (job : Option Asked) (texts : List ℕ → Option (List ℕ)) (script left out after : Option (List ℕ)) → HasOwnLine ended → JobEnds D S ended job texts script left out after → JobEnds D S Memory job texts script left out after
 told_less D S ended None texts script left out after own h = (inr refl, h.1)
 told_less D S ended (Some (Play file end)) texts script left out after own h =
-    file_less D (λ text. PlayEnds S ended text script left out after) (λ text. PlayEnds S Memory text script left out after) ended (texts file) out after (λ text. play_less S ended text script left out after own) h
+    file_less D (λ text. PlayEnds S end ended text script left out after) (λ text. PlayEnds S end Memory text script left out after) ended (texts file) out after (λ text. play_less S end ended text script left out after own) h
 told_less D S ended (Some (Check file)) texts script left out after own h =
     file_less D (λ text. CheckEnds ended text out after) (λ text. CheckEnds Memory text out after) ended (texts file) out after (λ text. check_less ended text out after own) h
 told_less D S ended (Some (Drill number lines)) texts script left out after own h = absurd h
@@ -191,10 +272,15 @@ used_file : (D : Type 0) (Ends : List ℕ → Type 0) (campaign out after : Opti
 used_file D Ends campaign out after never (inl none) = none.0
 used_file D Ends campaign out after never (inr f) = never f.text f.ends
 
+used_play : (S : Type 0) (end : Bool) (text : List ℕ) (script left out after : Option (List ℕ)) → PlayEnds S end Usage text script left out after → ⊥
+used_play S false text script left out after p = p
+used_play S true text script left out after (inl p) = p
+used_play S true text script left out after (inr p) = p.printed
+
 -- no job ends as words without one
 used_job : (D S : Type 0) (job : Option Asked) (texts : List ℕ → Option (List ℕ)) (script left out after : Option (List ℕ)) → JobEnds D S Usage job texts script left out after → job ≡ None
 used_job D S None texts script left out after h = refl
-used_job D S (Some (Play file end)) texts script left out after h = absurd (used_file D (λ text. PlayEnds S Usage text script left out after) (texts file) out after (λ text p. p) h)
+used_job D S (Some (Play file end)) texts script left out after h = absurd (used_file D (λ text. PlayEnds S end Usage text script left out after) (texts file) out after (λ text. used_play S end text script left out after) h)
 used_job D S (Some (Check file)) texts script left out after h = absurd (used_file D (λ text. CheckEnds Usage text out after) (texts file) out after (λ text p. p.2) h)
 used_job D S (Some (Drill number lines)) texts script left out after h = absurd h
 used_job D S (Some (Serve file port count end)) texts script left out after h = absurd h
@@ -272,18 +358,34 @@ DoneOrMemory status = (status ≡ 0) ⊎ (status ≡ 6)
 pub breach_world : (text : List ℕ) (breach : Breach) (origin : World) → world_of_text text ≡ Some origin → campaign_of text ≡ Err breach → ⊥
 breach_world text breach origin is bad = let z : None ≡ Some origin = sym (ap read_world bad) ∙ is in cc
 
-play_done : (S : Type 0) (ended : Ended) (campaign : List ℕ) (origin : World) (text : List ℕ) (left out after : Option (List ℕ)) → world_of_text campaign ≡ Some origin → (script_of origin text).ending ≡ done → ¬ (status_of ended ≡ 4) → ¬ (status_of ended ≡ 5) → PlayEnds S ended campaign (Some text) left out after → DoneOrMemory (status_of ended)
-play_done S Done campaign origin text left out after is script no_read no_write h = inl refl
-play_done S Usage campaign origin text left out after is script no_read no_write h = absurd h
-play_done S (BadCampaign breach) campaign origin text left out after is script no_read no_write h = absurd (breach_world campaign breach origin is h.0)
-play_done S ReadFault campaign origin text left out after is script no_read no_write h = absurd (no_read refl)
-play_done S WriteFault campaign origin text left out after is script no_read no_write h = absurd (no_write refl)
-play_done S Memory campaign origin text left out after is script no_read no_write h = inr refl
-play_done S (BadLine number) campaign origin text left out after is script no_read no_write h =
+script_done : (S : Type 0) (ended : Ended) (campaign : List ℕ) (origin : World) (text : List ℕ) (left out after : Option (List ℕ)) → world_of_text campaign ≡ Some origin → (script_of origin text).ending ≡ done → ¬ (status_of ended ≡ 4) → ¬ (status_of ended ≡ 5) → ScriptEnds S ended campaign (Some text) left out after → DoneOrMemory (status_of ended)
+script_done S Done campaign origin text left out after is script no_read no_write h = inl refl
+script_done S Usage campaign origin text left out after is script no_read no_write h = absurd h
+script_done S (BadCampaign breach) campaign origin text left out after is script no_read no_write h = absurd (breach_world campaign breach origin is h.0)
+script_done S ReadFault campaign origin text left out after is script no_read no_write h = absurd (no_read refl)
+script_done S WriteFault campaign origin text left out after is script no_read no_write h = absurd (no_write refl)
+script_done S Memory campaign origin text left out after is script no_read no_write h = inr refl
+script_done S (BadLine number) campaign origin text left out after is script no_read no_write h =
     let z : done ≡ bad_line number = ends_done (played.BadLine number) (bad_line number) (world_of_text campaign) origin text left out after is script (λ w es e. ap (λ (s : Script). s.ending) e) h in cc
-play_done S TooLarge campaign origin text left out after is script no_read no_write h =
+script_done S TooLarge campaign origin text left out after is script no_read no_write h =
     let z : done ≡ too_large = ends_done played.TooLarge too_large (world_of_text campaign) origin text left out after is script (λ w es e. ap (λ (s : Script). s.ending) e) h in cc
-play_done S DoorFault campaign origin text left out after is script no_read no_write h = absurd h
+script_done S DoorFault campaign origin text left out after is script no_read no_write h = absurd h
+
+play_done : (S : Type 0) (end : Bool) (ended : Ended) (campaign : List ℕ) (origin : World) (text : List ℕ) (left out after : Option (List ℕ)) → world_of_text campaign ≡ Some origin → (script_of origin text).ending ≡ done → ¬ (status_of ended ≡ 4) → ¬ (status_of ended ≡ 5) → PlayEnds S end ended campaign (Some text) left out after → DoneOrMemory (status_of ended)
+play_done S false ended campaign origin text left out after is script no_read no_write h = script_done S ended campaign origin text left out after is script no_read no_write h
+play_done S true Done campaign origin text left out after is script no_read no_write h = inl refl
+play_done S true Memory campaign origin text left out after is script no_read no_write h = inr refl
+play_done S true ReadFault campaign origin text left out after is script no_read no_write h = absurd (no_read refl)
+play_done S true WriteFault campaign origin text left out after is script no_read no_write h = absurd (no_write refl)
+play_done S true Usage campaign origin text left out after is script no_read no_write h = absurd (used_play S true campaign (Some text) left out after h)
+play_done S true (BadCampaign breach) campaign origin text left out after is script no_read no_write (inl h) = script_done S (BadCampaign breach) campaign origin text left out after is script no_read no_write h
+play_done S true (BadCampaign breach) campaign origin text left out after is script no_read no_write (inr h) = absurd h.printed
+play_done S true (BadLine number) campaign origin text left out after is script no_read no_write (inl h) = script_done S (BadLine number) campaign origin text left out after is script no_read no_write h
+play_done S true (BadLine number) campaign origin text left out after is script no_read no_write (inr h) = absurd h.printed
+play_done S true TooLarge campaign origin text left out after is script no_read no_write (inl h) = script_done S TooLarge campaign origin text left out after is script no_read no_write h
+play_done S true TooLarge campaign origin text left out after is script no_read no_write (inr h) = absurd h.printed
+play_done S true DoorFault campaign origin text left out after is script no_read no_write (inl h) = script_done S DoorFault campaign origin text left out after is script no_read no_write h
+play_done S true DoorFault campaign origin text left out after is script no_read no_write (inr h) = absurd h.printed
 
 check_done : (ended : Ended) (campaign : List ℕ) (world : Opened) (out after : Option (List ℕ)) → campaign_of campaign ≡ Ok world → ¬ (status_of ended ≡ 4) → ¬ (status_of ended ≡ 5) → CheckEnds ended campaign out after → DoneOrMemory (status_of ended)
 check_done Done campaign world out after is no_read no_write h = inl refl
@@ -318,8 +420,8 @@ play_completes status job texts script left out after D S OutFailed file end cam
     let ends : JobEnds D S h.ended (Some (Play file end)) texts (Some text) left out h.before_line =
     subst (λ x. JobEnds D S h.ended (Some (Play file end)) texts x left out h.before_line) s (subst (λ j. JobEnds D S h.ended j texts script left out h.before_line) j h.ends) in
     subst DoneOrMemory (sym h.status_is)
-    (file_done D (λ text'. PlayEnds S h.ended text' (Some text) left out h.before_line) h.ended (texts file) campaign out h.before_line t small (λ e. no_read (h.status_is ∙ e))
-    (play_done S h.ended campaign origin text left out h.before_line is script_done (λ e. no_read (h.status_is ∙ e)) (λ e. no_write (h.status_is ∙ e))) ends)
+    (file_done D (λ text'. PlayEnds S end h.ended text' (Some text) left out h.before_line) h.ended (texts file) campaign out h.before_line t small (λ e. no_read (h.status_is ∙ e))
+    (play_done S end h.ended campaign origin text left out h.before_line is script_done (λ e. no_read (h.status_is ∙ e)) (λ e. no_write (h.status_is ∙ e))) ends)
 
 pub check_completes : (status : ℕ) (job : Option Asked) (texts : List ℕ → Option (List ℕ)) (script left out after : Option (List ℕ)) (D S OutFailed : Type 0) (file campaign : List ℕ) (world : Opened) → HasEnded status job texts script left out after D S OutFailed → job ≡ Some (Check file) → texts file ≡ Some campaign → length campaign ≤ campaign_limit → campaign_of campaign ≡ Ok world → ¬ (status ≡ 4) → ¬ (status ≡ 5) → DoneOrMemory status
 check_completes status job texts script left out after D S OutFailed file campaign world h j t small is no_read no_write =

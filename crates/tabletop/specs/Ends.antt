@@ -1,5 +1,5 @@
 -- What a run of the program did, by how it ended.
-use Rattle.std.specs.Prelude.{◌≡◌, ◌≤◌, ◌<◌, ◌⊎◌, ℕ, List, length, IfSome, Bool, Option, Some, None, Result, Ok, Err}
+use Rattle.std.specs.Prelude.{◌≡◌, ◌≤◌, ◌<◌, ◌⊎◌, ℕ, List, [], ◌∷◌, ◌++◌, length, IfSome, Bool, true, false, Option, Some, None, Result, Ok, Err}
 use Rattle.std.specs.Io.KnownBytes.{append_known}
 use Rattle.line_io.specs.Told.{WhereTold}
 use Rattle.line_io.specs.declared.desks.DeskFault.{DeskFault}
@@ -7,7 +7,9 @@ use Rattle.line_io.specs.declared.desks.DeskFault.TheVariants as desk
 use Rattle.world.specs.World.{World as Opened}
 use Rattle.campaign_file.specs.Campaign.{campaign_of}
 use Rattle.campaign_law.specs.declared.entry.Entry.{Entry}
-use Rattle.campaign_law.specs.World.{World}
+use Rattle.campaign_law.specs.World.{World, replay}
+use Rattle.campaign_law.specs.Worlds.{opened_of}
+use Rattle.campaign_writing.specs.Canonical.{canonical}
 use Rattle.campaign_law.specs.Player.{opening, trace, machine}
 use Rattle.campaign_law.specs.Law.{IsOpening}
 use Rattle.campaign_core.specs.Opening.{world_of_text}
@@ -66,30 +68,52 @@ pub record PlaysOn (answer : Played) (world : Option World) (script left out aft
   pub is : world ≡ Some origin
   pub plays : Plays answer origin script left out after
 
--- `play`, once the campaign's text was there. A read fault is the script's
-abbrev pub PlayEnds : (ScriptFailed : Type 0) → Ended → List ℕ → (script left out after : Option (List ℕ)) → Type 0
-PlayEnds ScriptFailed Done text script left out after = PlaysOn played.Done (world_of_text text) script left out after
-PlayEnds ScriptFailed Usage text script left out after = ⊥
-PlayEnds ScriptFailed (BadCampaign breach) text script left out after = (campaign_of text ≡ Err breach) × (after ≡ out)
-PlayEnds ScriptFailed ReadFault text script left out after = ScriptFailed × PlaysOn played.ReadFault (world_of_text text) script left out after
-PlayEnds ScriptFailed WriteFault text script left out after = PlaysOn played.WriteFault (world_of_text text) script left out after
-PlayEnds ScriptFailed Memory text script left out after = (after ≡ out) ⊎ PlaysOn played.Memory (world_of_text text) script left out after
-PlayEnds ScriptFailed (BadLine number) text script left out after = PlaysOn (played.BadLine number) (world_of_text text) script left out after
-PlayEnds ScriptFailed TooLarge text script left out after = PlaysOn played.TooLarge (world_of_text text) script left out after
-PlayEnds ScriptFailed DoorFault text script left out after = ⊥
+-- a script was to be played, once the campaign's text was there. A read fault is the script's
+abbrev pub ScriptEnds : (ScriptFailed : Type 0) → Ended → List ℕ → (script left out after : Option (List ℕ)) → Type 0
+ScriptEnds ScriptFailed Done text script left out after = PlaysOn played.Done (world_of_text text) script left out after
+ScriptEnds ScriptFailed Usage text script left out after = ⊥
+ScriptEnds ScriptFailed (BadCampaign breach) text script left out after = (campaign_of text ≡ Err breach) × (after ≡ out)
+ScriptEnds ScriptFailed ReadFault text script left out after = ScriptFailed × PlaysOn played.ReadFault (world_of_text text) script left out after
+ScriptEnds ScriptFailed WriteFault text script left out after = PlaysOn played.WriteFault (world_of_text text) script left out after
+ScriptEnds ScriptFailed Memory text script left out after = (after ≡ out) ⊎ PlaysOn played.Memory (world_of_text text) script left out after
+ScriptEnds ScriptFailed (BadLine number) text script left out after = PlaysOn (played.BadLine number) (world_of_text text) script left out after
+ScriptEnds ScriptFailed TooLarge text script left out after = PlaysOn played.TooLarge (world_of_text text) script left out after
+ScriptEnds ScriptFailed DoorFault text script left out after = ⊥
 
--- the counts of a campaign's world were printed; after a write fault a front of the line
-abbrev pub PrintsCounts : Ended → Opened → (out after : Option (List ℕ)) → Type 0
-PrintsCounts Done world out after = after ≡ append_known out (count_line world)
-PrintsCounts WriteFault world out after = WroteFront out (count_line world) after
-PrintsCounts Memory world out after = after ≡ out
-PrintsCounts ended world out after = ⊥
+-- a line was to be printed; after a write fault a front of it was
+abbrev pub PrintsLine : Ended → List ℕ → (out after : Option (List ℕ)) → Type 0
+PrintsLine Done line out after = after ≡ append_known out line
+PrintsLine WriteFault line out after = WroteFront out line after
+PrintsLine Memory line out after = after ≡ out
+PrintsLine ended line out after = ⊥
 
--- `check`, once the campaign's text was there
+-- the line with the campaign text of the world after these entries
+abbrev pub end_line : World → List Entry → List ℕ
+end_line origin entries = canonical (opened_of (replay origin entries)) ++ 10 ∷ []
+
+-- the script was played to its end, and then the line with the last world's campaign text was to be printed
+pub record EndsByLine (ended : Ended) (world : Option World) (script left out after : Option (List ℕ)) : Type 0 where
+  pub before_end : Option (List ℕ)
+  pub plays_on : PlaysOn played.Done world script left out before_end
+  pub printed : PrintsLine ended (end_line plays_on.origin plays_on.plays.entries) before_end after
+
+-- `play`, once the campaign's text was there: where the campaign is to be written at the end, a script that was played to its end
+-- ends by that line
+abbrev pub PlayEnds : (ScriptFailed : Type 0) → Bool → Ended → List ℕ → (script left out after : Option (List ℕ)) → Type 0
+PlayEnds ScriptFailed false ended text script left out after = ScriptEnds ScriptFailed ended text script left out after
+PlayEnds ScriptFailed true Done text script left out after = EndsByLine Done (world_of_text text) script left out after
+PlayEnds ScriptFailed true ended text script left out after = ScriptEnds ScriptFailed ended text script left out after ⊎ EndsByLine ended (world_of_text text) script left out after
+
+-- what follows a script that was played: the line, where it was asked for and the script was played to its end; nothing else
+abbrev pub FollowsPlay : Played → Bool → Ended → List ℕ → (out after : Option (List ℕ)) → Type 0
+FollowsPlay played.Done true ended line out after = PrintsLine ended line out after
+FollowsPlay answer end ended line out after = (ended ≡ ended_by answer) × (after ≡ out)
+
+-- `check`, once the campaign's text was there: the counts of its world are printed
 abbrev pub CheckEnds : Ended → List ℕ → (out after : Option (List ℕ)) → Type 0
 CheckEnds (BadCampaign breach) text out after = (campaign_of text ≡ Err breach) × (after ≡ out)
 CheckEnds Memory text out after = after ≡ out
-CheckEnds ended text out after = (world : Opened) × (campaign_of text ≡ Ok world) × PrintsCounts ended world out after
+CheckEnds ended text out after = (world : Opened) × (campaign_of text ≡ Ok world) × PrintsLine ended (count_line world) out after
 
 -- the campaign's text was fetched: this one, where it is told
 pub record Fetched (Ends : List ℕ → Type 0) (campaign : Option (List ℕ)) : Type 0 where
@@ -119,7 +143,7 @@ FileEnds DeskFailed Ends ended campaign out after = (NotFetched DeskFailed ended
 abbrev pub JobEnds : (DeskFailed ScriptFailed : Type 0) → Ended → Option Asked → (texts : List ℕ → Option (List ℕ)) → (script left out after : Option (List ℕ)) → Type 0
 JobEnds DeskFailed ScriptFailed ended None texts script left out after = ((ended ≡ Usage) ⊎ (ended ≡ Memory)) × (after ≡ out)
 JobEnds DeskFailed ScriptFailed ended (Some (Play file end)) texts script left out after =
-    FileEnds DeskFailed (λ text. PlayEnds ScriptFailed ended text script left out after) ended (texts file) out after
+    FileEnds DeskFailed (λ text. PlayEnds ScriptFailed end ended text script left out after) ended (texts file) out after
 JobEnds DeskFailed ScriptFailed ended (Some (Check file)) texts script left out after = FileEnds DeskFailed (λ text. CheckEnds ended text out after) ended (texts file) out after
 JobEnds DeskFailed ScriptFailed ended (Some (Drill number lines)) texts script left out after = ⊥
 JobEnds DeskFailed ScriptFailed ended (Some (Serve file port count end)) texts script left out after = ⊥

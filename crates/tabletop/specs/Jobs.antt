@@ -1,12 +1,10 @@
 -- The jobs of the words that `tabletop` does.
-use Rattle.std.specs.Prelude.{ℕ, List, Bool, true, false, Option, Some, None, option_and_then}
+use Rattle.std.specs.Prelude.{ℕ, List, Option, Some, None, option_and_then}
 use Rattle.command_words.specs.Words.{Asked, Play, Check, Drill, Serve, job_of}
 
--- a script is played and a campaign checked. For now no campaign is written at the end, and no drill is made; connections
--- are served by another call
+-- a script is played and a campaign checked. For now no drill is made; connections are served by another call
 abbrev pub done_here : Asked → Option Asked
-done_here (Play file false) = Some (Play file false)
-done_here (Play file true) = None
+done_here (Play file end) = Some (Play file end)
 done_here (Check file) = Some (Check file)
 done_here (Drill number lines) = None
 done_here (Serve file port count end) = None

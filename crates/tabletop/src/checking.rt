@@ -1,13 +1,14 @@
 //! `check FILE`: what the campaign of the file has, or its first breach.
 ghost use Rattle.std.specs.Prelude.{◌≡◌, ◌≤◌, string_bytes, IfOk};
 ghost use Rattle.line_io.specs.Counts.{CountRose};
-ghost use Rattle.tabletop.specs.Ends.{CheckEnds, FileEnds, PrintsCounts};
+ghost use Rattle.tabletop.specs.Ends.{CheckEnds, FileEnds, PrintsLine};
 ghost use Rattle.tabletop.specs.Counts.{count_line as count_line_lem};
 
 use crate::endings::Ended;
 use crate::files::not_fetched;
+use crate::printing::print_line;
 use campaign_file::{FileFault, read_campaign};
-use line_io::{Desk, Sink, write_whole};
+use line_io::{Desk, Sink};
 use names::{LineText, Memory};
 use std::alloc::Global;
 use world::World;
@@ -45,16 +46,13 @@ fn check_text<O: Sink>(alloc: Global, text: &LineText, out: &mut O) -> Ended
 }
 
 fn print_counts<O: Sink>(alloc: Global, world: &World, out: &mut O) -> Ended
-    ensures ends { PrintsCounts result world.now (O.written out.old) (O.written out.new) }
+    ensures ends { PrintsLine result (count_line_lem world.now) (O.written out.old) (O.written out.new) }
     ensures write_fault { result ≡ Ended.WriteFault → CountRose (O.faults_of out.old) (O.faults_of out.new) }
     ensures out_count { O.faults_of out.old ≤ O.faults_of out.new }
 {
-    let Ok(line) = count_line(alloc, world) else {
-        return Ended::Memory;
-    };
-    match write_whole(out, line.as_bytes()) {
-        Ok(()) => Ended::Done,
-        Err(_) => Ended::WriteFault,
+    match count_line(alloc, world) {
+        Ok(line) => print_line(line.as_bytes(), out),
+        Err(_) => Ended::Memory,
     }
 }
 

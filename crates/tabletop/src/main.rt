@@ -10,6 +10,7 @@ mod last_line;
 #[cfg(test)]
 mod look_tests;
 mod playing;
+mod printing;
 mod serve;
 #[cfg(test)]
 mod tests;

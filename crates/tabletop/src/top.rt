@@ -1,5 +1,5 @@
 //! The top call.
-ghost use Rattle.std.specs.Prelude.{◌≡◌, ◌≤◌, ◌⊎◌, ℕ, List, Some, None, false, length, map, string_bytes, Ok};
+ghost use Rattle.std.specs.Prelude.{◌≡◌, ◌≤◌, ◌⊎◌, ℕ, List, Bool, Some, None, length, map, string_bytes, Ok};
 ghost use Rattle.line_io.specs.Counts.{CountRose};
 ghost use Rattle.campaign_file.specs.Campaign.{campaign_of};
 ghost use Rattle.campaign_law.specs.World.{World};
@@ -19,7 +19,7 @@ use line_io::{Desk, Sink, Source};
 use std::alloc::Global;
 
 /// Does what the words ask for and gives the program's status. `play FILE` plays the script on the
-/// campaign of that file and writes the lines that it sends; `check FILE` tells how many seats, maps and tokens the campaign has.
+/// campaign of that file and writes the lines that it sends, and with `--end` then the campaign text of the last world; `check FILE` tells how many seats, maps and tokens the campaign has.
 /// After a stop the last line says why. A fault while it is printed doesn't change the status. Where an outside object doesn't
 /// tell its bytes, the clauses on them say nothing.
 pub fn tabletop<D: Desk, S: Source, O: Sink>(
@@ -41,7 +41,7 @@ pub fn tabletop<D: Desk, S: Source, O: Sink>(
     ensures write_fault { result ≡ 5 → CountRose (O.faults_of out.old) (O.faults_of out.new) }
 
     // A campaign and a script that are read, and no fault: the job is done, unless memory ran out.
-    ensures played { (file campaign text : List ℕ) (origin : World) → job_in (map string_bytes words.now) ≡ Some (Play file false) → D.text_of desk.old file ≡ Some campaign
+    ensures played { (file campaign text : List ℕ) (end : Bool) (origin : World) → job_in (map string_bytes words.now) ≡ Some (Play file end) → D.text_of desk.old file ≡ Some campaign
         → length campaign ≤ campaign_limit → world_of_text campaign ≡ Some origin → S.left script.old ≡ Some text → (script_of origin text).ending ≡ done
         → ¬ CountRose (D.faults_of desk.old) (D.faults_of desk.new) → ¬ CountRose (S.faults_of script.old) (S.faults_of script.new) → ¬ CountRose (O.faults_of out.old) (O.faults_of out.new)
         → (result ≡ 0) ⊎ (result ≡ 6) }
@@ -77,11 +77,9 @@ fn job<D: Desk, S: Source, O: Sink>(
     ensures out_count { O.faults_of out.old ≤ O.faults_of out.new }
 {
     match read_words(alloc, words) {
-        Ok(Job::Play { file, end: false }) => play_file(alloc, file, desk, script, out),
+        Ok(Job::Play { file, end }) => play_file(alloc, file, end, desk, script, out),
         Ok(Job::Check { file }) => check_file(alloc, file, desk, out),
-        Ok(Job::Play { .. } | Job::Drill { .. } | Job::Serve { .. }) | Err(WordsFault::Usage) => {
-            Ended::Usage
-        }
+        Ok(Job::Drill { .. } | Job::Serve { .. }) | Err(WordsFault::Usage) => Ended::Usage,
         Err(WordsFault::Memory) => Ended::Memory,
     }
 }

@@ -1,4 +1,4 @@
-//! Campaigns that are checked.
+//! Campaigns that are checked, and campaigns that are written at the end.
 
 use super::campaigns::{CAVE, THREE_SEATS};
 use super::{PLAIN, Run, plain_run, played};
@@ -81,5 +81,15 @@ fn a_breach_is_told_with_its_path(rt: HostRuntime) -> Result<(), Fail> {
             "tabletop: bad campaign at /tokens/0/owners/0: cross\n"
         );
     }
+    Ok(())
+}
+
+// Where nothing was played, the campaign is written as it came.
+#[test]
+fn a_campaign_is_written_at_the_end(rt: HostRuntime) -> Result<(), Fail> {
+    let words = ["play", "--end", "table.json"];
+    let (status, output) = played(rt.alloc(), &words, &plain_run(THREE_SEATS, ""))?;
+    assert_eq!(rt; status, 0);
+    assert_eq!(rt; output.strip_suffix('\n'), Some(THREE_SEATS));
     Ok(())
 }

@@ -161,10 +161,9 @@ fn other_words_are_a_usage_fault(rt: HostRuntime) -> Result<(), Fail> {
     let alloc = rt.alloc();
     let usage =
         "tabletop: usage: play FILE [--end], check FILE, drill N LINES, serve FILE PORT COUNT [--end]\n";
-    let faulty: [&[&str]; 6] = [
+    let faulty: [&[&str]; 5] = [
         &["play"],
         &["play", "-table.json"],
-        &["play", "table.json", "--end"],
         &["check", "table.json", "--end"],
         &["drill", "7", "25"],
         &["serve", "table.json", "80", "1"],

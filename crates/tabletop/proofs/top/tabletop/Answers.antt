@@ -27,8 +27,8 @@ returns-clause-write_fault g c = λ e. count_before _ _ _ c.print_last_line.ensu
 pub returns-clause-played : goal.returns-clause-played
 returns-clause-played g c =
     let h = run_ended _ _ c.status_of.result c.job-ended.result c.print_last_line.result _ _ _ _ _ _ _ _ _ _ c.status_of.ensures c.print_last_line.ensures.ended c.job-ended.ensures.ends c.job-ended.ensures.out_count c.print_last_line.ensures.line in
-    λ file campaign text origin job told small is s d no_desk no_script no_out.
-    play_completes c.status_of.result _ (g.D.Desk.text_of c.args.desk.now) _ _ _ _ _ _ _ file _ campaign text origin h job told small is s d
+    λ file campaign text end origin job told small is s d no_desk no_script no_out.
+    play_completes c.status_of.result _ (g.D.Desk.text_of c.args.desk.now) _ _ _ _ _ _ _ file end campaign text origin h job told small is s d
     (λ e. elim (c.job-ended.ensures.read_fault (read_fault_of c.status_of.result c.job-ended.result c.print_last_line.result c.status_of.ensures c.print_last_line.ensures.ended e)) [ inl desk ↦ no_desk desk | inr script ↦ no_script script ])
     (λ e. no_out (count_before _ _ _ c.print_last_line.ensures.count (c.job-ended.ensures.write_fault (write_fault_of c.status_of.result c.job-ended.result c.print_last_line.result c.status_of.ensures c.print_last_line.ensures.ended e))))
 
