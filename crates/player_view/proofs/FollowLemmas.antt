@@ -1,11 +1,11 @@
 -- Views follow where scenes do.
-use Rattle.std.proofs.Common.{◌≡◌, ℕ, Bool, true, false, cond, List, [], ◌∷◌, Some, None, map, refl, sym, ◌∙◌, ap, subst, get_or}
+use Rattle.std.proofs.Common.{◌≡◌, ℕ, Bool, true, false, cond, List, [], ◌∷◌, Some, map, refl, sym, ◌∙◌, ap, get_or}
 use Rattle.std.specs.Prelude.{option_map, is_some, All}
 use Rattle.std.specs.List.{filter}
 use Rattle.std.specs.Ordering.{eq_by_cmp}
 use Rattle.std.proofs.lemmas.List.Elements.{All-map, All-filter}
 use Rattle.names.specs.Tag.{tag_cmp}
-use Rattle.maps.specs.Maps.{Grid, AreMaps, map_of}
+use Rattle.maps.specs.Maps.{Grid, map_of}
 use Rattle.type_table.specs.Types.{type_of}
 use Rattle.views.specs.Keys.{Named, name_of}
 use Rattle.views.specs.Views.{FollowsView, at_name}

@@ -7,6 +7,7 @@ pub mod ViewLemmas
 pub mod KeepLemmas
 pub mod ToldLemmas
 pub mod LetterOrder
+pub mod LetterRuns
 pub mod ViewIs
 pub mod FollowLemmas
 pub mod ReadTables

@@ -59,20 +59,16 @@ pub map_filter_next : {X Y : Type 0} (f : X → Y) (p : X → Bool) (xs : List X
     → map f (filter p (take (i + 1) xs)) ≡ map f (filter p (take i xs)) ++ cond (p x) (f x ∷ []) []
 map_filter_next f p xs i x e = ap (λ ys. map f (filter p ys)) (take_next xs i x e) ∙ map_filter-append f p (take i xs) x
 
--- the same with a number more
-pub range_next : (n : ℕ) → range_with_len 0 (n + 1) ≡ range_with_len 0 n ++ n ∷ []
-range_next n = from 0 n ∙ (let e : 0 + n ≡ n = omega arith in ap (λ k. range_with_len 0 n ++ k ∷ []) e)
-  where
-    from : (a n : ℕ) → range_with_len a (n + 1) ≡ range_with_len a n ++ (a + n) ∷ []
-    from a zero = let e : a ≡ a + 0 = omega arith in ap (λ k. k ∷ []) e
-    from a (suc n) =
-        let e : suc n + 1 ≡ suc (n + 1) = omega arith in
-        let f : a + 1 + n ≡ a + suc n = omega arith in
-        ap (range_with_len a) e ∙ ap (λ ks. a ∷ ks) (from (a + 1) n) ∙ ap (λ k. a ∷ range_with_len (a + 1) n ++ k ∷ []) f
+-- a range with a number more
+pub range_more : (a n : ℕ) → range_with_len a (n + 1) ≡ range_with_len a n ++ (a + n) ∷ []
+range_more a zero = let e : a ≡ a + 0 = omega arith in ap (λ k. k ∷ []) e
+range_more a (suc n) =
+    let e : suc n + 1 ≡ suc (n + 1) = omega arith in
+    let f : a + 1 + n ≡ a + suc n = omega arith in
+    ap (range_with_len a) e ∙ ap (λ ks. a ∷ ks) (range_more (a + 1) n) ∙ ap (λ k. a ∷ range_with_len (a + 1) n ++ k ∷ []) f
 
-pub map_filter_range_next : {Y : Type 0} (f : ℕ → Y) (p : ℕ → Bool) (n : ℕ)
-    → map f (filter p (range_with_len 0 (n + 1))) ≡ map f (filter p (range_with_len 0 n)) ++ cond (p n) (f n ∷ []) []
-map_filter_range_next f p n = ap (λ ks. map f (filter p ks)) (range_next n) ∙ map_filter-append f p (range_with_len 0 n) n
+range_next : (n : ℕ) → range_with_len 0 (n + 1) ≡ range_with_len 0 n ++ n ∷ []
+range_next n = range_more 0 n ∙ (let e : 0 + n ≡ n = omega arith in ap (λ k. range_with_len 0 n ++ k ∷ []) e)
 
 filter-append : {X : Type 0} (p : X → Bool) (xs : List X) (x : X) → filter p (xs ++ x ∷ []) ≡ filter p xs ++ cond (p x) (x ∷ []) []
 filter-append p [] x = refl

@@ -1,15 +1,14 @@
--- Maps by their names, and letters by rows.
-use Rattle.std.proofs.Common.{◌≡◌, ℕ, zero, suc, ◌+◌, ◌<◌, Bool, true, false, cond, ◌&&◌, ◌||◌, List, [], ◌∷◌, ◌++◌, Some, None, refl, sym, ◌∙◌, ap, subst, append-nil}
+-- Maps by their names.
+use Rattle.std.proofs.Common.{◌≡◌, ℕ, zero, suc, ◌<◌, Bool, true, false, cond, ◌&&◌, ◌||◌, List, [], ◌∷◌, Some, None, refl, sym, ◌∙◌, ap, subst}
 use Rattle.std.specs.Prelude.{Option, option_map, map, slice_get, unwrap_or}
-use Rattle.std.specs.List.{find, filter, flat_map, range_with_len}
+use Rattle.std.specs.List.{find, filter}
 use Rattle.std.specs.Ordering.{is_lt}
 use Rattle.std.specs.Str.{bytes_eq}
 use Rattle.std.specs.FinMap.Entries.{below_all, is_sorted}
-use Rattle.std.proofs.lemmas.Grind.{flat_map-append}
 use Rattle.names.specs.Tag.{tag_cmp}
 use Rattle.names.specs.declared.kinds.Layer.{Layer}
 use Rattle.names.specs.declared.kinds.Layer.TheVariants.{Token as TokenLayer, Hidden, Object, Background}
-use Rattle.cells.specs.Cells.{Cells, has}
+use Rattle.cells.specs.Cells.{has}
 use Rattle.cells.proofs.SetLaws.{has-cells_where}
 use Rattle.maps.specs.Maps.{Grid, AreMaps, map_of, has_name}
 use Rattle.maps.proofs.NameLemmas.{apart, same_name}
@@ -17,26 +16,10 @@ use Rattle.tokens.specs.declared.token.Token.{Token}
 use Rattle.world.specs.Scene.{Scene}
 use Rattle.player_view.specs.Sight.{owns, visible}
 use Rattle.player_view.specs.Shown.{exposed, is_uncovered, is_uncovered_on, is_shown}
-use Rattle.player_view.specs.View.{is_gm, has_map, has_token, all_cells, lettered, row_letters, map_view}
+use Rattle.player_view.specs.View.{is_gm, has_map, has_token, all_cells, map_view}
 use Rattle.player_view.specs.Walk.{is_open_by, is_open_in}
 use Rattle.player_view.proofs.Alike.{find-map-filter}
-use Rattle.player_view.proofs.ListLemmas.{map_filter_range_next, range_next}
 use Rattle.player_view.proofs.SceneLemmas.{first, second}
-
--- ---- letters
-
-pub row_next : (m : Grid) (cells : Cells) (y x : ℕ)
-    → row_letters m cells y (x + 1) ≡ row_letters m cells y x ++ cond (has cells x y) (lettered m y x ∷ []) []
-row_next m cells y x = map_filter_range_next (lettered m y) (λ x. has cells x y) x
-
-pub rows_next : (m : Grid) (cells : Cells) (y : ℕ)
-    → flat_map (λ y. row_letters m cells y m.walls.extent.w) (range_with_len 0 (y + 1))
-    ≡ flat_map (λ y. row_letters m cells y m.walls.extent.w) (range_with_len 0 y) ++ row_letters m cells y m.walls.extent.w
-rows_next m cells y =
-    ap (flat_map (λ y. row_letters m cells y m.walls.extent.w)) (range_next y)
-    ∙ flat_map-append (λ y. row_letters m cells y m.walls.extent.w) (range_with_len 0 y) (y ∷ [])
-    ∙ ap (λ ls. flat_map (λ y. row_letters m cells y m.walls.extent.w) (range_with_len 0 y) ++ ls)
-    (append-nil (row_letters m cells y m.walls.extent.w))
 
 pub has_all : (m : Grid) (x y : ℕ) → x < m.walls.extent.w → y < m.walls.extent.h → has (all_cells m) x y ≡ true
 has_all m x y hx hy = has-cells_where m.walls.extent (λ x y. true) x y hx hy

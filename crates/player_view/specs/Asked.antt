@@ -1,5 +1,5 @@
 -- What the rules of a seat's commands ask, of a scene and of a view.
-use Rattle.std.specs.Prelude.{ℕ, ◌&&◌, Bool, if◌then◌else◌, List, [], Option, Some, None, option_map, is_some}
+use Rattle.std.specs.Prelude.{ℕ, ◌&&◌, Bool, if◌then◌else◌, List, Option, Some, None, option_map, is_some}
 use Rattle.std.specs.Str.{bytes_eq}
 use Rattle.std.specs.List.{find, list_any}
 use Rattle.names.specs.declared.token_id.TokenId.{TokenId}

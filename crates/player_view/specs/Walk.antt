@@ -1,15 +1,18 @@
--- What is found on the way, token by token.
-use Rattle.std.specs.Prelude.{ℕ, ◌&&◌, Bool, false, if◌then◌else◌, take, Option, Some, None}
-use Rattle.std.specs.List.{list_any}
+-- What is found on the way, token by token and run by run.
+use Rattle.std.specs.Prelude.{ℕ, ◌+◌, ◌-◌, ◌&&◌, Bool, false, if◌then◌else◌, List, map, take, Option, Some, None}
+use Rattle.std.specs.List.{list_any, range_with_len}
 use Rattle.names.specs.declared.kinds.Layer.{Layer}
 use Rattle.names.specs.declared.kinds.Layer.TheVariants.{Token as TokenLayer, Hidden, Object, Background}
 use Rattle.cells.specs.Cells.{Cells, cells_where}
+use Rattle.cells.specs.declared.cell.Run.{Run}
 use Rattle.maps.specs.Maps.{Grid}
 use Rattle.sight_types.specs.declared.Sight.{Sight}
 use Rattle.tokens.specs.declared.token.Token.{Token}
+use Rattle.views.specs.Keys.{Letter}
 use Rattle.views.specs.declared.view.MapView.{MapView}
 use Rattle.player_view.specs.Sight.{is_on, named_type, owns, shows_cell}
 use Rattle.player_view.specs.Shown.{touches}
+use Rattle.player_view.specs.View.{lettered}
 use Rattle.world.specs.Scene.{Scene}
 
 -- the sight with which the token adds to what the player sees of the map
@@ -19,6 +22,10 @@ sight_on s p m t = if is_on m.name t && (owns s p t && m.shown) then named_type 
 -- what the first so many tokens show the player of the map
 unfoldable pub visible_to_first : Scene → ℕ → Grid → ℕ → Cells
 visible_to_first s p m count = cells_where m.walls.extent (λ x y. list_any (shows_cell s p m x y) (take count s.tokens))
+
+-- the letters of the run's cells
+abbrev pub run_letters : Grid → Run → List Letter
+run_letters m run = map (lettered m run.y) (range_with_len run.x0 (run.x1 + 1 - run.x0))
 
 -- the token covers a cell of the map's set that counts for its layer
 abbrev pub is_open_by : Layer → Token → MapView → Bool

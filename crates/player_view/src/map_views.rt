@@ -6,11 +6,12 @@ ghost use Rattle.maps.specs.Maps.{map_of};
 ghost use Rattle.player_view.specs.Fields.{HasFields};
 ghost use Rattle.player_view.specs.Shown.{exposed};
 ghost use Rattle.player_view.specs.Sight.{visible};
-ghost use Rattle.player_view.specs.View.{all_cells, exposed_to, has_map, letters_in, lettered, map_view, row_letters, seen_by};
+ghost use Rattle.player_view.specs.View.{all_cells, exposed_to, has_map, letters_in, map_view, seen_by};
+ghost use Rattle.player_view.specs.Walk.{run_letters};
 
 use crate::looks::look_over;
 use crate::reads::{has_map, is_gm};
-use cells::{Cell, CellSet};
+use cells::{Cell, CellSet, Run};
 use maps::GridMap;
 use names::{Memory, SeatNo};
 use std::alloc::Global;
@@ -102,24 +103,13 @@ fn exposed_to(alloc: Global, scene: &Scene, seat: SeatNo, map: &GridMap) -> Resu
     }
 }
 
-fn add_letter(
-    map: &GridMap,
-    cells: &CellSet,
-    x: u8,
-    y: u8,
-    list: &mut Vec<(Cell, u8)>,
-) -> Result<(), Memory>
-    requires column { x < map.now.walls.extent.w }
-    requires row { y < map.now.walls.extent.h }
-    requires size { cells.now.extent ≡ map.now.walls.extent }
-    ensures { OnOk result (list.new.items ≡ list.old.items ++ (if has cells.now x y then lettered map.now y x ∷ [] else [])) }
+/// A list with room for so many letters.
+fn room_for(alloc: Global, count: u32) -> Result<Vec<(Cell, u8)>, Memory>
+    ensures { IfOk result (λ list. list.items ≡ []) }
 {
-    let cell = Cell { x, y };
-    if cells.has(cell) {
-        push_letter(list, (cell, map.letter(cell)))?;
-        Ok(())
-    } else {
-        Ok(())
+    match Vec::with_capacity(alloc, count as usize) {
+        Ok(list) => Ok(list),
+        Err(_) => Err(Memory),
     }
 }
 
@@ -132,26 +122,30 @@ fn push_letter(list: &mut Vec<(Cell, u8)>, letter: (Cell, u8)) -> Result<(), Mem
     }
 }
 
-fn add_row(map: &GridMap, cells: &CellSet, y: u8, list: &mut Vec<(Cell, u8)>) -> Result<(), Memory>
-    requires row { y < map.now.walls.extent.h }
-    requires size { cells.now.extent ≡ map.now.walls.extent }
-    ensures { OnOk result (list.new.items ≡ list.old.items ++ row_letters map.now cells.now y map.now.walls.extent.w) }
+/// Adds the letters of the run's cells.
+fn add_run(map: &GridMap, run: Run, list: &mut Vec<(Cell, u8)>) -> Result<(), Memory>
+    requires row { run.y < map.now.walls.extent.h }
+    requires some { run.x0 ≤ run.x1 }
+    requires columns { run.x1 < map.now.walls.extent.w }
+    ensures { OnOk result (list.new.items ≡ list.old.items ++ run_letters map.now run) }
 {
-    for x in 0..map.size().w() {
-        add_letter(map, cells, x, y, list)?;
+    // The map tells with its size how many columns it has at most.
+    let _size = map.size();
+    for x in run.x0..run.x1 + 1 {
+        let cell = Cell { x, y: run.y };
+        push_letter(list, (cell, map.letter(cell)))?;
     }
     Ok(())
 }
 
 /// The letters of the set's cells.
-#[tactic(auto, unfolding(crate::specs::View::letters_in))]
 fn letters_in(alloc: Global, map: &GridMap, cells: &CellSet) -> Result<Letters, Memory>
     requires { cells.now.extent ≡ map.now.walls.extent }
     ensures { IfOk result (λ letters. letters ≡ letters_in map.now cells.now) }
 {
-    let mut list = Vec::new(alloc);
-    for y in 0..map.size().h() {
-        add_row(map, cells, y, &mut list)?;
+    let mut list = room_for(alloc, cells.count())?;
+    for run in cells.runs() {
+        add_run(map, run, &mut list)?;
     }
     Ok(Letters { list })
 }

@@ -1,6 +1,6 @@
 -- What stays in the order of a key.
-use Rattle.std.proofs.Common.{◌≡◌, Bool, true, false, cond, ◌&&◌, List, [], ◌∷◌, Some, None, map, refl, sym, ◌∙◌, ap}
-use Rattle.std.specs.Prelude.{Option, All, unwrap_or}
+use Rattle.std.proofs.Common.{◌≡◌, Bool, true, false, cond, ◌&&◌, List, [], ◌∷◌, Some, map, refl, sym, ◌∙◌, ap}
+use Rattle.std.specs.Prelude.{All}
 use Rattle.std.specs.List.{filter, find}
 use Rattle.std.specs.declared.cmp.Ordering.{Ordering}
 use Rattle.std.specs.declared.cmp.Ordering.TheVariants.{Less, Equal, Greater}

@@ -219,8 +219,9 @@ fn same_view_parts(a: &View, b: &View) -> bool
     a.gm == b.gm
         && same_lights(&a.lights, &b.lights)
         && same_sights(&a.sights, &b.sights)
-        && same_maps(a.maps.items(), b.maps.items())
+        // A token that moved differs soon, and maps with many letters take long.
         && same_tokens(a.tokens.items(), b.tokens.items())
+        && same_maps(a.maps.items(), b.maps.items())
 }
 
 /// Whether the two views are equal.

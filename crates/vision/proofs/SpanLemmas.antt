@@ -80,3 +80,17 @@ in_both_spans y u v a b c d own field range light of_range of_light = here (nat_
     here true e =
         shuffled (nat_le (max a c) u) (nat_lt u (min b d)) range light own field
         (both_spans a b c d u ∙ (λ i. of_range (e refl) i && of_light (e refl) i))
+
+pub in_span : (y u v first past : ℕ) (field disc : Bool) → (v ≡ y → (nat_le first u && nat_lt u past) ≡ disc)
+    → (nat_eq v y && nat_le first u && nat_lt u past && field && field) ≡ (nat_eq v y && (field && disc))
+in_span y u v first past field disc of_disc = here (nat_eq v y) (λ e. is e)
+  where
+    is : nat_eq v y ≡ true → v ≡ y
+    is e = grind (arith, nat_tests)
+
+    shuffled : (p q d f : Bool) → (p && q) ≡ d → (p && q && f && f) ≡ (f && d)
+    shuffled p q d f e = grind (arith, nat_tests)
+
+    here : (t : Bool) → (t ≡ true → v ≡ y) → (t && nat_le first u && nat_lt u past && field && field) ≡ (t && (field && disc))
+    here false e = refl
+    here true e = shuffled (nat_le first u) (nat_lt u past) disc field (of_disc (e refl))

@@ -17,7 +17,7 @@ use Rattle.topology.specs.Sight.{clear_test, reach_test, field_test, field_of}
 use Rattle.sight_types.specs.declared.Sight.{Sight}
 use Rattle.vision.specs.declared.disc.Disc.{Disc}
 use Rattle.vision.specs.declared.lamp.Lamp.{Lamp}
-use Rattle.vision.specs.Common.{common_test, common_by, lit_common, disc_of, told_test}
+use Rattle.vision.specs.Common.{common_test, common_by, field_in_disc, lit_common, disc_of, told_test}
 use Rattle.vision.specs.Fields.{field_at}
 use Rattle.vision.specs.Seen.{lit_test, sees_test, with_cells}
 use Rattle.vision.proofs.AddingLemmas.{near_down}
@@ -30,10 +30,28 @@ third true true false d h = h
 third true false c d h = cc
 third false b c d h = cc
 
--- a cell of both fields in both discs is near the middle of the second disc
+fourth : (a b c d : Bool) → (a && b && c && d) ≡ true → d ≡ true
+fourth true true true d h = h
+fourth true true false d h = cc
+fourth true false c d h = cc
+fourth false b c d h = cc
+
+second : (a b : Bool) → (a && b) ≡ true → b ≡ true
+second true b h = h
+second false b h = cc
+
+-- a cell of both fields in both discs is near the middle of each disc
 pub common_down : (own field : Cells) (range light : Disc) (x y : ℕ) → common_test own range field light x y ≡ true
     → (light.middle.y ≤ 2 * y + 1 + light.halves) × (2 * y + 1 ≤ light.middle.y + light.halves)
 common_down own field range light x y h = near_down light.middle x y light.halves (third (has own x y) (has field x y) _ _ h)
+
+pub range_down : (own field : Cells) (range light : Disc) (x y : ℕ) → common_test own range field light x y ≡ true
+    → (range.middle.y ≤ 2 * y + 1 + range.halves) × (2 * y + 1 ≤ range.middle.y + range.halves)
+range_down own field range light x y h = near_down range.middle x y range.halves (fourth (has own x y) (has field x y) _ _ h)
+
+pub field_down : (field : Cells) (disc : Disc) (x y : ℕ) → field_in_disc field disc x y ≡ true
+    → (disc.middle.y ≤ 2 * y + 1 + disc.halves) × (2 * y + 1 ≤ disc.middle.y + disc.halves)
+field_down field disc x y h = near_down disc.middle x y disc.halves (second (has field x y) _ h)
 
 -- one more lamp
 pub lit_more : (own : Cells) (range : Disc) (mult : ℕ) (fields : List (TokenId × Cells)) (lamps : List Lamp) (i : ℕ) (lamp : Lamp) (field : Cells)
@@ -53,6 +71,37 @@ IsToldByCells-with_cells t s f e = subst IsToldByCells (sym e) (IsToldByCells-ce
 
 wider : (d m n : ℕ) → m ≤ n → nat_le d m ≡ true → nat_le d n ≡ true
 wider d m n h e = grind (arith, nat_tests)
+
+-- a disc is in a larger one round the same point
+in_larger : (middle other : Coordinates) (halves more x y : ℕ) → middle ≡ other → halves ≤ more
+    → within_test middle (centre_of x y) halves ≡ true → within_test other (centre_of x y) more ≡ true
+in_larger middle other halves more x y e h near =
+    wider (squared_distance other (centre_of x y)) (halves * halves) (more * more) (mul-le-mul h h)
+    (subst (λ (m : Coordinates). within_test m (centre_of x y) halves ≡ true) e near)
+
+-- of two discs round one point the smaller tells
+pub smaller_night : (own : Cells) (range night : Disc) (x y : ℕ) → night.middle ≡ range.middle → night.halves ≤ range.halves
+    → field_in_disc own night x y ≡ common_test own range own night x y
+smaller_night own range night x y e h =
+    here (has own x y) (within_test night.middle (centre_of x y) night.halves) (within_test range.middle (centre_of x y) range.halves)
+    (in_larger night.middle range.middle night.halves range.halves x y e h)
+  where
+    here : (cell small large : Bool) → (small ≡ true → large ≡ true) → (cell && small) ≡ (cell && cell && small && large)
+    here true true large h = sym (h refl)
+    here true false large h = refl
+    here false small large h = refl
+
+pub smaller_range : (own : Cells) (range night : Disc) (x y : ℕ) → night.middle ≡ range.middle → range.halves ≤ night.halves
+    → field_in_disc own range x y ≡ common_test own range own night x y
+smaller_range own range night x y e h =
+    here (has own x y) (within_test range.middle (centre_of x y) range.halves) (within_test night.middle (centre_of x y) night.halves)
+    (in_larger range.middle night.middle range.halves night.halves x y (sym e) h)
+  where
+    here : (cell small large : Bool) → (small ≡ true → large ≡ true) → (cell && small) ≡ (cell && cell && large && small)
+    here true true large h = sym (ap (λ b. b && true) (h refl))
+    here true false true h = refl
+    here true false false h = refl
+    here false small large h = refl
 
 -- within at most 80 half cells of an eye, its field tells which cells are clear
 served : (walls : WallLists) (eye : Coordinates) (halves x y : ℕ) → halves ≤ 80 → x < walls.extent.w → y < walls.extent.h

@@ -19,7 +19,11 @@ is_in_disc disc x y = within_test disc.middle (centre_of x y) disc.halves
 abbrev pub common_test : Cells → Disc → Cells → Disc → ℕ → ℕ → Bool
 common_test own range field light x y = has own x y && has field x y && is_in_disc light x y && is_in_disc range x y
 
--- the same with a field that is kept, if one is
+-- the cell is of the field and in the disc
+abbrev pub field_in_disc : Cells → Disc → ℕ → ℕ → Bool
+field_in_disc field disc x y = has field x y && is_in_disc disc x y
+
+-- the test of both fields with a field that is kept, if one is
 abbrev pub common_by : Cells → Disc → Option Cells → Disc → ℕ → ℕ → Bool
 common_by own range None light x y = false
 common_by own range (Some field) light x y = common_test own range field light x y

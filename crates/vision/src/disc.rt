@@ -25,8 +25,22 @@ impl Disc {
         (first_near(middle, halves), past_near(middle, halves, count))
     }
 
+    /// The rows, of so many, outside of which no cell stands that is in both discs.
+    pub(crate) fn common_rows(&self, other: &Disc, count: u8) -> (u8, u8)
+        ensures first { (y : ℕ) → self.now.middle.y ≤ 2 * y + 1 + self.now.halves → other.now.middle.y ≤ 2 * y + 1 + other.now.halves → result.0 ≤ y }
+        ensures past { (y : ℕ) → y < count → 2 * y + 1 ≤ self.now.middle.y + self.now.halves → 2 * y + 1 ≤ other.now.middle.y + other.now.halves → y < result.1 }
+        ensures bound { result.1 ≤ count }
+    {
+        let (self_first, self_past) = self.rows(count);
+        let (other_first, other_past) = other.rows(count);
+        (self_first.max(other_first), self_past.min(other_past))
+    }
+
     /// The columns, of so many, of the disc's cells in row `y`: from the first number to the second, which is left out.
-    pub(crate) fn span(&self, y: u8, count: u8) -> (u8, u8)
+    ///
+    /// `reach` is how far the disc reaches to each side in a row, in half cells: at first a guess, and then the answer for
+    /// row `y`. The better the guess, the shorter the search, so it is handed from row to row.
+    pub(crate) fn span(&self, y: u8, count: u8, reach: &mut u8) -> (u8, u8)
         requires row { y < 96 }
         ensures cells { (x : ℕ) → x < count → (nat_le result.0 x && nat_lt x result.1) ≡ is_in_disc self.now x y }
         ensures bound { result.1 ≤ count }
@@ -36,10 +50,47 @@ impl Disc {
         if away > halves {
             return (0, 0);
         }
-        let reach = (square(halves) - square(away)).isqrt();
+        let root = root_near(square(halves) - square(away), *reach);
+        *reach = root;
         let middle = across(&self.middle);
-        (first_near(middle, reach), past_near(middle, reach, count))
+        (
+            first_near(middle, root as u16),
+            past_near(middle, root as u16, count),
+        )
     }
+}
+
+/// The greatest number whose square is at most `limit`, looked for from a guess on.
+fn root_near(limit: u16, guess: u8) -> u8
+    ensures low { result * result ≤ limit }
+    ensures high { limit < (result + 1) * (result + 1) }
+{
+    root_above(limit, root_below(limit, guess))
+}
+
+/// The greatest number up to the guess whose square is at most `limit`.
+fn root_below(limit: u16, guess: u8) -> u8
+    ensures { result * result ≤ limit }
+{
+    let mut root = guess;
+    while limit < square(root as u16) {
+        root -= 1;
+    }
+    root
+}
+
+/// The greatest number whose square is at most `limit`, where that of `root` is.
+fn root_above(limit: u16, root: u8) -> u8
+    requires { root * root ≤ limit }
+    ensures low { result * result ≤ limit }
+    ensures high { limit < (result + 1) * (result + 1) }
+{
+    for next in root..255 {
+        if limit < square(next as u16 + 1) {
+            return next;
+        }
+    }
+    255
 }
 
 fn square(number: u16) -> u16

@@ -1,7 +1,7 @@
 ghost use Rattle.std.specs.Prelude.{◌≡◌, ◌+◌, ◌*◌, ◌<◌, ◌≤◌, All, nat_eq, ◌&&◌};
 ghost use Rattle.cells.specs.Cells.{IsToldByCells};
 ghost use Rattle.topology.specs.WallLists.{WallLists};
-ghost use Rattle.vision.specs.Common.{common_test, lit_common, told_test};
+ghost use Rattle.vision.specs.Common.{common_test, field_in_disc, lit_common, told_test};
 ghost use Rattle.vision.specs.Fields.{AreFieldsOf, AreKept};
 ghost use Rattle.vision.specs.Seen.{AddsSeen, AreTold, sees_test, with_cells};
 
@@ -72,12 +72,48 @@ fn add_seen(
     };
     match mode {
         Mode::Off => out.fill(),
-        Mode::Day => add_common(own, &range, own, &range, out),
+        Mode::Day => add_own(own, &range, &range, out),
         Mode::Night => {
-            add_common(own, &range, own, &night, out);
+            add_own(own, &range, &night, out);
             add_lit(own, &range, sight.mult, lamps, fields, out);
         }
     }
+}
+
+// Adds the cells of the field that are in both discs. These have one middle, so that the smaller one tells.
+fn add_own(own: &CellSet, range: &Disc, night: &Disc, out: &mut CellSet)
+    requires middle { night.now.middle ≡ range.now.middle }
+    requires own { own.now.extent ≡ out.old.extent }
+    ensures { out.new ≡ with_cells out.old (common_test own.now range.now own.now night.now) }
+{
+    if night.halves < range.halves {
+        add_in_disc(own, night, out);
+    } else {
+        add_in_disc(own, range, out);
+    }
+}
+
+// Adds the cells of the field that are in the disc.
+fn add_in_disc(field: &CellSet, disc: &Disc, out: &mut CellSet)
+    requires field { field.now.extent ≡ out.old.extent }
+    ensures { out.new ≡ with_cells out.old (field_in_disc field.now disc.now) }
+{
+    let (first, past) = disc.rows(out.size().h());
+    let mut reach = disc.halves;
+    for y in first..past {
+        add_span(field, disc, y, &mut reach, out);
+    }
+}
+
+// Adds those of row `y`, with `reach` as at `Disc::span`.
+fn add_span(field: &CellSet, disc: &Disc, y: u8, reach: &mut u8, out: &mut CellSet)
+    requires field { field.now.extent ≡ out.old.extent }
+    requires row { y < out.old.extent.h }
+    ensures { out.new ≡ with_cells out.old (λ u v. nat_eq v y && field_in_disc field.now disc.now u v) }
+{
+    let width = out.size().w();
+    let (first, past) = disc.span(y, width, reach);
+    out.join_common(y, first, past, field, field);
 }
 
 // Adds the cells of `own` that are in the disc `range` and that some lamp lights.
@@ -112,22 +148,41 @@ fn add_common(own: &CellSet, range: &Disc, field: &CellSet, light: &Disc, out: &
     requires field { field.now.extent ≡ out.old.extent }
     ensures { out.new ≡ with_cells out.old (common_test own.now range.now field.now light.now) }
 {
-    let (first, past) = light.rows(out.size().h());
+    let (first, past) = range.common_rows(light, out.size().h());
+    let mut reaches = Reaches {
+        range: range.halves,
+        light: light.halves,
+    };
     for y in first..past {
-        add_row(own, range, field, light, y, out);
+        add_row(own, range, field, light, y, &mut reaches, out);
     }
 }
 
+// How far two discs reach to each side in a row, as at `Disc::span`.
+#[derive(Clone, Copy, Debug)]
+struct Reaches {
+    range: u8,
+    light: u8,
+}
+
 // Adds those of row `y`.
-fn add_row(own: &CellSet, range: &Disc, field: &CellSet, light: &Disc, y: u8, out: &mut CellSet)
+fn add_row(
+    own: &CellSet,
+    range: &Disc,
+    field: &CellSet,
+    light: &Disc,
+    y: u8,
+    reaches: &mut Reaches,
+    out: &mut CellSet,
+)
     requires own { own.now.extent ≡ out.old.extent }
     requires field { field.now.extent ≡ out.old.extent }
     requires row { y < out.old.extent.h }
     ensures { out.new ≡ with_cells out.old (λ u v. nat_eq v y && common_test own.now range.now field.now light.now u v) }
 {
     let width = out.size().w();
-    let (range_first, range_past) = range.span(y, width);
-    let (light_first, light_past) = light.span(y, width);
+    let (range_first, range_past) = range.span(y, width, &mut reaches.range);
+    let (light_first, light_past) = light.span(y, width, &mut reaches.light);
     let first = range_first.max(light_first);
     let past = range_past.min(light_past);
     out.join_common(y, first, past, own, field);

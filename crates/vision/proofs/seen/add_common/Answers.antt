@@ -2,7 +2,7 @@ use Rattle.std.proofs.Common.{◌≡◌, ℕ, ◌<◌, Bool, refl, ap, arith, �
 use Rattle.cells.specs.Cells.{Extent, Cells}
 use Rattle.vision.specs.Common.{common_test}
 use Rattle.vision.proofs.AddingLemmas.{with_none, with_same, with_more, rows_none, rows_all, rows_more}
-use Rattle.vision.proofs.ToldLemmas.{common_down}
+use Rattle.vision.proofs.ToldLemmas.{common_down, range_down}
 use Rattle.vision.proofs.seen.add_common.Goals as goal
 
 pub loop-y-init : goal.loop-y-init
@@ -10,7 +10,8 @@ loop-y-init c =
     let test : ℕ → ℕ → Bool = common_test c.args.own.now c.args.range.now c.args.field.now c.args.light.now in
     record {
       extent = refl;
-      cells = with_none c.args.out.now _ c.size.ensures.told (λ u v _ _. rows_none test _ u v (λ e. c.rows-first.ensures.first v (common_down c.args.own.now c.args.field.now c.args.range.now c.args.light.now u v e).0));
+      cells = with_none c.args.out.now _ c.size.ensures.told (λ u v _ _. rows_none test _ u v (λ e.
+          c.common_rows-first.ensures.first v (range_down c.args.own.now c.args.field.now c.args.range.now c.args.light.now u v e).0 (common_down c.args.own.now c.args.field.now c.args.range.now c.args.light.now u v e).0));
     }
 
 pub loop-y-preserved : goal.loop-y-preserved
@@ -29,5 +30,6 @@ returns c =
     c.loop-y.invariant.cells
     ∙ with_same c.args.out.now _ _ (λ u v _ hv. rows_all test c.loop-y.y u v (λ e.
     let inside : v < c.h.result = rw height hv in
-    let before = c.rows-first.ensures.past v inside (common_down c.args.own.now c.args.field.now c.args.range.now c.args.light.now u v e).1 in
+    let before = c.common_rows-first.ensures.past v inside (range_down c.args.own.now c.args.field.now c.args.range.now c.args.light.now u v e).1
+    (common_down c.args.own.now c.args.field.now c.args.range.now c.args.light.now u v e).1 in
     omega (arith, before, c.loop-y-test.false)))
