@@ -1,103 +1,100 @@
 //! With ample memory each call of a world that takes memory gives its answer, and a copy has it too.
 
-ghost use Rattle.std.specs.Prelude.{◌≡◌, ◌<◌, None, Some, IfOk, OnOk, true, false, length};
+ghost use Rattle.std.specs.Prelude.{◌≡◌, Some, true};
 ghost use Rattle.maps.specs.Maps.{has_map};
-ghost use Rattle.seats.specs.declared.seat_state.SeatState.TheVariants.{Free};
-ghost use Rattle.tokens.specs.Tokens.{has_token};
-ghost use Rattle.world.specs.Rules.{belongs, is_player, size_of};
-ghost use Rattle.world.specs.World.{is_used};
+ghost use Rattle.world.specs.Rules.{is_player, size_of};
 
 use crate::World;
-use cells::{Cell, CellSet, Size};
+use crate::tests::{opened, tag};
+use cells::{CellSet, Size};
 use lattice::Point;
-use names::{Layer, PropClass, SeatNo, Tag, Text, TokenId, WallKind};
-use seats::SeatBook;
+use names::{SeatNo, Tag, WallKind};
 use std::alloc::Global;
 use std::process::Abort;
-use std::test::Fail;
-use tokens::{Owners, Props, Token};
 
-fn book(alloc: Global, number: u8) -> Result<SeatBook, Fail>
-    ensures { IfOk result (λ book. (book.seat ≡ number) × (book.state ≡ Free)) }
-{
-    let seat = SeatNo::new(number).ok_or("no seat")?;
-    let key = Text::copy(alloc, "key")?;
-    Ok(SeatBook::new(alloc, seat, key, [0; 32], 0))
+fn size(rt: &impl Abort) -> Size {
+    Size::new(5, 4).expect(rt, "a size")
 }
 
-fn map_there(world: &World, map: Tag) -> Result<(), Fail>
-    ensures { OnOk result (has_map map world.now.scene.maps ≡ true) }
-{
-    if world.maps().get(map).is_some() {
-        Ok(())
-    } else {
-        Err(Fail::new("no map"))
-    }
+fn point(rt: &impl Abort, x: i32, y: i32) -> Point {
+    Point::new(x, y).expect(rt, "a point")
 }
 
-fn player_there(world: &World, seat: SeatNo) -> Result<(), Fail>
-    ensures { OnOk result (is_player world.now.scene.fog.players seat ≡ true) }
+fn map_there(rt: &impl Abort, world: &World, map: Tag)
+    ensures { has_map map world.now.scene.maps ≡ true }
 {
-    if 1 <= seat.number() && seat.number() <= world.fog().players() {
-        Ok(())
-    } else {
-        Err(Fail::new("no player"))
-    }
+    assert!(rt; world.maps().get(map).is_some());
 }
 
-fn token_there(world: &World, id: TokenId) -> Result<(), Fail>
-    ensures { OnOk result (has_token id world.now.scene.tokens ≡ true) }
+fn player_there(rt: &impl Abort, world: &World, seat: SeatNo)
+    ensures { is_player world.now.scene.fog.players seat ≡ true }
 {
-    if world.tokens().get(id).is_some() {
-        Ok(())
-    } else {
-        Err(Fail::new("no token"))
-    }
+    assert!(rt; 1 <= seat.number() && seat.number() <= world.fog().players());
 }
 
 /// All cells of the map.
-fn whole(alloc: Global, world: &World, map: Tag) -> Result<CellSet, Fail>
-    ensures { IfOk result (λ seen. size_of map world.now.scene.maps ≡ Some seen.extent) }
+fn whole(rt: &impl Abort, alloc: Global, world: &World, map: Tag) -> CellSet
+    ensures { size_of map world.now.scene.maps ≡ Some result.extent }
 {
-    let map = world.maps().get(map).ok_or("no map")?;
-    let mut seen = CellSet::new(alloc, map.size())?;
+    let map = world.maps().get(map).expect(rt, "a map");
+    let mut seen = CellSet::new(alloc, map.size()).expect(rt, "memory");
     seen.fill();
-    Ok(seen)
+    seen
 }
 
-fn fill(rt: &impl Abort, alloc: Global, world: &mut World, cave: Tag) -> Result<(), Fail> {
-    let (a, b) = (
-        Point::new(0, 0).ok_or("no point")?,
-        Point::new(4, 2).ok_or("no point")?,
-    );
-    map_there(world, cave)?;
-    assert_eq!(rt; world.add_wall(cave, WallKind::Vbl, a, b), Ok(()));
-    assert_eq!(rt; world.set_light_type(Tag::read(b"torch")?, 4), Ok(()));
-    assert_eq!(rt; world.set_sight_type(Tag::read(b"human")?, 9, 0, 2), Ok(()));
-    let ann = SeatNo::new(1).ok_or("no seat")?;
-    let seen = whole(alloc, world, cave)?;
-    player_there(world, ann)?;
-    world.after_sight(ann, cave, &seen);
-    Ok(())
+fn build(rt: &impl Abort, world: &mut World, map: Tag) {
+    let (a, b) = (point(rt, 0, 0), point(rt, 4, 2));
+    map_there(rt, world, map);
+    world
+        .add_wall(map, WallKind::Vbl, a, b)
+        .expect(rt, "a wall");
+}
+
+fn declare(rt: &impl Abort, world: &mut World) {
+    world
+        .set_light_type(tag(rt, "torch"), 4)
+        .expect(rt, "a light");
+    world
+        .set_sight_type(tag(rt, "human"), 9, 0, 2)
+        .expect(rt, "a sight");
+}
+
+fn see(rt: &impl Abort, alloc: Global, world: &mut World, map: Tag) {
+    let ann = SeatNo::new(1).expect(rt, "a seat");
+    let seen = whole(rt, alloc, world, map);
+    player_there(rt, world, ann);
+    world.after_sight(ann, map, &seen);
+}
+
+fn filled(rt: &impl Abort, alloc: Global) -> World {
+    let mut world = opened(rt, alloc);
+    let cave = tag(rt, "n10");
+    for name in ["n2", "n10", "n1"] {
+        world.add_map(tag(rt, name), size(rt)).expect(rt, "a map");
+    }
+    build(rt, &mut world, cave);
+    declare(rt, &mut world);
+    see(rt, alloc, &mut world, cave);
+    world
+}
+
+/// The most cells that are exposed to a player on a map.
+fn exposed(world: &World) -> u32 {
+    let mut most = 0;
+    for set in world.fog().sets() {
+        most = most.max(set.cells.count());
+    }
+    most
 }
 
 #[test]
-fn a_world_is_filled_and_copied(rt: HostRuntime) -> Result<(), Fail> {
-    let books = Vec::from_array(rt.alloc(), [book(rt.alloc(), 0)?, book(rt.alloc(), 1)?])?;
-    let mut world = World::open(rt.alloc(), books)?;
-    let cave = Tag::read(b"cave")?;
-    assert_eq!(rt;
-        world.add_map(cave, Size::new(5, 4).ok_or("no size")?),
-        Ok(())
-    );
-    fill(&rt, rt.alloc(), &mut world, cave)?;
-    let copy = world.copy()?;
-    let map = copy.maps().get(cave).ok_or("no map")?;
-    assert_eq!(rt; map.walls().count(WallKind::Vbl), 1);
-    assert_eq!(rt; copy.lights().radius(Tag::read(b"torch")?), Some(4));
-    assert_eq!(rt; copy.sights().len(), 1);
-    let sets = copy.fog().sets();
-    assert_eq!(rt; sets.len(), 1);
-    assert_eq!(rt; sets[0].cells.count(), 20);
-    Ok(())
+fn a_world_is_copied(rt: HostRuntime) {
+    let copy = filled(&rt, rt.alloc()).copy().expect(&rt, "memory");
+    let maps = copy.maps();
+    let counts = (maps.len(), copy.lights().len(), copy.sights().len());
+    assert_eq!(rt; counts, (3, 1, 1));
+    let cave = maps.at(1);
+    let last = (cave.walls().count(WallKind::Vbl), exposed(&copy));
+    assert_eq!(rt; last, (1, 20));
+    assert!(rt; cave.name() == tag(&rt, "n10"));
 }
