@@ -1,29 +1,70 @@
 use Rattle.std.proofs.Common.{◌≡◌, ℕ, ◌+◌, ◌-◌, ◌*◌, ◌/◌, ◌<◌, ◌≤◌, Bool, true, false, not, ◌&&◌, nat_le, max, min, arith, ap, ◌∙◌, inl, inr}
 use Rattle.std.proofs.lemmas.Bool.{cases_lt}
 use Rattle.std.proofs.lemmas.Bool.Decides.{nat_tests}
-use Rattle.std.proofs.Math.Nat.{mul-le-mul_left, mul-lt-mul_of_pos_left}
+use Rattle.std.proofs.Math.Nat.{mul-le-mul, mul-le-mul_left, mul-lt-mul_of_pos_left}
 use Rattle.lattice.specs.Coordinates.{Coordinates, centre_of, difference}
 use Rattle.lattice.specs.Turning.{are_apart, left_sum, right_sum, shadow_test}
 use Rattle.lattice.proofs.SideLemmas.{meet_is_shadow}
 use Rattle.topology.specs.Sight.{reach_test}
-use Rattle.sight_sweep.proofs.FarLemmas.{near_parts}
+use Rattle.sight_sweep.proofs.FarLemmas.{near_squares}
 use Rattle.sight_sweep.proofs.SpanLemmas.{quotient_below}
 
--- a number is at most a quotient where its multiple is at most the dividend; here the dividend is at most rise * 80
-pub quotient_reached : (side j rise k : ℕ) → 0 < side → k ≤ 80 → side * j ≤ rise * k → j ≤ rise * 80 / side
-quotient_reached side j rise k some few h =
-    elim (cases_lt (rise * 80 / side) j) [
-      | inl lt ↦ absurd (omega (arith, (quotient_below side (rise * 80) j some).0 (omega arith), mul-le-mul_left rise few))
+two_products : (a b : ℕ) → 2 * (a * b) ≤ a * a + b * b
+two_products a b = elim (cases_lt a b) [ inl lt ↦ by a b (b - a) (omega arith) | inr ge ↦ (let other = by b a (a - b) (omega arith) in omega (arith, other)) ]
+  where
+    by : (a b d : ℕ) → d + a ≡ b → 2 * (a * b) ≤ a * a + b * b
+    by a b d e = omega (arith, ap (λ n. n * n) e, ap (λ n. a * n) e)
+
+-- the length over two sides is no less than what the 3, 4 and 5 tell
+pub by_five : (long short : ℕ) → (4 * long + 3 * short) / 5 * ((4 * long + 3 * short) / 5) ≤ long * long + short * short
+by_five long short = at ((4 * long + 3 * short) / 5) (omega arith)
+  where
+    at : (n : ℕ) → 5 * n ≤ 4 * long + 3 * short → n * n ≤ long * long + short * short
+    at n h = omega (arith, mul-le-mul h h, two_products (3 * long) (4 * short))
+
+pub longest : (side rise : ℕ)
+    → max (max side rise) ((4 * max side rise + 3 * min side rise) / 5) * max (max side rise) ((4 * max side rise + 3 * min side rise) / 5)
+    ≤ side * side + rise * rise
+longest side rise = elim (cases_lt side rise) [
+  | inl lt ↦ at rise side (max side rise) (min side rise) (omega arith) (omega arith)
+  | inr ge ↦ (let more = at side rise (max side rise) (min side rise) (omega arith) (omega arith) in omega (arith, more))
+]
+  where
+    greater : (m n most : ℕ) → m * m ≤ most → n * n ≤ most → max m n * max m n ≤ most
+    greater m n most h k =
+        elim (cases_lt m n) [
+          | inl lt ↦ (let e : max m n ≡ n = omega arith in rw e k)
+          | inr ge ↦ (let e : max m n ≡ m = omega arith in rw e h)
+        ]
+
+    at : (long short m n : ℕ) → m ≡ long → n ≡ short → max m ((4 * m + 3 * n) / 5) * max m ((4 * m + 3 * n) / 5) ≤ short * short + long * long
+    at long short m n e f =
+        rw (e, f)
+        (greater long ((4 * long + 3 * short) / 5) (short * short + long * long) (omega arith) (let most = by_five long short in omega (arith, most)))
+
+-- within reach a line that rises so much over so much to the side rises no more than in that relation to its length
+under_line : (side far j rise k : ℕ) → far * far ≤ side * side + rise * rise → k * k + j * j ≤ 6400 → side * j ≤ rise * k → far * j ≤ rise * 80
+under_line side far j rise k length near h =
+    elim (cases_lt (rise * 80) (far * j)) [
+      | inl lt ↦
+          let next : rise * 80 + 1 ≤ far * j = omega arith in
+          absurd (omega (arith, mul-le-mul next next, mul-le-mul_left (j * j) length, mul-le-mul h h, mul-le-mul_left (rise * rise) near))
       | inr ge ↦ ge
     ]
 
-pub risen_row : (side rise k eye y : ℕ) → 0 < side → k ≤ 80 → side * (eye - (2 * y + 1)) ≤ rise * k → (eye - rise * 80 / side) / 2 ≤ y
-risen_row side rise k eye y some few h = (let reached = quotient_reached side (eye - (2 * y + 1)) rise k some few h in omega arith)
+pub quotient_reached : (side far j rise k : ℕ) → 0 < far → far * far ≤ side * side + rise * rise → k * k + j * j ≤ 6400
+    → side * j ≤ rise * k → j ≤ rise * 80 / far
+quotient_reached side far j rise k some length near h =
+    elim (cases_lt (rise * 80 / far) j) [
+      | inl lt ↦ absurd (omega (arith, (quotient_below far (rise * 80) j some).0 (omega arith), under_line side far j rise k length near h))
+      | inr ge ↦ ge
+    ]
 
-pub fallen_row : (side fall k eye y : ℕ) → 0 < side → k ≤ 80 → y < 96 → side * (2 * y + 1 - eye) ≤ fall * k
-    → y < min ((eye + fall * 80 / side + 1) / 2) 96
-fallen_row side fall k eye y some few inside h =
-    (let reached = quotient_reached side (2 * y + 1 - eye) fall k some few h in omega arith)
+pub risen_row : (eye reached y : ℕ) → eye - (2 * y + 1) ≤ reached → (eye - reached) / 2 ≤ y
+risen_row eye reached y h = omega arith
+
+pub fallen_row : (eye reached y : ℕ) → y < 96 → 2 * y + 1 - eye ≤ reached → y < min ((eye + reached + 1) / 2) 96
+fallen_row eye reached y inside h = omega arith
 
 -- what is not clockwise of a line that goes up rises no more than the line
 rises : (run k eye end t : ℕ) → 0 < run → run * eye + end * k ≤ run * t + k * eye → run * (eye - t) ≤ (eye - end) * k
@@ -61,7 +102,8 @@ falls run k eye end t some h =
 
 -- how far to the side the cell is, and that it rises and falls no more than the lines through the wall's ends
 pub record IsBeside (eye upper lower : Coordinates) (t k : ℕ) : Type 0 where
-  pub near : k ≤ 80
+  pub near_up : k * k + (eye.y - t) * (eye.y - t) ≤ 6400
+  pub near_down : k * k + (t - eye.y) * (t - eye.y) ≤ 6400
   pub risen : difference eye.x upper.x * (eye.y - t) ≤ (eye.y - upper.y) * k
   pub fallen : difference eye.x lower.x * (t - eye.y) ≤ (lower.y - eye.y) * k
 
@@ -82,11 +124,11 @@ in_cone eye a b t h = parts _ _ _ _ _ h
 pub beside_right : (eye a b : Coordinates) (x y : ℕ) → right_sum eye a b < left_sum eye a b → reach_test eye x y 40 ≡ true
     → shadow_test eye a b (centre_of x y) ≡ true → eye.x < min a.x b.x → IsBeside eye a b (2 * y + 1) (2 * x + 1 - eye.x)
 beside_right eye a b x y spread reach shadow right =
-    let near : difference eye.x (2 * x + 1) ≤ 80 = (near_parts eye x y reach).0 in
     let ahead : min a.x b.x ≤ 2 * x + 1 = beyond eye.x (2 * x + 1) a.x b.x (joint_columns eye a b x y spread shadow) right in
     let cone = in_cone eye a b (centre_of x y) shadow in
     record {
-      near = omega arith;
+      near_up = near_squares eye x y (2 * x + 1 - eye.x) (eye.y - (2 * y + 1)) reach (omega arith) (omega arith);
+      near_down = near_squares eye x y (2 * x + 1 - eye.x) (2 * y + 1 - eye.y) reach (omega arith) (omega arith);
       risen = rises (difference eye.x a.x) (2 * x + 1 - eye.x) eye.y a.y (2 * y + 1) (omega arith)
           (after (difference eye.x a.x) (2 * x + 1 - eye.x) eye.x eye.y a.x a.y (2 * x + 1) (2 * y + 1) (omega arith) (omega arith) cone.0);
       fallen = falls (difference eye.x b.x) (2 * x + 1 - eye.x) eye.y b.y (2 * y + 1) (omega arith)
@@ -109,11 +151,11 @@ beside_right eye a b x y spread reach shadow right =
 pub beside_left : (eye a b : Coordinates) (x y : ℕ) → right_sum eye a b < left_sum eye a b → reach_test eye x y 40 ≡ true
     → shadow_test eye a b (centre_of x y) ≡ true → max a.x b.x < eye.x → IsBeside eye b a (2 * y + 1) (eye.x - (2 * x + 1))
 beside_left eye a b x y spread reach shadow left =
-    let near : difference eye.x (2 * x + 1) ≤ 80 = (near_parts eye x y reach).0 in
     let ahead : 2 * x + 1 ≤ max a.x b.x = beyond eye.x (2 * x + 1) a.x b.x (joint_columns eye a b x y spread shadow) left in
     let cone = in_cone eye a b (centre_of x y) shadow in
     record {
-      near = omega arith;
+      near_up = near_squares eye x y (eye.x - (2 * x + 1)) (eye.y - (2 * y + 1)) reach (omega arith) (omega arith);
+      near_down = near_squares eye x y (eye.x - (2 * x + 1)) (2 * y + 1 - eye.y) reach (omega arith) (omega arith);
       risen = rises (difference eye.x b.x) (eye.x - (2 * x + 1)) eye.y b.y (2 * y + 1) (omega arith)
           (before (difference eye.x b.x) (eye.x - (2 * x + 1)) eye.x eye.y b.x b.y (2 * x + 1) (2 * y + 1) (omega arith) (omega arith) cone.1);
       fallen = falls (difference eye.x a.x) (eye.x - (2 * x + 1)) eye.y a.y (2 * y + 1) (omega arith)

@@ -4,7 +4,7 @@ ghost use Rattle.std.specs.Prelude.{◌≡◌, ℕ, ◌+◌, ◌-◌, ◌*◌, �
 ghost use Rattle.lattice.specs.Coordinates.{centre_of, difference};
 ghost use Rattle.lattice.specs.Turning.{left_sum, right_sum, shadow_test};
 ghost use Rattle.topology.specs.Sight.{reach_test};
-ghost use Rattle.sight_sweep.specs.Spans.{IsRowOf};
+ghost use Rattle.sight_sweep.specs.Spans.{IsAbove, IsBelow, IsRowOf};
 
 use crate::field::{REACH, across, down};
 use crate::paint::Span;
@@ -31,6 +31,24 @@ pub(crate) fn shadow_rows(eye: Point, a: Point, b: Point, rows: u8) -> Span
         }
     } else {
         near
+    }
+}
+
+// Of these rows those that aren't beyond both ends of the wall from `a` to `b`: they stand together, below those that are
+// above the ends, and above those that are below.
+pub(crate) fn rows_beside(eye: Point, a: Point, b: Point, rows: Span) -> Span
+    ensures above { (y : ℕ) → rows.first ≤ y → y < result.first → IsAbove eye a b y }
+    ensures below { (y : ℕ) → result.past ≤ y → y < rows.past → IsBelow eye a b y }
+    ensures first { result.first ≤ rows.past }
+    ensures past { result.past ≤ rows.past }
+{
+    let top = down(eye).saturating_sub(1).min(down(a)).min(down(b)) as u16;
+    let low = (down(eye) as u16 + 1).max(down(a).max(down(b)) as u16);
+    let first = ((top + 1) / 2) as u8;
+    let past = (low / 2) as u8;
+    Span {
+        first: first.max(rows.first).min(rows.past),
+        past: past.max(rows.first).min(rows.past),
     }
 }
 
@@ -65,22 +83,43 @@ fn past_row(eye: u8, low: u8, rows: u8) -> u8
     }
 }
 
-// The first row that the line from the eye through `end` comes to, going up, within 80 half cells to the side.
+// The first row that the line from the eye through `end` comes to within reach, going up.
 fn first_risen(eye: Point, end: Point) -> u8
     requires { 0 < difference eye.x end.x }
-    ensures { (y k : ℕ) → k ≤ 80 → difference eye.x end.x * (eye.y - (2 * y + 1)) ≤ (eye.y - end.y) * k → result ≤ y }
+    ensures { (y k : ℕ) → k * k + (eye.y - (2 * y + 1)) * (eye.y - (2 * y + 1)) ≤ 6400 → difference eye.x end.x * (eye.y - (2 * y + 1)) ≤ (eye.y - end.y) * k → result ≤ y }
 {
-    let side = across(eye).abs_diff(across(end)) as u32;
-    let rise = down(eye).saturating_sub(down(end)) as u32 * REACH as u32 / side;
-    ((down(eye) as u32).saturating_sub(rise) / 2) as u8
+    let rise = down(eye).saturating_sub(down(end));
+    let reached = most_risen(across(eye).abs_diff(across(end)), rise);
+    ((down(eye) as u32).saturating_sub(reached) / 2) as u8
 }
 
 // The row behind the last one that it comes to, going down.
 fn past_fallen(eye: Point, end: Point) -> u8
     requires { 0 < difference eye.x end.x }
-    ensures { (y k : ℕ) → y < 96 → k ≤ 80 → difference eye.x end.x * (2 * y + 1 - eye.y) ≤ (end.y - eye.y) * k → y < result }
+    ensures { (y k : ℕ) → y < 96 → k * k + (2 * y + 1 - eye.y) * (2 * y + 1 - eye.y) ≤ 6400 → difference eye.x end.x * (2 * y + 1 - eye.y) ≤ (end.y - eye.y) * k → y < result }
 {
-    let side = across(eye).abs_diff(across(end)) as u32;
-    let fall = down(end).saturating_sub(down(eye)) as u32 * REACH as u32 / side;
-    ((down(eye) as u32 + fall + 1) / 2).min(96) as u8
+    let fall = down(end).saturating_sub(down(eye));
+    let reached = most_risen(across(eye).abs_diff(across(end)), fall);
+    ((down(eye) as u32 + reached + 1) / 2).min(96) as u8
+}
+
+// How far at most a line rises within reach, in half cells, that rises so much over so much to the side.
+fn most_risen(side: u8, rise: u8) -> u32
+    requires { 0 < side }
+    ensures bound { result ≤ rise * 80 }
+    ensures most { (j k : ℕ) → k * k + j * j ≤ 6400 → side * j ≤ rise * k → j ≤ result }
+{
+    rise as u32 * REACH as u32 / shortened(side as u32, rise as u32)
+}
+
+// The length over these sides, or somewhat less: without a square root, by the 3, 4 and 5.
+fn shortened(side: u32, rise: u32) -> u32
+    requires side { side < 256 }
+    requires rise { rise < 256 }
+    ensures square { result * result ≤ side * side + rise * rise }
+    ensures some { side ≤ result }
+{
+    let long = side.max(rise);
+    let short = side.min(rise);
+    long.max((4 * long + 3 * short) / 5)
 }
