@@ -1,41 +1,181 @@
 //! A line for each command, and lines that are none.
 
 use crate::{Command, LineFault, read_line};
-use std::test::Fail;
 
-/// What a line is: its command's word, or its fault, with the field's name.
+/// Lines of the game master's, and what each is: its command's word, or its fault and the field's name.
+static LINES: [(&str, &str, &str); 40] = [
+    (r#"{"do":"hello","seat":32,"key":"a"}"#, "hello", ""),
+    (r#"{"do":"bye"}"#, "bye", ""),
+    (r#"{"do":"look"}"#, "look", ""),
+    (r#"{"do":"say","text":"hi"}"#, "say", ""),
+    (r#"{"do":"say","text":"hi","to":2}"#, "say", ""),
+    (r#"{"do":"roll","dice":"1d6","to":"gmself"}"#, "roll", ""),
+    (r#"{"do":"macro","name":"hit"}"#, "macro", ""),
+    (
+        r#"{"do":"macro","name":"hit","args":["","7"],"to":"gm"}"#,
+        "macro",
+        "",
+    ),
+    (
+        r#"{"do":"macro","name":"hit","args":null}"#,
+        "BadField",
+        "args",
+    ),
+    (
+        r#"{"do":"setmacro","name":"hit","text":""}"#,
+        "setmacro",
+        "",
+    ),
+    (
+        r#"{"do":"setmacro","name":"hit","text":null}"#,
+        "setmacro",
+        "",
+    ),
+    (r#"{"do":"setmacro","name":"hit"}"#, "BadField", "text"),
+    (
+        r#"{"do":"move","path":[[1,0],[-1000,1000]],"token":"1:ann"}"#,
+        "move",
+        "",
+    ),
+    (
+        r#"{"do":"setprop","token":"1:ann","class":"own","name":"hp","value":""}"#,
+        "setprop",
+        "",
+    ),
+    (
+        r#"{"do":"light","token":"1:ann","light":null}"#,
+        "light",
+        "",
+    ),
+    (
+        r#"{"do":"make","tag":"bo","map":"cave","cell":[0,1],"name":"Bo"}"#,
+        "make",
+        "",
+    ),
+    (r#"{"do":"remove","token":"1:ann"}"#, "remove", ""),
+    (r#"{"do":"map","name":"cave","w":96,"h":1}"#, "map", ""),
+    (r#"{"do":"mode","map":"cave","mode":"night"}"#, "mode", ""),
+    (r#"{"do":"show","map":"cave","on":true}"#, "show", ""),
+    (
+        r#"{"do":"terrain","map":"cave","rect":[0,0,1,96],"kind":"."}"#,
+        "terrain",
+        "",
+    ),
+    (
+        r#"{"do":"wall","map":"cave","kind":"vbl","a":[2,0],"b":[2,4]}"#,
+        "wall",
+        "",
+    ),
+    (
+        r#"{"do":"unwall","map":"cave","kind":"mbl","a":[2,0],"b":[2,4]}"#,
+        "unwall",
+        "",
+    ),
+    (
+        r#"{"do":"lighttype","name":"torch","radius":1000}"#,
+        "lighttype",
+        "",
+    ),
+    (
+        r#"{"do":"sighttype","name":"human","range":10,"night":0,"mult":2}"#,
+        "sighttype",
+        "",
+    ),
+    (
+        r#"{"do":"token","tag":"orc","map":"cave","cell":[0,1],"name":"Orc"}"#,
+        "token",
+        "",
+    ),
+    (
+        r#"{"do":"own","token":"0:orc","seat":1,"on":false}"#,
+        "own",
+        "",
+    ),
+    (
+        r#"{"do":"layer","token":"0:orc","layer":"hidden"}"#,
+        "layer",
+        "",
+    ),
+    (
+        r#"{"do":"visible","token":"0:orc","on":true}"#,
+        "visible",
+        "",
+    ),
+    (
+        r#"{"do":"sight","token":"0:orc","sight":"human"}"#,
+        "sight",
+        "",
+    ),
+    (
+        r#"{"do":"place","token":"0:orc","map":"cave","cell":[2,2]}"#,
+        "place",
+        "",
+    ),
+    (
+        r#"{"do":"secret","token":"0:orc","name":"trap","value":"pit"}"#,
+        "secret",
+        "",
+    ),
+    (
+        r#"{"do":"expose","seat":1,"map":"cave","rect":[0,0,1,3]}"#,
+        "expose",
+        "",
+    ),
+    (
+        r#"{"do":"hide","seat":1,"map":"cave","rect":[0,0,1,3]}"#,
+        "hide",
+        "",
+    ),
+    (r#"{"do":"dump"}"#, "dump", ""),
+    (r#"{"do":"#, "BadJson", ""),
+    (
+        r#"{"do":"move","path":[[1.5,0]],"token":"1:ann"}"#,
+        "BadField",
+        "path",
+    ),
+    (r#"{"do":"bye","z":1,"to":1}"#, "BadField", "to"),
+    (r#"{"do":"say","text":"hi","to":null}"#, "BadField", "to"),
+    (r#"{}"#, "BadCommand", ""),
+];
+
+fn word(command: &Command) -> &'static str {
+    match command {
+        Command::Hello { .. } => "hello",
+        Command::Bye => "bye",
+        Command::Look => "look",
+        Command::Say { .. } => "say",
+        Command::Roll { .. } => "roll",
+        Command::Macro { .. } => "macro",
+        Command::Setmacro { .. } => "setmacro",
+        Command::Move { .. } => "move",
+        Command::Setprop { .. } => "setprop",
+        Command::Light { .. } => "light",
+        Command::Make { .. } => "make",
+        Command::Remove { .. } => "remove",
+        Command::Map { .. } => "map",
+        Command::Mode { .. } => "mode",
+        Command::Show { .. } => "show",
+        Command::Terrain { .. } => "terrain",
+        Command::Wall { .. } => "wall",
+        Command::Unwall { .. } => "unwall",
+        Command::Lighttype { .. } => "lighttype",
+        Command::Sighttype { .. } => "sighttype",
+        Command::Token { .. } => "token",
+        Command::Own { .. } => "own",
+        Command::Layer { .. } => "layer",
+        Command::Visible { .. } => "visible",
+        Command::Sight { .. } => "sight",
+        Command::Place { .. } => "place",
+        Command::Secret { .. } => "secret",
+        Command::Expose { .. } => "expose",
+        Command::Hide { .. } => "hide",
+        Command::Dump => "dump",
+    }
+}
+
 fn told(answer: &Result<Command, LineFault>) -> (&str, &str) {
     match answer {
-        Ok(Command::Hello { .. }) => ("hello", ""),
-        Ok(Command::Bye) => ("bye", ""),
-        Ok(Command::Look) => ("look", ""),
-        Ok(Command::Say { .. }) => ("say", ""),
-        Ok(Command::Roll { .. }) => ("roll", ""),
-        Ok(Command::Macro { .. }) => ("macro", ""),
-        Ok(Command::Setmacro { .. }) => ("setmacro", ""),
-        Ok(Command::Move { .. }) => ("move", ""),
-        Ok(Command::Setprop { .. }) => ("setprop", ""),
-        Ok(Command::Light { .. }) => ("light", ""),
-        Ok(Command::Make { .. }) => ("make", ""),
-        Ok(Command::Remove { .. }) => ("remove", ""),
-        Ok(Command::Map { .. }) => ("map", ""),
-        Ok(Command::Mode { .. }) => ("mode", ""),
-        Ok(Command::Show { .. }) => ("show", ""),
-        Ok(Command::Terrain { .. }) => ("terrain", ""),
-        Ok(Command::Wall { .. }) => ("wall", ""),
-        Ok(Command::Unwall { .. }) => ("unwall", ""),
-        Ok(Command::Lighttype { .. }) => ("lighttype", ""),
-        Ok(Command::Sighttype { .. }) => ("sighttype", ""),
-        Ok(Command::Token { .. }) => ("token", ""),
-        Ok(Command::Own { .. }) => ("own", ""),
-        Ok(Command::Layer { .. }) => ("layer", ""),
-        Ok(Command::Visible { .. }) => ("visible", ""),
-        Ok(Command::Sight { .. }) => ("sight", ""),
-        Ok(Command::Place { .. }) => ("place", ""),
-        Ok(Command::Secret { .. }) => ("secret", ""),
-        Ok(Command::Expose { .. }) => ("expose", ""),
-        Ok(Command::Hide { .. }) => ("hide", ""),
-        Ok(Command::Dump) => ("dump", ""),
+        Ok(command) => (word(command), ""),
         Err(LineFault::BadJson) => ("BadJson", ""),
         Err(LineFault::BadCommand) => ("BadCommand", ""),
         Err(LineFault::GmOnly) => ("GmOnly", ""),
@@ -45,123 +185,15 @@ fn told(answer: &Result<Command, LineFault>) -> (&str, &str) {
 }
 
 #[test]
-fn lines_are_commands_or_faults(rt: HostRuntime) -> Result<(), Fail> {
-    let rows = [
-        (r#"{"do":"hello","seat":32,"key":"a"}"#, ("hello", "")),
-        (r#"{"do":"bye"}"#, ("bye", "")),
-        (r#"{"do":"look"}"#, ("look", "")),
-        (r#"{"do":"say","text":"hi"}"#, ("say", "")),
-        (r#"{"do":"say","text":"hi","to":2}"#, ("say", "")),
-        (r#"{"do":"roll","dice":"1d6","to":"gmself"}"#, ("roll", "")),
-        (r#"{"do":"macro","name":"hit"}"#, ("macro", "")),
-        (
-            r#"{"do":"macro","name":"hit","args":["","7"],"to":"gm"}"#,
-            ("macro", ""),
-        ),
-        (
-            r#"{"do":"macro","name":"hit","args":null}"#,
-            ("BadField", "args"),
-        ),
-        (
-            r#"{"do":"setmacro","name":"hit","text":""}"#,
-            ("setmacro", ""),
-        ),
-        (
-            r#"{"do":"setmacro","name":"hit","text":null}"#,
-            ("setmacro", ""),
-        ),
-        (r#"{"do":"setmacro","name":"hit"}"#, ("BadField", "text")),
-        (
-            r#"{"do":"move","path":[[1,0],[-1000,1000]],"token":"1:ann"}"#,
-            ("move", ""),
-        ),
-        (
-            r#"{"do":"setprop","token":"1:ann","class":"own","name":"hp","value":""}"#,
-            ("setprop", ""),
-        ),
-        (
-            r#"{"do":"light","token":"1:ann","light":null}"#,
-            ("light", ""),
-        ),
-        (
-            r#"{"do":"make","tag":"bo","map":"cave","cell":[0,1],"name":"Bo"}"#,
-            ("make", ""),
-        ),
-        (r#"{"do":"remove","token":"1:ann"}"#, ("remove", "")),
-        (r#"{"do":"map","name":"cave","w":96,"h":1}"#, ("map", "")),
-        (r#"{"do":"mode","map":"cave","mode":"night"}"#, ("mode", "")),
-        (r#"{"do":"show","map":"cave","on":true}"#, ("show", "")),
-        (
-            r#"{"do":"terrain","map":"cave","rect":[0,0,1,96],"kind":"."}"#,
-            ("terrain", ""),
-        ),
-        (
-            r#"{"do":"wall","map":"cave","kind":"vbl","a":[2,0],"b":[2,4]}"#,
-            ("wall", ""),
-        ),
-        (
-            r#"{"do":"unwall","map":"cave","kind":"mbl","a":[2,0],"b":[2,4]}"#,
-            ("unwall", ""),
-        ),
-        (
-            r#"{"do":"lighttype","name":"torch","radius":1000}"#,
-            ("lighttype", ""),
-        ),
-        (
-            r#"{"do":"sighttype","name":"human","range":10,"night":0,"mult":2}"#,
-            ("sighttype", ""),
-        ),
-        (
-            r#"{"do":"token","tag":"orc","map":"cave","cell":[0,1],"name":"Orc"}"#,
-            ("token", ""),
-        ),
-        (
-            r#"{"do":"own","token":"0:orc","seat":1,"on":false}"#,
-            ("own", ""),
-        ),
-        (
-            r#"{"do":"layer","token":"0:orc","layer":"hidden"}"#,
-            ("layer", ""),
-        ),
-        (
-            r#"{"do":"visible","token":"0:orc","on":true}"#,
-            ("visible", ""),
-        ),
-        (
-            r#"{"do":"sight","token":"0:orc","sight":"human"}"#,
-            ("sight", ""),
-        ),
-        (
-            r#"{"do":"place","token":"0:orc","map":"cave","cell":[2,2]}"#,
-            ("place", ""),
-        ),
-        (
-            r#"{"do":"secret","token":"0:orc","name":"trap","value":"pit"}"#,
-            ("secret", ""),
-        ),
-        (
-            r#"{"do":"expose","seat":1,"map":"cave","rect":[0,0,1,3]}"#,
-            ("expose", ""),
-        ),
-        (
-            r#"{"do":"hide","seat":1,"map":"cave","rect":[0,0,1,3]}"#,
-            ("hide", ""),
-        ),
-        (r#"{"do":"dump"}"#, ("dump", "")),
-        (r#"{"do":"#, ("BadJson", "")),
-        (
-            r#"{"do":"move","path":[[1.5,0]],"token":"1:ann"}"#,
-            ("BadField", "path"),
-        ),
-        (r#"{"do":"bye","z":1,"to":1}"#, ("BadField", "to")),
-        (r#"{"do":"say","text":"hi","to":null}"#, ("BadField", "to")),
-        (r#"{}"#, ("BadCommand", "")),
-    ];
-    for (line, wanted) in rows {
+fn lines_are_commands_or_faults(rt: HostRuntime) {
+    for (line, word, field) in &LINES {
         let answer = read_line(rt.alloc(), line.as_bytes(), true);
-        assert_eq!(rt; told(&answer), wanted, "at {line}");
+        assert_eq!(rt; told(&answer), (*word, *field), "at {line}");
     }
-    let answer = read_line(rt.alloc(), b"{\"do\":\"map\"}", false);
-    assert_eq!(rt; told(&answer), ("GmOnly", ""));
-    Ok(())
+}
+
+#[test]
+fn a_player_gives_no_command_of_the_game_master(rt: HostRuntime) {
+    let answer = read_line(rt.alloc(), br#"{"do":"map"}"#, false);
+    assert!(rt; matches!(answer, Err(LineFault::GmOnly)));
 }

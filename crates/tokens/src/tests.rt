@@ -2,22 +2,15 @@
 
 use crate::{Owners, PropFault, Props, Token};
 use cells::Cell;
-use names::{Layer, PropClass, SeatNo, Tag, Text, TokenId};
+use names::{Layer, PropClass, Tag, Text, TokenId};
 use std::alloc::Global;
 use std::process::Abort;
-use std::test::Fail;
 
-fn id(maker: u8, tag: &[u8]) -> Result<TokenId, Fail> {
-    let maker = SeatNo::new(maker).ok_or("no seat")?;
-    let tag = Tag::read(tag)?;
-    Ok(TokenId { maker, tag })
-}
-
-fn token(alloc: Global, id: TokenId) -> Result<Token, Fail> {
-    Ok(Token {
-        id,
-        name: Text::copy(alloc, "Ann")?,
-        map: Tag::read(b"hall")?,
+fn token(rt: &impl Abort, alloc: Global) -> Token {
+    Token {
+        id: TokenId::read(b"1:ann").expect(rt, "an id"),
+        name: Text::copy(alloc, "Ann").expect(rt, "memory"),
+        map: Tag::read(b"hall").expect(rt, "a name"),
         cell: Cell { x: 3, y: 4 },
         size: 2,
         layer: Layer::Token,
@@ -28,43 +21,32 @@ fn token(alloc: Global, id: TokenId) -> Result<Token, Fail> {
         public: Props::new(alloc),
         own: Props::new(alloc),
         secret: Props::new(alloc),
-    })
+    }
+}
+
+fn set(
+    rt: &impl Abort,
+    alloc: Global,
+    token: &mut Token,
+    class: PropClass,
+    number: u32,
+) -> Result<(), PropFault> {
+    let name = format!(in alloc; "p{number}").expect(rt, "memory");
+    let name = Tag::read(name.as_bytes()).expect(rt, "a name");
+    let value = Text::copy(alloc, "x").expect(rt, "memory");
+    token.set_prop(class, name, value)
 }
 
 #[test]
-fn each_class_has_64_names(rt: HostRuntime) -> Result<(), Fail> {
-    let mut ann = token(rt.alloc(), id(1, b"ann")?)?;
-    for number in 0..64u32 {
-        set(&rt, &mut ann, PropClass::Public, number)?;
+fn a_class_has_64_names(rt: HostRuntime) {
+    let mut ann = token(&rt, rt.alloc());
+    for number in 0..65 {
+        let answer = set(&rt, rt.alloc(), &mut ann, PropClass::Public, number);
+        assert!(rt; answer.is_ok() == (number < 64), "{number}");
     }
-    let name = Tag::read(b"hp")?;
-    let value = Text::copy(rt.alloc(), "10")?;
-    assert_eq!(rt;
-        ann.set_prop(PropClass::Public, name, value),
-        Err(PropFault::PropertyLimit)
-    );
-    let value = Text::copy(rt.alloc(), "10")?;
-    assert_eq!(rt; ann.set_prop(PropClass::Secret, name, value), Ok(()));
-    let copy = ann.copy()?;
-    assert_eq!(rt; copy.public.len(), 64);
-    assert_eq!(rt; copy.own.len(), 0);
-    assert_eq!(rt;
-        copy.props(PropClass::Secret)
-            .find(name)
-            .ok_or("no value")?
-            .text(),
-        "10"
-    );
-    Ok(())
-}
-
-fn set(rt: &impl Abort, token: &mut Token, class: PropClass, number: u32) -> Result<(), Fail> {
-    let alloc = token.public.allocator();
-    let name = format!(in alloc; "p{number}")?;
-    let value = Text::copy(alloc, "x")?;
-    assert_eq!(rt;
-        token.set_prop(class, Tag::read(name.as_bytes())?, value),
-        Ok(())
-    );
-    Ok(())
+    let answer = set(&rt, rt.alloc(), &mut ann, PropClass::Secret, 64);
+    assert_eq!(rt; answer, Ok(()));
+    let copy = ann.copy().expect(&rt, "memory");
+    let counts = (copy.public.len(), copy.own.len(), copy.secret.len());
+    assert_eq!(rt; counts, (64, 0, 1));
 }
