@@ -27,6 +27,7 @@ name_of ends.Left = codes "Left"
 name_of (ends.Refused refusal) = codes "Refused " ++ refusal_name refusal
 name_of ends.TooLong = codes "TooLong"
 name_of ends.Spent = codes "Spent"
+name_of ends.Cut = codes "Cut"
 name_of ends.ReadFault = codes "ReadFault"
 name_of ends.WriteFault = codes "WriteFault"
 name_of ends.Memory = codes "Memory"

@@ -19,6 +19,7 @@ fn text_of(word: Word) -> &'static str
         Word::Ended(Ended::Refused(refusal)) => text_of_refusal(refusal),
         Word::Ended(Ended::TooLong) => "TooLong",
         Word::Ended(Ended::Spent) => "Spent",
+        Word::Ended(Ended::Cut) => "Cut",
         Word::Ended(Ended::ReadFault) => "ReadFault",
         Word::Ended(Ended::WriteFault) => "WriteFault",
         Word::Ended(Ended::Memory) => "Memory",

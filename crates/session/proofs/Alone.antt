@@ -1,25 +1,23 @@
 -- A session whose lines nobody else takes.
-use Rattle.std.proofs.Common.{◌≡◌, ℕ, zero, suc, ◌≤◌, ◌<◌, ◌+◌, Bool, true, false, eqb, ◌&&◌, List, [], ◌∷◌, ◌++◌, length, take, drop, map, max, get_or, slice_get, refl, sym, ◌∙◌, ap, subst, arith, append_assoc, length-append, ◌⊎◌, inl, inr, eq-eqb}
-use Rattle.std.specs.Prelude.{Option, Some, None, option_map, IfSome, All, Contains}
-use Rattle.std.proofs.lemmas.List.{take-append-drop, length-take, take-append-le, take_all}
+use Rattle.std.proofs.Common.{◌≡◌, ℕ, zero, suc, ◌≤◌, ◌<◌, Bool, true, false, List, [], ◌∷◌, ◌++◌, length, take, drop, map, max, get_or, slice_get, refl, sym, ◌∙◌, ap, subst, arith, inl, inr, eq-eqb}
+use Rattle.std.specs.Prelude.{Option, Some, None, option_map, IfSome, All}
+use Rattle.std.proofs.lemmas.List.{take-append-le, take_all}
 use Rattle.std.proofs.lemmas.Option.{slice_get_within}
-use Rattle.std.proofs.lemmas.List.Elements.{All-contains, All-append, Contains-append_left, Contains-append_cases}
+use Rattle.std.proofs.lemmas.List.Elements.{All-contains, Contains-append_cases}
 use mathlib.Core.List.{IsPrefix}
-use Rattle.seats.specs.SeatState.{is_free, is_joined}
-use Rattle.seats.specs.declared.seat_state.SeatState.{SeatState}
+use Rattle.seats.specs.SeatState.{is_free}
 use Rattle.campaign_law.specs.declared.entry.Entry.{Entry}
 use Rattle.campaign_law.specs.declared.entry.Entry.TheVariants.{Join, Line, Leave, Taken, Cut}
 use Rattle.campaign_law.specs.Seat.{Seat}
-use Rattle.campaign_law.specs.Outcome.{seat_of}
 use Rattle.campaign_law.specs.World.{World, seat_at, replay}
-use Rattle.campaign_law.specs.Law.{IsOpening, bytes_of}
-use Rattle.campaign_law.specs.Session.{session, waiting, standing, standing_after, is_held_by, is_drop_of, session_at, has_ended, DropsNone, TakesAtMost, IsSeated, NoneRejoins}
-use Rattle.campaign_law.proofs.SessionFronts.{session_grows, ended_stays}
+use Rattle.campaign_law.specs.Law.{IsOpening}
+use Rattle.campaign_law.specs.Session.{session, waiting, standing_after, is_held_by, is_drop_of, DropsNone, TakesAtMost, NoneRejoins}
 use Rattle.campaign_law.proofs.SessionLaws.{still_held, lasts, at_most, lines_counted, no_more_lines}
-use Rattle.turn_lock.specs.Pass.{places}
-use Rattle.turn_lock.proofs.Prefixes.{prefix_get, prefix_trans, prefix_length}
+use Rattle.campaign_law.specs.SessionLaws.{Lasts}
+use Rattle.campaign_law.proofs.CutSessions.{uncut_drops_by_leave}
+use Rattle.turn_lock.proofs.Prefixes.{prefix_get}
 use Rattle.session.specs.declared.hold.Hold.{Hold}
-use Rattle.session.specs.Held.{is_held, lines_of, is_over, HasJoined}
+use Rattle.session.specs.Held.{is_held, is_cut, lines_of, is_over, HasJoined}
 use Rattle.session.specs.Exchanged.{Waits}
 use Rattle.session.specs.Own.{StandsAt, takes_from, IsAlone}
 use Rattle.session.specs.Written.{IsTakenOf}
@@ -89,24 +87,17 @@ module _ (w : World) (h : List Entry) (own : List ℕ) (hold : Hold) (count : �
   pub takes_within : TakesAtMost w h hold.place hold.seat count
   takes_within k n behind open_ there = (own_at k (Taken hold.seat n) behind open_ there (eq-eqb hold.seat hold.seat refl)).1
 
-  pub drops_nothing : DropsNone w h hold.place hold.seat
-  drops_nothing k e behind open_ there = by_drop (standing_after w (take k h) hold.seat) e (own_at k e behind open_ there)
+  -- where the session isn't cut
+  pub drops_nothing : HasJoined w h hold → is_cut w h hold ≡ false → DropsNone w h hold.place hold.seat
+  drops_nothing joined uncut k e behind open_ there = by_drop (is_drop_of hold.seat (standing_after w (take k h) hold.seat) e) refl
     where
-      by_drop : (state : SeatState) (e : Entry) → (takes_from hold.seat e ≡ true → IsTakenOf w hold count (take k h) e) → is_drop_of hold.seat state e ≡ false
-      by_drop state (Join seat key reader writer) own = refl
-      by_drop state (Line seat bytes) own = refl
-      by_drop state (Taken seat taken) own = refl
-      by_drop state (Leave seat drop) own = by_bool (drop && eqb seat hold.seat) refl
-        where
-          by_bool : (b : Bool) → (drop && eqb seat hold.seat) ≡ b → b ≡ false
-          by_bool false e = refl
-          by_bool true e = absurd (own e)
-      by_drop state (Cut seat) own = by_seat (is_joined state) (eqb seat hold.seat) refl
-        where
-          by_seat : (joined b : Bool) → eqb seat hold.seat ≡ b → (joined && b) ≡ false
-          by_seat true false e = refl
-          by_seat false false e = refl
-          by_seat joined true e = absurd (own e)
+      by_drop : (b : Bool) → is_drop_of hold.seat (standing_after w (take k h) hold.seat) e ≡ b → b ≡ false
+      by_drop false drops = refl
+      by_drop true drops =
+          let lt = slice_get_within h k e there in
+          let lasting : Lasts w h hold.place hold.seat k = record { behind = behind; within = omega (arith, lt); open_ = open_ } in
+          let leave : e ≡ Leave hold.seat true = uncut_drops_by_leave w h hold.place hold.seat hold.reader hold.writer k e joined lasting there uncut drops in
+          absurd (own_at k (Leave hold.seat true) behind open_ (there ∙ ap Some leave) (eq-eqb hold.seat hold.seat refl))
 
 -- ---- what waits, and how it ends
 

@@ -1,6 +1,6 @@
 -- A seat that a session holds.
-use Rattle.std.proofs.Common.{◌≡◌, ℕ, suc, ◌≤◌, Bool, true, false, eqb, ◌&&◌, List, [], ◌∷◌, ◌++◌, length, refl, sym, ◌∙◌, ap, subst, arith, ◌⊎◌, inl, inr}
-use Rattle.std.specs.Prelude.{Option, Some, None, slice_get, option_map, flat_map}
+use Rattle.std.proofs.Common.{◌≡◌, ℕ, ◌≤◌, Bool, true, false, eqb, ◌&&◌, ◌||◌, List, [], ◌∷◌, ◌++◌, length, take, drop, refl, sym, ◌∙◌, ap, subst, arith, ◌⊎◌, inl, inr}
+use Rattle.std.specs.Prelude.{Option, Some, None, option_map, flat_map}
 use Rattle.seats.specs.declared.seat_state.SeatState.{SeatState}
 use Rattle.campaign_law.specs.Seat.{Seat}
 use Rattle.std.proofs.lemmas.Option.{slice_get_past}
@@ -13,9 +13,12 @@ use Rattle.campaign_law.specs.Session.{session, waiting, standing, standing_afte
 use Rattle.campaign_law.proofs.Sessions.{replay_more}
 use Rattle.campaign_law.proofs.Turns.{free_held}
 use Rattle.campaign_law.specs.SessionLaws.{IsLeft}
+use Rattle.campaign_law.specs.Cuts.{cuts, is_cut_by}
+use Rattle.campaign_law.specs.Cuts.{is_cut as is_cut_entry}
+use Rattle.campaign_law.specs.Outcome.{seat_of}
 use Rattle.campaign_law.proofs.Leaves.{leave_stands}
 use Rattle.campaign_law.proofs.Lists.{length-mapped_from}
-use Rattle.session.specs.Held.{is_held, is_read}
+use Rattle.session.specs.Held.{is_held, is_read, is_cut}
 use Rattle.session.specs.Exchanged.{WaitsAs}
 use Rattle.session.specs.Left.{Left}
 use Rattle.session.specs.Spoken.{is_spent}
@@ -28,6 +31,24 @@ length-replay w (e ∷ h) = length-replay (step w e) h ∙ length-mapped_from (s
 -- nobody holds a seat that isn't there
 pub no_seat_held : (w : World) (h : List Entry) (hold : Hold) → length w.seats ≤ hold.seat → is_held w h hold ≡ false
 no_seat_held w h hold past = ap (λ s. is_held_by hold.reader hold.writer (standing s)) (slice_get_past (replay w h).seats hold.seat (let e = length-replay w h in omega (arith, e)))
+
+-- and it isn't cut
+cuts_none : (seat reader writer : ℕ) (before : Option Seat) (e : Entry) → before ≡ None → cuts seat reader writer (standing before) e ≡ false
+cuts_none seat reader writer before e none = ap (λ s. cuts seat reader writer (standing s) e) none ∙ by_bools (is_cut_entry e) (eqb (seat_of e) seat)
+  where
+    by_bools : (a b : Bool) → (a && (b && false)) ≡ false
+    by_bools true true = refl
+    by_bools true false = refl
+    by_bools false b = refl
+
+no_seat_cut_by : (w : World) (es : List Entry) (seat reader writer : ℕ) → length w.seats ≤ seat → is_cut_by w es seat reader writer ≡ false
+no_seat_cut_by w [] seat reader writer past = refl
+no_seat_cut_by w (e ∷ es) seat reader writer past =
+    let long = length-mapped_from (seat_after w e) 0 w.seats in
+    λ i. cuts_none seat reader writer (seat_at w seat) e (slice_get_past w.seats seat past) i || no_seat_cut_by (step w e) es seat reader writer (omega (arith, long, past)) i
+
+pub no_seat_cut : (w : World) (h : List Entry) (hold : Hold) → length w.seats ≤ hold.seat → is_cut w h hold ≡ false
+no_seat_cut w h hold past = no_seat_cut_by (replay w (take hold.place h)) (drop hold.place h) hold.seat hold.reader hold.writer (let e = length-replay w (take hold.place h) in omega (arith, e, past))
 
 -- how a seat that is there stands
 pub state_held : (w : World) (h : List Entry) (hold : Hold) (state : SeatState) → Some state ≡ option_map (λ s. s.book.state) (seat_at (replay w h) hold.seat) → is_held_by hold.reader hold.writer state ≡ is_held w h hold

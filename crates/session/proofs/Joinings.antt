@@ -1,5 +1,5 @@
 -- A turn in which a session joins.
-use Rattle.std.proofs.Common.{◌≡◌, ℕ, suc, ◌+◌, Bool, true, false, cond, ◌&&◌, eqb, List, [], ◌∷◌, ◌++◌, length, take, refl, sym, ◌∙◌, ap, subst, arith, eq-eqb, length-append, ◌⊎◌, inl, inr}
+use Rattle.std.proofs.Common.{◌≡◌, ℕ, suc, ◌+◌, Bool, true, false, ◌&&◌, eqb, List, [], ◌∷◌, ◌++◌, length, refl, sym, ◌∙◌, ap, subst, arith, eq-eqb, length-append, inl, inr}
 use Rattle.std.specs.Prelude.{Option, Some, None, option_map}
 use Rattle.std.proofs.lemmas.List.{take_all}
 use Rattle.seats.specs.Book.{Book, join_refusal}
@@ -17,12 +17,11 @@ use Rattle.campaign_law.specs.Texts.{refusal_line}
 use Rattle.campaign_law.specs.Outcome.{Outcome, outcome_at, join_outcome, refusal_of_join, count_if_joined}
 use Rattle.campaign_law.specs.World.{World, seat_at, asked_of, report_of, outcome_of, scene_after, changed, queued_lines, seat_after, step, replay}
 use Rattle.campaign_law.specs.Law.{IsOpening, answer_of}
-use Rattle.campaign_law.specs.Session.{standing, standing_after, is_held_by, IsSeated}
+use Rattle.campaign_law.specs.Session.{standing, standing_after, IsSeated}
 use Rattle.campaign_law.proofs.Joins.{join_seats}
 use Rattle.campaign_law.proofs.Sessions.{seat_at-after, replay_more}
 use Rattle.session.specs.declared.hold.Hold.{Hold}
-use Rattle.session.specs.declared.joining.Joined.{Joined}
-use Rattle.session.specs.declared.joining.Joined.TheVariants.{Seated, Refused, Memory}
+use Rattle.session.specs.declared.joining.Joined.TheVariants.{Seated, Refused}
 use Rattle.session.specs.Held.{is_held, is_read}
 use Rattle.session.specs.Spoken.{is_spent}
 use Rattle.session.specs.Joined.{Joins, TellsJoin, direct_line}

@@ -1,4 +1,6 @@
 pub mod Holds
+pub mod Cutting
+pub mod Parting
 pub mod Alone
 pub mod WritingTurns
 pub mod WritingEnds

@@ -1,32 +1,37 @@
 -- Turn after turn of the reading half.
-use Rattle.std.proofs.Common.{◌≡◌, ◌≢◌, ℕ, zero, suc, ◌≤◌, ◌<◌, ◌+◌, Bool, true, false, cond, List, [], ◌∷◌, ◌++◌, length, take, drop, get_or, slice_get, refl, sym, ◌∙◌, ap, subst, arith, append_assoc, length-append, ◌⊎◌, inl, inr}
-use Rattle.std.specs.Prelude.{Option, Some, None, All, Contains, IfSome}
+use Rattle.std.proofs.Common.{◌≡◌, ◌≢◌, ℕ, suc, ◌≤◌, ◌+◌, Bool, true, false, cond, not, ◌&&◌, List, [], ◌∷◌, ◌++◌, length, take, drop, map, get_or, slice_get, refl, sym, ◌∙◌, ap, subst, arith, append_assoc, length-append, inl, inr}
+use Rattle.std.specs.Prelude.{Option, Some, None, All, Contains}
 use Rattle.std.proofs.lemmas.List.{append-nil, append_cancel_left, take-append-le, take_all}
-use Rattle.std.proofs.lemmas.List.Elements.{All-nil, All-cons, All-append, Contains-push, Contains-append_right}
+use Rattle.std.proofs.lemmas.List.Elements.{All-nil, All-cons, All-append, All-contains_itself, Contains-push, Contains-append_left, Contains-append_right}
 use Rattle.std.proofs.lemmas.Option.{slice_get_within}
 use mathlib.Core.List.{IsPrefix}
 use Rattle.line_io.specs.Lines.{lines_of as text_lines}
 use Rattle.line_io.specs.Told.{WhereTold}
 use Rattle.campaign_law.specs.declared.entry.Entry.{Entry}
-use Rattle.campaign_law.specs.declared.entry.Entry.TheVariants.{Join, Line, Leave, Taken, Cut}
+use Rattle.campaign_law.specs.declared.entry.Entry.TheVariants.{Line, Leave, Cut}
 use Rattle.campaign_law.specs.World.{World, seat_at, replay}
-use Rattle.turn_lock.specs.Pass.{PassState, HasTurn, known, places}
+use Rattle.campaign_law.specs.Law.{IsOpening}
+use Rattle.campaign_core.specs.Over.{over_of}
+use Rattle.turn_lock.specs.Pass.{PassState, places}
 use Rattle.turn_lock.proofs.Prefixes.{prefix_self, prefix_get, prefix_trans}
 use Rattle.session.specs.declared.hold.Hold.{Hold}
 use Rattle.session.specs.declared.speaking.Said.{Said}
 use Rattle.session.specs.declared.speaking.Said.TheVariants as saying
 use Rattle.session.specs.declared.hearing.ReadEnd.{ReadEnd}
 use Rattle.session.specs.declared.hearing.ReadEnd.TheVariants.{Bye, Spent, Stopped}
+use Rattle.session.specs.declared.hearing.ReadEnd.TheVariants as reads
 use Rattle.session.specs.declared.input.Stop.{Stop}
 use Rattle.session.specs.declared.input.Stop.TheVariants.{Memory}
-use Rattle.session.specs.Inputs.{CameFirst, StopsBefore}
-use Rattle.session.specs.Held.{is_held, is_read}
+use Rattle.session.specs.Inputs.{CameFirst, StopsBefore, is_memory as is_memory_stop}
+use Rattle.session.specs.Held.{is_held, is_read, is_cut, is_parted}
 use Rattle.session.specs.Own.{StandsAt, Got}
-use Rattle.session.specs.Heard.{IsReadAfter, IsReadBehind, IsReaders, line_in, lines_at, Came, CameBut, AreFirst, IsByeAt, IsSpentAt, IsUnspent, IsReading, HasHeard}
+use Rattle.session.specs.Heard.{IsReadBehind, IsReaders, line_in, lines_at, Came, CameBut, AreFirst, IsByeAt, IsSpentAt, IsUnspent, ClosedBy, AreCutBehind, CutsBehindLine, CutsBehindLines, stopped, IsReading, HasHeard}
 use Rattle.session.specs.Turned.{SpeaksAll, Leaves}
-use Rattle.session.specs.Spoken.{is_spent, Says, Enters, Speaks, AllGo, EndsSo, Spoken}
+use Rattle.session.specs.Spoken.{is_spent, is_memory, AreOver, Says, Enters, Speaks, AllGo, EndsSo, Spoken, SpokenSo}
 use Rattle.session.proofs.Alone.{stands_longer}
 use Rattle.session.proofs.Byes.{closed_by_bye, spent_closes}
+use Rattle.session.proofs.Cutting.{all_cut_unread}
+use Rattle.session.proofs.Parting.{Told, told_by, cut_told, parted_cut, both_first, not_cut, no_memory}
 
 -- ---- lines at places
 
@@ -83,10 +88,58 @@ places-append : (n : ℕ) (xs ys : List Entry) → places n (xs ++ ys) ≡ place
 places-append n [] ys = ap (λ m. places m ys) (omega arith)
 places-append n (x ∷ xs) ys = ap (λ l. n ∷ l) (places-append (suc n) xs ys ∙ ap (λ m. places (suc n) xs ++ places m ys) (omega arith))
 
-take_next : (xs : List Entry) (k : ℕ) (x : Entry) → slice_get xs k ≡ Some x → take (suc k) xs ≡ take k xs ++ x ∷ []
-take_next [] k x there = cc
-take_next (y ∷ xs) zero x there = cc (there)
-take_next (y ∷ xs) (suc k) x there = ap (λ l. y ∷ l) (take_next xs k x there)
+-- ---- Cuts behind a history
+
+lines_in_cuts : (seats : List ℕ) → lines_in (map Cut seats) ≡ []
+lines_in_cuts [] = refl
+lines_in_cuts (seat ∷ seats) = lines_in_cuts seats
+
+-- the reading half may enter those of seats for which too much waits
+cuts_lawful : (w : World) (hold : Hold) (h : List Entry) (seats : List ℕ) → AreOver w h seats → AreLawful (IsReaders w hold) h (map Cut seats)
+cuts_lawful w hold h [] over = tt
+cuts_lawful w hold h (seat ∷ seats) over = (over.0, cuts_lawful w hold (h ++ Cut seat ∷ []) seats over.1)
+
+-- by a rule that says nothing of Cuts
+cuts_free : (rule : List Entry → Entry → Type 0) → ((h : List Entry) (seat : ℕ) → rule h (Cut seat)) → (h : List Entry) (seats : List ℕ) → AreLawful rule h (map Cut seats)
+cuts_free rule each h [] = tt
+cuts_free rule each h (seat ∷ seats) = (each h seat, cuts_free rule each (h ++ Cut seat ∷ []) seats)
+
+-- what a line appends
+pub enters_there : (w : World) (hold : Hold) (before : List Entry) (line : List ℕ) (said : Said) (after : List Entry) (enters : Enters w hold before line said after) → after ≡ before ++ Line hold.seat line ∷ map Cut enters.cuts.are.seats
+enters_there w hold before line said after enters = enters.cuts.are.there ∙ append_assoc before (Line hold.seat line ∷ []) (map Cut enters.cuts.are.seats)
+
+-- ---- Cuts behind each Line
+
+abbrev IsNoLine : List Entry → Entry → Type 0
+IsNoLine h e = (seat : ℕ) (bytes : List ℕ) → e ≡ Line seat bytes → ⊥
+
+cut_is_no_line : (h : List Entry) (s : ℕ) → IsNoLine h (Cut s)
+cut_is_no_line h s seat bytes same = cc
+
+-- where no Line stands nothing is asked
+no_lines : (w : World) (h : List Entry) (own places : List ℕ) → All (StandsAt IsNoLine h) places → All (CutsBehindLine w h own) places
+no_lines w h own places each = λ i d lt seat bytes there. let at = each i d lt in absurd (at.lawful seat bytes (cc (at.there, there)))
+
+front_take : {A : Type 0} (k : ℕ) (f h : List A) → IsPrefix f h → k ≤ length f → take k h ≡ take k f
+front_take k f h prefix le = ap (take k) (sym prefix.1) ∙ take-append-le k f prefix.0 le
+
+-- in a longer history, among more own places
+pub cuts_longer : (w : World) (rule : List Entry → Entry → Type 0) (f h : List Entry) (own more : List ℕ) → IsPrefix f h → All (StandsAt rule f) own → ((k : ℕ) → Contains own k → Contains more k) → CutsBehindLines w f own → All (CutsBehindLine w h more) own
+cuts_longer w rule f h own more prefix each wider cuts = λ i d lt. longer (get_or own i d) (each i d lt) (cuts i d lt)
+  where
+    longer : (k : ℕ) → StandsAt rule f k → CutsBehindLine w f own k → CutsBehindLine w h more k
+    longer k at behind seat bytes there =
+        let lt = slice_get_within f k at.entry at.there in
+        let same : at.entry ≡ Line seat bytes = cc (prefix_get f h k at.entry prefix at.there, there) in
+        let are = behind seat bytes (at.there ∙ ap Some same) in
+        let front : take (suc k) f ≡ take (suc k) h = sym (front_take (suc k) f h prefix (omega (arith, lt))) in
+        record {
+          seats = are.seats;
+          over = subst (λ l. AreOver w l are.seats) front are.over;
+          none = ap (λ l. over_of w (l ++ map Cut are.seats)) (sym front) ∙ are.none;
+          there = subst (λ l. IsPrefix (l ++ map Cut are.seats) h) front (prefix_trans (take (suc k) f ++ map Cut are.seats) f h are.there prefix);
+          mine = λ i d lt. wider (get_or (places (suc k) (map Cut are.seats)) i d) (are.mine i d lt);
+        }
 
 -- ---- a pass by which entries were appended
 
@@ -124,14 +177,6 @@ module _ (rule : List Entry → Entry → Type 0) (p q r : PassState Entry World
       ∙ ap (λ l. l ++ lines_at r.front new) (lines_at-longer rule q.front r.front more grows got.each)
       ∙ ap (λ l. lines_at q.front more ++ l) (ap (λ l. lines_at l new) x.front ∙ lines_behind q.front x.es)
 
--- ---- the seat behind own places
-
-kept_after : (w : World) (hold : Hold) (h : List Entry) (own : List ℕ) → All (StandsAt (IsReadBehind w hold) h) own → All (IsReadAfter w hold h) own
-kept_after w hold h own kept = λ i d lt. after (get_or own i d) (kept i d lt)
-  where
-    after : (k : ℕ) → StandsAt (IsReadBehind w hold) h k → IsReadAfter w hold h k
-    after k at = ap (λ l. is_read w l hold) (take_next h k at.entry at.there) ∙ at.lawful
-
 -- ---- what came
 
 came_more : (lines more : List (List ℕ)) (t u v : Option (List ℕ)) → WhereTold t u (CameBut [] lines) → CameFirst more u v → WhereTold t v (CameBut more lines)
@@ -156,13 +201,14 @@ starts w hold p text = record {
   came = nothing_came text;
   kept = λ i d lt. absurd (omega (arith, lt));
   unspent = λ i d lt. absurd (omega (arith, lt));
+  cuts = λ i d lt. absurd (omega (arith, lt));
 }
   where
     nothing_came : (text : Option (List ℕ)) → WhereTold text text (CameBut [] [])
     nothing_came None = tt
     nothing_came (Some text) = refl
 
-module _ (w : World) (hold : Hold) (p : PassState Entry World) (t : Option (List ℕ)) where
+module _ (w : World) (hold : Hold) (p : PassState Entry World) (t : Option (List ℕ)) (opening : IsOpening w) where
   -- the pass sees a longer history
   reads_further : (q r : PassState Entry World) (hand : List (List ℕ)) (v : Option (List ℕ)) → IsPrefix q.front r.front → r.own ≡ q.own → r.number ≡ q.number → IsReading w hold p q hand t v → IsReading w hold p r hand t v
   reads_further q r hand v longer own number is = record {
@@ -176,6 +222,7 @@ module _ (w : World) (hold : Hold) (p : PassState Entry World) (t : Option (List
     came = subst (λ ls. WhereTold t v (CameBut hand ls)) (sym (lines_at-longer (IsReaders w hold) q.front r.front is.more longer is.got.each)) is.came;
     kept = stands_longer (IsReadBehind w hold) q.front r.front is.more longer is.kept;
     unspent = stands_longer (IsUnspent w hold) q.front r.front is.more longer is.unspent;
+    cuts = cuts_longer w (IsReaders w hold) q.front r.front is.more is.more longer is.got.each (λ k has. has) is.cuts;
   }
 
   -- ---- the turn in which the seat is left
@@ -192,26 +239,61 @@ module _ (w : World) (hold : Hold) (p : PassState Entry World) (t : Option (List
   leave_lines lines false = append-nil lines
   leave_lines lines true = append-nil lines
 
-  pub leaves_reading : (q r : PassState Entry World) (hand : List (List ℕ)) (stop : Stop) (u v : Option (List ℕ)) → IsReading w hold p q hand t u → (stop ≢ Memory → (hand ≡ []) × (v ≡ u)) → Leaves w hold q r → HasHeard w hold p r (Stopped stop) false t v
-  leaves_reading q r hand stop u v is none left =
-      let f : PassState Entry World = record r { front = left.turn.found; own = q.own } in
-      let at : IsReading w hold p f hand t u = reads_further q f hand u left.turn.begins refl left.number is in
-      let x : Extends f r = record { es = cond left.entered (Leave hold.seat false ∷ []) []; front = left.turn.front_is; own = left.turn.own_is; number = refl } in
-      let same : lines_at r.front (at.more ++ places (length f.front) x.es) ≡ lines_at f.front at.more = lines_now (IsReaders w hold) p f r at.more at.got x ∙ leave_lines (lines_at f.front at.more) left.entered in
-      record {
-        more = at.more ++ places (length f.front) x.es;
-        got = extended (IsReaders w hold) p f r at.more at.got x (leave_lawful f.front left.entered left.turn.has_run.held);
-        first = subst (λ ls. AreFirst ls t) (sym same) (are_first hand (lines_at f.front at.more) t u at.came);
-        hand = [];
-        behind = λ other. absurd (other refl);
-        all = λ g n.
-            let m = none (λ is_memory. n (ap Stopped is_memory)) in
-            subst (λ ls. WhereTold t v (CameBut [] ls)) (sym same) (subst (λ y. WhereTold t y (CameBut [] (lines_at f.front at.more))) (sym m.1) (subst (λ h. WhereTold t u (CameBut h (lines_at f.front at.more))) m.0 at.came));
-        closed = left.turn.has_run.closed;
-        kept = λ g. cc;
-        cause = tt;
-        unspent = λ other. also_stand (IsReaders w hold) p f r at.more at.got x (IsUnspent w hold) at.unspent (leave_unspent f.front left.entered);
-      }
+  leave_no_line : (h : List Entry) (entered : Bool) → AreLawful IsNoLine h (cond entered (Leave hold.seat false ∷ []) [])
+  leave_no_line h false = tt
+  leave_no_line h true = ((λ seat bytes same. cc), tt)
+
+  module _ (q r : PassState Entry World) (hand : List (List ℕ)) (stop : Stop) (cut : Bool) (u v : Option (List ℕ)) (is : IsReading w hold p q hand t u) (none : stop ≢ Memory → (hand ≡ []) × (v ≡ u)) (left : Leaves w hold cut q r) where
+    abbrev found_pass : PassState Entry World
+    found_pass = record r { front = left.turn.found; own = q.own }
+
+    before_leave : IsReading w hold p found_pass hand t u
+    before_leave = reads_further q found_pass hand u left.turn.begins refl left.number is
+
+    abbrev leave_step : Extends found_pass r
+    leave_step = record { es = cond left.entered (Leave hold.seat false ∷ []) []; front = left.turn.front_is; own = left.turn.own_is; number = refl }
+
+    abbrev leave_places : List ℕ
+    leave_places = places (length found_pass.front) leave_step.es
+
+    left_cuts : CutsBehindLines w r.front (before_leave.more ++ leave_places)
+    left_cuts = All-append (CutsBehindLine w r.front (before_leave.more ++ leave_places)) before_leave.more leave_places
+        (cuts_longer w (IsReaders w hold) found_pass.front r.front before_leave.more (before_leave.more ++ leave_places) (leave_step.es, sym leave_step.front) before_leave.got.each (λ k has. Contains-append_left before_leave.more leave_places k has) before_leave.cuts)
+        (no_lines w r.front (before_leave.more ++ leave_places) leave_places (subst (λ l. All (StandsAt IsNoLine l) leave_places) (sym leave_step.front) (stand_behind IsNoLine found_pass.front leave_step.es (leave_no_line found_pass.front left.entered))))
+
+    left_by : (end : ReadEnd) → ClosedBy end w r.front hold (before_leave.more ++ leave_places) → (end ≢ reads.Cut → end ≢ Stopped Memory → is_cut w r.front hold ≡ false) → (end ≢ reads.Cut → end ≢ Stopped Memory → stop ≢ Memory) → HasHeard w hold p r end false t v
+    left_by end cause uncut told =
+        let same : lines_at r.front (before_leave.more ++ leave_places) ≡ lines_at found_pass.front before_leave.more = lines_now (IsReaders w hold) p found_pass r before_leave.more before_leave.got leave_step ∙ leave_lines (lines_at found_pass.front before_leave.more) left.entered in
+        record {
+          more = before_leave.more ++ leave_places;
+          got = extended (IsReaders w hold) p found_pass r before_leave.more before_leave.got leave_step (leave_lawful found_pass.front left.entered left.turn.has_run.left.held);
+          first = subst (λ ls. AreFirst ls t) (sym same) (are_first hand (lines_at found_pass.front before_leave.more) t u before_leave.came);
+          hand = [];
+          behind = λ other. absurd (other refl);
+          all = λ g c n.
+              let m = none (told c n) in
+              subst (λ ls. WhereTold t v (CameBut [] ls)) (sym same) (subst (λ y. WhereTold t y (CameBut [] (lines_at found_pass.front before_leave.more))) (sym m.1) (subst (λ h. WhereTold t u (CameBut h (lines_at found_pass.front before_leave.more))) m.0 before_leave.came));
+          closed = left.turn.has_run.left.closed;
+          kept = λ g. cc;
+          cause = cause;
+          uncut = uncut;
+          cuts = left_cuts;
+          unspent = λ other c. also_stand (IsReaders w hold) p found_pass r before_leave.more before_leave.got leave_step (IsUnspent w hold) before_leave.unspent (leave_unspent found_pass.front left.entered);
+        }
+
+    -- whether the session was cut
+    pub leaves_reading : HasHeard w hold p r (stopped cut stop) false t v
+    leaves_reading = by_cut (cut && not (is_memory_stop stop)) refl
+      where
+        by_cut : (b : Bool) → (cut && not (is_memory_stop stop)) ≡ b → HasHeard w hold p r (cond b reads.Cut (Stopped stop)) false t v
+        by_cut true e = left_by reads.Cut (sym left.turn.has_run.cut_is ∙ both_first cut (not (is_memory_stop stop)) e) (λ c n. absurd (c refl)) (λ c n. absurd (c refl))
+        by_cut false e = left_by (Stopped stop) tt
+            (λ c n. sym left.turn.has_run.cut_is ∙ not_cut cut (is_memory_stop stop) e (no_memory stop (λ m. n (ap Stopped m))))
+            (λ c n m. n (ap Stopped m))
+
+    -- for want of memory
+    pub leaves_unsaid : HasHeard w hold p r (Stopped Memory) false t v
+    leaves_unsaid = left_by (Stopped Memory) tt (λ c n. absurd (n refl)) (λ c n. absurd (n refl))
 
   -- ---- one line
 
@@ -222,52 +304,92 @@ module _ (w : World) (hold : Hold) (p : PassState Entry World) (t : Option (List
     abbrev place : ℕ
     place = length q.front
 
+    -- the history behind the Line, and the Cuts behind it
+    abbrev lined : List Entry
+    lined = q.front ++ e ∷ []
+
+    abbrev cut_seats : List ℕ
+    cut_seats = enters.cuts.are.seats
+
+    abbrev line_entries : List Entry
+    line_entries = e ∷ map Cut cut_seats
+
+    abbrev cut_places : List ℕ
+    cut_places = places (suc place) (map Cut cut_seats)
+
+    after_is : after ≡ q.front ++ line_entries
+    after_is = enters.cuts.are.there ∙ append_assoc q.front (e ∷ []) (map Cut cut_seats)
+
     abbrev behind : PassState Entry World
-    behind = record q { front = after; own = q.own ++ place ∷ [] }
+    behind = record q { front = after; own = q.own ++ place ∷ cut_places }
 
     abbrev more : List ℕ
-    more = is.more ++ place ∷ []
+    more = is.more ++ place ∷ cut_places
 
     abbrev x : Extends q behind
-    x = record { es = e ∷ []; front = enters.there; own = refl; number = refl }
+    x = record { es = line_entries; front = after_is; own = refl; number = refl }
+
+    grown : IsPrefix q.front after
+    grown = (line_entries, sym after_is)
 
     spoke_got : Got (IsReaders w hold) p behind more
-    spoke_got = extended (IsReaders w hold) p q behind is.more is.got x ((refl, enters.read), tt)
+    spoke_got = extended (IsReaders w hold) p q behind is.more is.got x ((refl, enters.read), cuts_lawful w hold lined cut_seats enters.cuts.are.over)
 
     spoke_lines : lines_at after more ≡ lines_at q.front is.more ++ line ∷ []
-    spoke_lines = lines_now (IsReaders w hold) p q behind is.more is.got x
+    spoke_lines = lines_now (IsReaders w hold) p q behind is.more is.got x ∙ ap (λ l. lines_at q.front is.more ++ line ∷ l) (lines_in_cuts cut_seats)
 
     spoke_came : WhereTold t v (CameBut hand (lines_at after more))
     spoke_came =
         let same : (lines_at q.front is.more ++ line ∷ []) ++ hand ≡ lines_at q.front is.more ++ line ∷ hand = append_assoc (lines_at q.front is.more) (line ∷ []) hand in
         subst (λ ls. WhereTold t v (CameBut hand ls)) (sym spoke_lines) (subst (λ ls. WhereTold t v (Came ls)) (sym same) is.came)
 
-    spoke_kept : is_read w after hold ≡ true → All (StandsAt (IsReadBehind w hold) after) more
-    spoke_kept reads = also_stand (IsReaders w hold) p q behind is.more is.got x (IsReadBehind w hold) is.kept (ap (λ l. is_read w l hold) (sym enters.there) ∙ reads, tt)
+    spoke_kept : is_read w lined hold ≡ true → All (StandsAt (IsReadBehind w hold) after) more
+    spoke_kept read = also_stand (IsReaders w hold) p q behind is.more is.got x (IsReadBehind w hold) is.kept (read, cuts_free (IsReadBehind w hold) (λ h s. tt) lined cut_seats)
 
-    spoke_unspent : is_spent (seat_at (replay w after) hold.seat) ≡ false → All (StandsAt (IsUnspent w hold) after) more
-    spoke_unspent some = also_stand (IsReaders w hold) p q behind is.more is.got x (IsUnspent w hold) is.unspent (ap (λ l. is_spent (seat_at (replay w l) hold.seat)) (sym enters.there) ∙ some, tt)
+    spoke_unspent : is_spent (seat_at (replay w lined) hold.seat) ≡ false → All (StandsAt (IsUnspent w hold) after) more
+    spoke_unspent some = also_stand (IsReaders w hold) p q behind is.more is.got x (IsUnspent w hold) is.unspent (some, cuts_free (IsUnspent w hold) (λ h s. tt) lined cut_seats)
 
-    whole_take : take (suc place) after ≡ after
-    whole_take = let long : length after ≡ suc place = ap length enters.there ∙ one_longer q.front e in take_all (suc place) after (omega (arith, long))
+    first_take : take (suc place) after ≡ lined
+    first_take = ap (take (suc place)) enters.cuts.are.there ∙ ap (λ n. take n (lined ++ map Cut cut_seats)) (sym (one_longer q.front e)) ∙ take_here lined (map Cut cut_seats)
 
     own_place : Contains more place
-    own_place = Contains-push is.more place
+    own_place = Contains-append_right is.more (place ∷ cut_places) place (Contains-append_left (place ∷ []) cut_places place (Contains-push [] place))
+
+    -- right behind the Line
+    line_cuts : AreCutBehind w after more place
+    line_cuts = record {
+      seats = cut_seats;
+      over = subst (λ l. AreOver w l cut_seats) (sym first_take) enters.cuts.are.over;
+      none = ap (λ l. over_of w (l ++ map Cut cut_seats)) first_take ∙ ap (over_of w) (sym enters.cuts.are.there) ∙ enters.cuts.none;
+      there = subst (λ l. IsPrefix (l ++ map Cut cut_seats) after) (sym first_take) (subst (λ l. IsPrefix l after) enters.cuts.are.there (prefix_self after));
+      mine = λ i d lt. let k : ℕ = get_or cut_places i d in Contains-append_right is.more (place ∷ cut_places) k (Contains-append_right (place ∷ []) cut_places k (All-contains_itself cut_places i d lt));
+    }
+
+    no_line_behind : All (StandsAt IsNoLine after) cut_places
+    no_line_behind =
+        subst (λ l. All (StandsAt IsNoLine l) cut_places) (sym enters.cuts.are.there)
+        (subst (λ n. All (StandsAt IsNoLine (lined ++ map Cut cut_seats)) (places n (map Cut cut_seats))) (one_longer q.front e) (stand_behind IsNoLine lined (map Cut cut_seats) (cuts_free IsNoLine cut_is_no_line lined cut_seats)))
+
+    spoke_cuts : CutsBehindLines w after more
+    spoke_cuts = All-append (CutsBehindLine w after more) is.more (place ∷ cut_places)
+        (cuts_longer w (IsReaders w hold) q.front after is.more more grown is.got.each (λ k has. Contains-append_left is.more (place ∷ cut_places) k has) is.cuts)
+        (All-cons (CutsBehindLine w after more) place cut_places (λ seat bytes there. line_cuts) (no_lines w after more cut_places no_line_behind))
 
     -- behind it the next may be
     line_goes : said ≡ saying.Goes → IsReading w hold p behind hand t v
     line_goes so =
-        let says = subst (Says w hold after) so enters.says in
-        record { more = more; got = spoke_got; came = spoke_came; kept = spoke_kept says.0; unspent = spoke_unspent says.1 }
+        let says = subst (Says w hold lined) so enters.says in
+        record { more = more; got = spoke_got; came = spoke_came; kept = spoke_kept says.0; unspent = spoke_unspent says.1; cuts = spoke_cuts }
 
     -- it was the session's last
-    line_bye : said ≡ saying.Bye → HasHeard w hold p behind Bye false t v
-    line_bye so =
-        let says = subst (Says w hold after) so enters.says in
+    line_bye : said ≡ saying.Bye → is_parted w after hold ≡ false → HasHeard w hold p behind Bye false t v
+    line_bye so unparted =
+        let says = subst (Says w hold lined) so enters.says in
+        let closing = all_cut_unread w lined after hold opening enters.cuts says.0 in
         let bye : IsByeAt after hold.seat place = record {
           bytes = line;
-          there = ap (λ l. slice_get l place) enters.there ∙ get_here q.front e [];
-          bye = closed_by_bye w q.front hold line enters.read (ap (λ l. is_read w l hold) (sym enters.there) ∙ says.0) (ap (λ l. is_spent (seat_at (replay w l) hold.seat)) (sym enters.there) ∙ says.1);
+          there = ap (λ l. slice_get l place) after_is ∙ get_here q.front e (map Cut cut_seats);
+          bye = closed_by_bye w q.front hold line enters.read says.0 says.1;
         } in
         record {
           more = more;
@@ -275,29 +397,68 @@ module _ (w : World) (hold : Hold) (p : PassState Entry World) (t : Option (List
           first = are_first hand (lines_at after more) t v spoke_came;
           hand = hand;
           behind = λ some. (place, own_place, inl bye);
-          all = λ g n. spoke_came;
-          closed = says.0;
+          all = λ g c n. spoke_came;
+          closed = closing;
           kept = λ g. cc;
           cause = (place, own_place, bye);
-          unspent = λ other. spoke_unspent says.1;
+          uncut = λ c n. not_cut (is_cut w after hold) (is_read w after hold) unparted closing;
+          cuts = spoke_cuts;
+          unspent = λ other c. spoke_unspent says.1;
         }
 
-    line_spent : said ≡ saying.Spent → HasHeard w hold p behind Spent false t v
-    line_spent so =
-        let says = subst (Says w hold after) so enters.says in
-        let spent : IsSpentAt w after hold.seat place = ap (λ l. is_spent (seat_at (replay w l) hold.seat)) whole_take ∙ says in
+    line_spent : said ≡ saying.Spent → is_parted w after hold ≡ false → HasHeard w hold p behind Spent false t v
+    line_spent so unparted =
+        let says = subst (Says w hold lined) so enters.says in
+        let closing = all_cut_unread w lined after hold opening enters.cuts (spent_closes w q.front hold line enters.read says) in
+        let spent : IsSpentAt w after hold.seat place = ap (λ l. is_spent (seat_at (replay w l) hold.seat)) first_take ∙ says in
         record {
           more = more;
           got = spoke_got;
           first = are_first hand (lines_at after more) t v spoke_came;
           hand = hand;
           behind = λ some. (place, own_place, inr spent);
-          all = λ g n. spoke_came;
-          closed = ap (λ l. is_read w l hold) enters.there ∙ spent_closes w q.front hold line enters.read (ap (λ l. is_spent (seat_at (replay w l) hold.seat)) (sym enters.there) ∙ says);
+          all = λ g c n. spoke_came;
+          closed = closing;
           kept = λ g. cc;
           cause = (place, Contains-append_right (hold.place ∷ []) more place own_place, spent);
-          unspent = λ other. absurd (other refl);
+          uncut = λ c n. not_cut (is_cut w after hold) (is_read w after hold) unparted closing;
+          cuts = spoke_cuts;
+          unspent = λ other c. absurd (other refl);
         }
+
+    -- or the session was cut behind it
+    line_cut : is_cut w after hold ≡ true → is_read w after hold ≡ false → HasHeard w hold p behind reads.Cut false t v
+    line_cut cut closing = record {
+      more = more;
+      got = spoke_got;
+      first = are_first hand (lines_at after more) t v spoke_came;
+      hand = [];
+      behind = λ some. absurd (some refl);
+      all = λ g c n. absurd (c refl);
+      closed = closing;
+      kept = λ g. cc;
+      cause = cut;
+      uncut = λ c n. absurd (c refl);
+      cuts = spoke_cuts;
+      unspent = λ other c. absurd (c refl);
+    }
+
+  -- the session was cut, and no line is entered any more
+  cut_now : (v : Option (List ℕ)) (q : PassState Entry World) (hand : List (List ℕ)) → IsReading w hold p q hand t v → is_cut w q.front hold ≡ true → is_read w q.front hold ≡ false → HasHeard w hold p q reads.Cut false t v
+  cut_now v q hand is cut closing = record {
+    more = is.more;
+    got = is.got;
+    first = are_first hand (lines_at q.front is.more) t v is.came;
+    hand = [];
+    behind = λ some. absurd (some refl);
+    all = λ g c n. absurd (c refl);
+    closed = closing;
+    kept = λ g. cc;
+    cause = cut;
+    uncut = λ c n. absurd (c refl);
+    cuts = is.cuts;
+    unspent = λ other c. absurd (c refl);
+  }
 
   -- ---- the lines of a turn
 
@@ -321,25 +482,36 @@ module _ (w : World) (hold : Hold) (p : PassState Entry World) (t : Option (List
   }
   all_go v (line ∷ firsts) rest q mid is go =
       let m : List Entry = go.0 in
-      let r : PassState Entry World = record q { front = m; own = q.own ++ length q.front ∷ [] } in
+      let one : List Entry = Line hold.seat line ∷ map Cut go.1.cuts.are.seats in
+      let r : PassState Entry World = record q { front = m; own = q.own ++ places (length q.front) one } in
       let on : WentOn v r rest mid = all_go v firsts rest r mid (line_goes v q line (firsts ++ rest) saying.Goes m is go.1 refl) go.2 in
-      let one : List Entry = Line hold.seat line ∷ [] in
+      let there_is : m ≡ q.front ++ one = enters_there w hold q.front line saying.Goes m go.1 in
       record {
         es = one ++ on.es;
-        there = on.there ∙ ap (λ l. l ++ on.es) go.1.there ∙ append_assoc q.front one on.es;
-        reading = subst (λ o. IsReading w hold p (record q { front = mid; own = o }) rest t v) (own_more q m one on.es go.1.there) on.reading;
+        there = on.there ∙ ap (λ l. l ++ on.es) there_is ∙ append_assoc q.front one on.es;
+        reading = subst (λ o. IsReading w hold p (record q { front = mid; own = o }) rest t v) (own_more q m one on.es there_is) on.reading;
       }
 
   module _ (q r : PassState Entry World) (lines : List (List ℕ)) (said : Said) (u v : Option (List ℕ)) (is : IsReading w hold p q [] t u) (answer : CameFirst lines u v) (turn : SpeaksAll w hold lines said q r) where
-    abbrev spoken : Spoken w hold turn.turn.found lines said r.front
-    spoken = turn.turn.has_run
+    abbrev run : SpokenSo w hold turn.turn.found lines said r.front
+    run = turn.turn.has_run
+
+    -- what became of the lines
+    abbrev by : Said
+    by = run.by
+
+    abbrev parted : Bool
+    parted = is_parted w r.front hold
+
+    abbrev spoken : Spoken w hold turn.turn.found lines by r.front
+    spoken = run.spoken
 
     -- the pass as it found the history
     abbrev f : PassState Entry World
     f = record r { front = turn.turn.found; own = q.own }
 
     in_hand : IsReading w hold p q lines t v
-    in_hand = record { more = is.more; got = is.got; came = came_more (lines_at q.front is.more) lines t u v is.came answer; kept = is.kept; unspent = is.unspent }
+    in_hand = record { more = is.more; got = is.got; came = came_more (lines_at q.front is.more) lines t u v is.came answer; kept = is.kept; unspent = is.unspent; cuts = is.cuts }
 
     went : WentOn v f spoken.rest spoken.mid
     went = all_go v spoken.firsts spoken.rest f spoken.mid (subst (λ ls. IsReading w hold p f ls t v) spoken.whole (reads_further q f lines v turn.turn.begins refl turn.number in_hand)) spoken.go
@@ -355,17 +527,22 @@ module _ (w : World) (hold : Hold) (p : PassState Entry World) (t : Option (List
     reading_end hand last reading =
         subst (λ o. IsReading w hold p (record r { own = o }) hand t v) (own_is went.es (last ∙ went.there)) (subst (λ l. IsReading w hold p (record r { front = l; own = f.own ++ places (length f.front) went.es }) hand t v) (sym last) reading)
 
-    heard_end : (end : ReadEnd) (line : List ℕ) → Enters w hold spoken.mid line said r.front → HasHeard w hold p (record at { front = r.front; own = at.own ++ length spoken.mid ∷ [] }) end false t v → HasHeard w hold p r end false t v
-    heard_end end line enters heard =
-        let one : List Entry = Line hold.seat line ∷ [] in
+    heard_end : (end : ReadEnd) (line : List ℕ) (last : Said) → (enters : Enters w hold spoken.mid line last r.front)
+        → HasHeard w hold p (record at { front = r.front; own = at.own ++ length spoken.mid ∷ places (suc (length spoken.mid)) (map Cut enters.cuts.are.seats) }) end false t v → HasHeard w hold p r end false t v
+    heard_end end line last enters heard =
+        let one : List Entry = Line hold.seat line ∷ map Cut enters.cuts.are.seats in
         subst (λ o. HasHeard w hold p (record r { own = o }) end false t v)
-        (own_more f spoken.mid went.es one went.there ∙ own_is (went.es ++ one) (enters.there ∙ ap (λ l. l ++ one) went.there ∙ append_assoc f.front went.es one)) heard
+        (own_more f spoken.mid went.es one went.there ∙ own_is (went.es ++ one) (enters_there w hold spoken.mid line last r.front enters ∙ ap (λ l. l ++ one) went.there ∙ append_assoc f.front went.es one)) heard
 
-    ends_as : (other : Said) → said ≡ other → EndsSo w hold spoken.mid spoken.rest other r.front
+    ends_as : (other : Said) → by ≡ other → EndsSo w hold spoken.mid spoken.rest other r.front
     ends_as other so = subst (λ s. EndsSo w hold spoken.mid spoken.rest s r.front) so spoken.ends
 
+    -- no cut was told
+    told : (said ≡ saying.Cut → ⊥) → Told parted by said
+    told other = told_by parted by said run.said_is other
+
     pub goes : said ≡ saying.Goes → IsReading w hold p r [] t v
-    goes so = by_rest spoken.rest went.reading (ends_as saying.Goes so)
+    goes so = by_rest spoken.rest went.reading (ends_as saying.Goes (sym (told (λ e. cc)).same ∙ so))
       where
         by_rest : (rest : List (List ℕ)) → IsReading w hold p at rest t v → EndsSo w hold spoken.mid rest saying.Goes r.front → IsReading w hold p r [] t v
         by_rest [] reading ends = reading_end [] ends.1 reading
@@ -373,52 +550,108 @@ module _ (w : World) (hold : Hold) (p : PassState Entry World) (t : Option (List
 
     -- a line was the session's last
     pub ends_bye : said ≡ saying.Bye → HasHeard w hold p r Bye false t v
-    ends_bye so = by_rest spoken.rest went.reading (ends_as saying.Bye so)
+    ends_bye so = by_rest spoken.rest went.reading (ends_as saying.Bye is_bye)
       where
+        is_told : Told parted by said
+        is_told = told (λ e. cc)
+
+        is_bye : by ≡ saying.Bye
+        is_bye = sym is_told.same ∙ so
+
         by_rest : (rest : List (List ℕ)) → IsReading w hold p at rest t v → EndsSo w hold spoken.mid rest saying.Bye r.front → HasHeard w hold p r Bye false t v
         by_rest [] reading ends = let z = ends.0 in cc
-        by_rest (line ∷ rest) reading ends = let enters = subst (λ s. Enters w hold spoken.mid line s r.front) (sym so) ends.1 in heard_end Bye line enters (line_bye v at line rest said r.front reading enters so)
+        by_rest (line ∷ rest) reading ends = heard_end Bye line saying.Bye ends.1 (line_bye v at line rest saying.Bye r.front reading ends.1 refl (is_told.unparted (ap is_memory is_bye)))
 
     pub ends_spent : said ≡ saying.Spent → HasHeard w hold p r Spent false t v
-    ends_spent so = by_rest spoken.rest went.reading (ends_as saying.Spent so)
+    ends_spent so = by_rest spoken.rest went.reading (ends_as saying.Spent is_spent_so)
       where
+        is_told : Told parted by said
+        is_told = told (λ e. cc)
+
+        is_spent_so : by ≡ saying.Spent
+        is_spent_so = sym is_told.same ∙ so
+
         by_rest : (rest : List (List ℕ)) → IsReading w hold p at rest t v → EndsSo w hold spoken.mid rest saying.Spent r.front → HasHeard w hold p r Spent false t v
         by_rest [] reading ends = let z = ends.0 in cc
-        by_rest (line ∷ rest) reading ends = let enters = subst (λ s. Enters w hold spoken.mid line s r.front) (sym so) ends.1 in heard_end Spent line enters (line_spent v at line rest said r.front reading enters so)
+        by_rest (line ∷ rest) reading ends = heard_end Spent line saying.Spent ends.1 (line_spent v at line rest saying.Spent r.front reading ends.1 refl (is_told.unparted (ap is_memory is_spent_so)))
 
     -- it found that the passes no longer held the seat as Joined
     pub ends_gone : said ≡ saying.Gone → (stop : Stop) (rest : Option (List ℕ)) → HasHeard w hold p r (Stopped stop) true t rest
-    ends_gone so stop left = by_rest spoken.rest went.reading (ends_as saying.Gone so)
+    ends_gone so stop left = by_rest spoken.rest went.reading (ends_as saying.Gone is_gone)
       where
+        is_told : Told parted by said
+        is_told = told (λ e. cc)
+
+        is_gone : by ≡ saying.Gone
+        is_gone = sym is_told.same ∙ so
+
         by_rest : (rest : List (List ℕ)) → IsReading w hold p at rest t v → EndsSo w hold spoken.mid rest saying.Gone r.front → HasHeard w hold p r (Stopped stop) true t left
         by_rest [] reading ends = let z = ends.0 in cc
         by_rest (line ∷ rest) reading ends =
             let here = reading_end (line ∷ rest) ends.1.1 reading in
+            let closing : is_read w r.front hold ≡ false = ap (λ l. is_read w l hold) ends.1.1 ∙ ends.1.0 in
             record {
               more = here.more;
               got = here.got;
               first = are_first (line ∷ rest) (lines_at r.front here.more) t v here.came;
               hand = [];
               behind = λ other. absurd (other refl);
-              all = λ g n. cc;
-              closed = ap (λ l. is_read w l hold) ends.1.1 ∙ ends.1.0;
-              kept = λ _. kept_after w hold r.front here.more here.kept;
+              all = λ g c n. cc;
+              closed = closing;
+              kept = λ _. here.kept;
               cause = tt;
-              unspent = λ other. here.unspent;
+              uncut = λ c n. not_cut (is_cut w r.front hold) (is_read w r.front hold) (is_told.unparted (ap is_memory is_gone)) closing;
+              cuts = here.cuts;
+              unspent = λ other c. here.unspent;
             }
 
+    -- the session was cut
+    pub ends_cut : said ≡ saying.Cut → HasHeard w hold p r reads.Cut false t v
+    ends_cut so = by_said by refl
+      where
+        told_cut : (by ≡ saying.Cut → ⊥) → (parted ≡ true) × (is_memory by ≡ false)
+        told_cut other = cut_told parted by said run.said_is so other
+
+        cut : (by ≡ saying.Cut → ⊥) → (is_cut w r.front hold ≡ true) × (is_read w r.front hold ≡ false)
+        cut other = parted_cut (is_cut w r.front hold) (is_read w r.front hold) (told_cut other).0
+
+        by_line : (last : Said) → (rest : List (List ℕ)) → (last ≡ saying.Goes → ⊥) → IsReading w hold p at rest t v → EndsSo w hold spoken.mid rest last r.front → ((line : List ℕ) → Speaks w hold spoken.mid line last r.front → Enters w hold spoken.mid line last r.front) → (is_cut w r.front hold ≡ true) × (is_read w r.front hold ≡ false) → HasHeard w hold p r reads.Cut false t v
+        by_line last [] other reading ends enters is = absurd (other ends.0)
+        by_line last (line ∷ rest) other reading ends enters is =
+            let one = enters line ends.1 in heard_end reads.Cut line last one (line_cut v at line rest last r.front reading one is.0 is.1)
+
+        by_gone : (rest : List (List ℕ)) → IsReading w hold p at rest t v → EndsSo w hold spoken.mid rest saying.Gone r.front → (is_cut w r.front hold ≡ true) × (is_read w r.front hold ≡ false) → HasHeard w hold p r reads.Cut false t v
+        by_gone [] reading ends is = let z = ends.0 in cc
+        by_gone (line ∷ rest) reading ends is = cut_now v r (line ∷ rest) (reading_end (line ∷ rest) ends.1.1 reading) is.0 is.1
+
+        by_going : (rest : List (List ℕ)) → IsReading w hold p at rest t v → EndsSo w hold spoken.mid rest saying.Goes r.front → (is_cut w r.front hold ≡ true) × (is_read w r.front hold ≡ false) → HasHeard w hold p r reads.Cut false t v
+        by_going [] reading ends is = cut_now v r [] (reading_end [] ends.1 reading) is.0 is.1
+        by_going (line ∷ rest) reading ends is = absurd (ends.0 refl)
+
+        no_cut : (rest : List (List ℕ)) → EndsSo w hold spoken.mid rest saying.Cut r.front → ⊥
+        no_cut [] ends = let z = ends.0 in cc
+        no_cut (line ∷ rest) ends = ends.1
+
+        by_said : (last : Said) → by ≡ last → HasHeard w hold p r reads.Cut false t v
+        by_said saying.Goes is = by_going spoken.rest went.reading (ends_as saying.Goes is) (cut (λ c. cc))
+        by_said saying.Bye is = by_line saying.Bye spoken.rest (λ g. cc) went.reading (ends_as saying.Bye is) (λ line one. one) (cut (λ c. cc))
+        by_said saying.Spent is = by_line saying.Spent spoken.rest (λ g. cc) went.reading (ends_as saying.Spent is) (λ line one. one) (cut (λ c. cc))
+        by_said saying.Cut is = absurd (no_cut spoken.rest (ends_as saying.Cut is))
+        by_said saying.Gone is = by_gone spoken.rest went.reading (ends_as saying.Gone is) (cut (λ c. cc))
+        by_said saying.Memory is = let z : true ≡ false = sym (ap is_memory is) ∙ (told_cut (λ c. cc)).1 in absurd cc
+
     -- want of memory: the seat is left
-    pub ends_unsaid : said ≡ saying.Memory → (s : PassState Entry World) → Leaves w hold r s → HasHeard w hold p s (Stopped Memory) false t v
-    ends_unsaid so s left = by_rest spoken.rest went.reading (ends_as saying.Memory so)
+    pub ends_unsaid : said ≡ saying.Memory → (cut : Bool) (s : PassState Entry World) → Leaves w hold cut r s → HasHeard w hold p s (Stopped Memory) false t v
+    ends_unsaid so cut s left = by_rest spoken.rest went.reading (ends_as saying.Memory (sym (told (λ e. cc)).same ∙ so))
       where
         by_rest : (rest : List (List ℕ)) → IsReading w hold p at rest t v → EndsSo w hold spoken.mid rest saying.Memory r.front → HasHeard w hold p s (Stopped Memory) false t v
         by_rest [] reading ends = let z = ends.0 in cc
-        by_rest (line ∷ rest) reading ends = leaves_reading r s (line ∷ rest) Memory v v (reading_end (line ∷ rest) ends.1 reading) (λ other. absurd (other refl)) left
+        by_rest (line ∷ rest) reading ends = leaves_unsaid r s (line ∷ rest) Memory cut v v (reading_end (line ∷ rest) ends.1 reading) (λ other. absurd (other refl)) left
 
 -- ---- no further line is read
 
-pub ends_input : (w : World) (hold : Hold) (p q r : PassState Entry World) (stop : Stop) (t u v : Option (List ℕ)) → IsReading w hold p q [] t u → StopsBefore stop u v → Leaves w hold q r → HasHeard w hold p r (Stopped stop) false t v
-ends_input w hold p q r stop t u v is same left = leaves_reading w hold p t q r [] stop u v is (λ other. (refl, same other)) left
+pub ends_input : (w : World) (hold : Hold) (p q r : PassState Entry World) (stop : Stop) (cut : Bool) (t u v : Option (List ℕ)) → IsOpening w → IsReading w hold p q [] t u → StopsBefore stop u v → Leaves w hold cut q r → HasHeard w hold p r (stopped cut stop) false t v
+ends_input w hold p q r stop cut t u v opening is same left = leaves_reading w hold p t opening q r [] stop cut u v is (λ other. (refl, same other)) left
 
 -- ---- the lines of a turn, entered one after another
 

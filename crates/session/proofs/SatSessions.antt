@@ -1,9 +1,8 @@
 -- A session from its Join on.
-use Rattle.std.proofs.Common.{◌≡◌, ◌≢◌, ℕ, suc, ◌+◌, ◌<◌, ◌≤◌, Bool, true, false, cond, List, [], ◌∷◌, ◌++◌, length, take, drop, slice_get, refl, sym, ◌∙◌, ap, subst, arith, append_assoc, length-append}
+use Rattle.std.proofs.Common.{◌≡◌, ◌≢◌, ℕ, suc, ◌<◌, ◌≤◌, Bool, true, false, cond, List, [], ◌∷◌, ◌++◌, length, take, slice_get, refl, sym, ◌∙◌, ap, subst, arith, length-append}
 use Rattle.std.specs.Prelude.{Option, Some, None}
-use Rattle.std.proofs.lemmas.List.{append-nil, take_all, take-append-le, take-append-drop}
+use Rattle.std.proofs.lemmas.List.{append-nil, take_all, take-append-le}
 use Rattle.std.proofs.lemmas.List.Elements.{All-nil, Contains-push}
-use Rattle.std.specs.Io.KnownBytes.{append_known}
 use mathlib.Core.List.{IsPrefix}
 use Rattle.line_io.specs.Told.{WhereTold}
 use Rattle.line_io.specs.Reader.{bytes_to_come}
@@ -31,13 +30,13 @@ use Rattle.session.specs.Own.{Grew}
 use Rattle.session.specs.Held.{is_read, HasJoined}
 use Rattle.session.specs.Heard.{CameBut, AreFirst, HasHeard}
 use Rattle.session.specs.Written.{HasWritten}
-use Rattle.session.specs.Served.{IsServed}
 use Rattle.session.specs.JoinTurn.{TakesSeat}
 use Rattle.session.specs.Joined.{IsRefusedBy, IsTaken, IsFollowed}
 use Rattle.session.specs.Spoken.{is_spent}
 use Rattle.session.specs.Ends.{ended_by, WroteLine}
-use Rattle.session.specs.Sat.{Entered, IsRefused, IsSeatedSo, HasSat, missing, refused, seated}
-use Rattle.session.proofs.ServedSessions.{served}
+use Rattle.session.specs.Sat.{HasSat, missing, refused, seated}
+use Rattle.session.proofs.ServedSessions.{served, whole_uncut}
+use Rattle.session.proofs.Cutting.{uncut_at_join}
 
 get_at_end : (xs : List Entry) (x : Entry) → slice_get (xs ++ x ∷ []) (length xs) ≡ Some x
 get_at_end [] x = refl
@@ -167,12 +166,13 @@ module _ (w : World) (seat : ℕ) (key : List ℕ) (joined : Joined) (p r s : Pa
           writer_own = written.got.own;
           there = prefix_get r.front q.front there e front entry_here;
           joined = joined_here;
+          uncut = whole_uncut w hold r q s t read gone wrote ended text (bytes_to_come reader left) before after end heard written;
           served = λ h q_front t_front.
               let whole : IsPrefix r.front h = prefix_trans r.front q.front h front q_front in
               served w h hold r q s t read gone wrote ended text reader left before after opening (joined_longer w r.front h there seat p.number s.number whole here taken.seated)
               (λ g. ap (λ l. is_read w l hold) (front_take (suc there) r.front h whole (omega arith) ∙ whole_take) ∙ sym taken.reads_is ∙ reads_so g)
               heard written end stops
-              (λ other. record {
+              (λ other uncut. record {
                 entry = e;
                 there = prefix_get r.front q.front there e front entry_here;
                 lawful = ap (λ l. is_spent (seat_at (replay w (l ++ e ∷ [])) seat)) (front_take there r.front q.front front (omega arith) ∙ found_take) ∙ ap (λ l. is_spent (seat_at (replay w l) seat)) (sym (entered_front did)) ∙ taken.unspent (unspent_so other);
@@ -196,11 +196,13 @@ module _ (w : World) (seat : ℕ) (key : List ℕ) (joined : Joined) (p r s : Pa
       first = none_first text;
       hand = [];
       behind = λ some. absurd (some refl);
-      all = λ g n. none_came text;
+      all = λ g c n. none_came text;
       closed = sym taken.reads_is ∙ none;
       kept = λ g. cc;
       cause = (there, Contains-push [] there, ap (λ l. is_spent (seat_at (replay w l) seat)) whole_take ∙ taken.spent none);
-      unspent = λ other. absurd (other refl);
+      uncut = λ c n. uncut_at_join w turn.turn.found r.front hold key (entered_front did) taken.last;
+      cuts = All-nil _;
+      unspent = λ other c. absurd (other refl);
     }
 
     pub sat_spent : (t : PassState Entry World) (held : Hold) (wrote : Wrote) (reader : ReaderState) (left before after : Option (List ℕ)) (faults_before faults_after : ℕ) (ended : Ended) → IsOpening w → held ≡ hold → reading ≡ false → ended ≡ ended_by reads.Spent wrote → HasWritten w held s t wrote before after

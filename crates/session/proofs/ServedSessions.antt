@@ -1,7 +1,7 @@
 -- Both halves in one history.
-use Rattle.std.proofs.Common.{◌≡◌, ◌≢◌, ℕ, ◌≤◌, ◌<◌, Bool, true, false, eqb, ◌&&◌, List, [], ◌∷◌, ◌++◌, length, take, suc, drop, slice_get, get_or, refl, sym, ◌∙◌, ap, subst, arith, ◌⊎◌, inl, inr, append_assoc}
-use Rattle.std.specs.Prelude.{Option, Some, None, All, Contains}
-use Rattle.std.proofs.lemmas.List.{append-nil, take-append-le, take_all, take-append-drop}
+use Rattle.std.proofs.Common.{◌≡◌, ◌≢◌, ℕ, ◌≤◌, ◌<◌, Bool, true, false, cond, eqb, ◌&&◌, List, ◌∷◌, ◌++◌, length, take, suc, drop, slice_get, get_or, refl, sym, ◌∙◌, ap, subst, arith, inl, inr, append_assoc}
+use Rattle.std.specs.Prelude.{Option, Some, All, Contains}
+use Rattle.std.proofs.lemmas.List.{take-append-le, take_all}
 use Rattle.std.proofs.lemmas.List.Elements.{All-cons, All-append, All-contains, Contains-append_cases}
 use Rattle.std.proofs.lemmas.Option.{slice_get_within}
 use mathlib.Core.List.{IsPrefix}
@@ -9,35 +9,39 @@ use Rattle.campaign_law.specs.declared.entry.Entry.{Entry}
 use Rattle.campaign_law.specs.declared.entry.Entry.TheVariants.{Join, Line, Leave, Taken, Cut}
 use Rattle.campaign_law.specs.World.{World, seat_at, replay}
 use Rattle.campaign_law.specs.Law.{IsOpening, bytes_of}
-use Rattle.campaign_law.proofs.SessionFronts.{session_grows, session_stays, ended_stays}
+use Rattle.campaign_law.proofs.SessionFronts.{session_stays, ended_stays}
 use Rattle.turn_lock.specs.Pass.{PassState}
-use Rattle.turn_lock.proofs.Prefixes.{prefix_get, prefix_self, prefix_trans, prefix_length}
+use Rattle.turn_lock.proofs.Prefixes.{prefix_get, prefix_self, prefix_trans}
 use Rattle.line_io.specs.Told.{WhereTold}
 use Rattle.line_io.specs.Reader.{bytes_to_come}
 use Rattle.line_io.specs.ReaderState.{ReaderState}
 use Rattle.session.specs.declared.hold.Hold.{Hold}
 use Rattle.session.specs.declared.hearing.ReadEnd.{ReadEnd}
 use Rattle.session.specs.declared.hearing.ReadEnd.TheVariants.{Bye, Spent, Stopped}
+use Rattle.session.specs.declared.hearing.ReadEnd.TheVariants as read_ends
 use Rattle.session.specs.declared.input.Stop.{Stop}
 use Rattle.session.specs.declared.input.Stop.TheVariants.{End, TooLong, ReadFault, Memory as NoMemory}
 use Rattle.session.specs.declared.sitting.Ended.{Ended}
 use Rattle.session.specs.declared.sitting.Ended.TheVariants.{Left as LeftSo}
+use Rattle.session.specs.declared.sitting.Ended.TheVariants as ends
 use Rattle.session.specs.declared.writing.Wrote.{Wrote}
 use Rattle.session.specs.declared.writing.Wrote.TheVariants.{All as AllWritten, Memory, WriteFault}
-use Rattle.session.specs.Held.{is_held, is_read, is_over, lines_of, HasJoined}
-use Rattle.session.specs.Own.{StandsAt, Got, takes_from, IsAlone}
-use Rattle.session.specs.Heard.{IsReaders, lines_at, CameBut, AreFirst, IsByeAt, IsSpentAt, IsUnspent, IsClosedBy, ClosedBy, HasHeard}
+use Rattle.session.specs.declared.writing.Wrote.TheVariants as write_ends
+use Rattle.session.specs.Held.{is_read, is_cut, is_over, lines_of, HasJoined}
+use Rattle.session.specs.Own.{StandsAt, takes_from, IsAlone}
+use Rattle.session.specs.Heard.{IsReaders, CameBut, AreFirst, IsByeAt, IsSpentAt, IsUnspent, IsClosedBy, ClosedBy, HasHeard}
 use Rattle.campaign_law.specs.Outcome.{seat_of}
 use Rattle.campaign_law.specs.Session.{closes}
 use Rattle.session.proofs.GoneSessions.{taken_never_closes, read_throughout}
-use Rattle.session.specs.Ends.{ended_by, is_whole}
+use Rattle.session.specs.Ends.{ended_by, is_whole, wants_memory}
 use Rattle.session.specs.Inputs.{Stops}
 use Rattle.session.specs.Spoken.{is_spent}
-use Rattle.session.specs.Written.{IsTakenOf, IsWriters, IsFirst, IsPart, WroteBy, HasWritten}
+use Rattle.session.specs.Written.{IsTakenOf, IsWriters, IsFirst, WroteBy, IsCutSo, HasWritten}
 use Rattle.session.specs.Served.{is_of_session, IsUndisturbed, IsSessions, IsFront, IsCause, IsServed}
 use Rattle.session.proofs.Alone.{joined_in_front, stands_longer, over_when_gone}
 use Rattle.session.proofs.MachineLines.{printed_by_machine}
-use Rattle.session.proofs.ReadingTurns.{lines_at-longer}
+use Rattle.session.proofs.ReadingTurns.{lines_at-longer, cuts_longer}
+use Rattle.session.proofs.Cutting.{cut_longer}
 use Rattle.session.proofs.WritingTurns.{bytes_of-append, bytes_of-parts, lines_longer}
 
 readers_session : (w : World) (hold : Hold) (count : ℕ) (l : List Entry) (e : Entry) → IsReaders w hold l e → IsSessions w hold count l e
@@ -45,7 +49,7 @@ readers_session w hold count l (Join seat key reader writer) is = is
 readers_session w hold count l (Line seat bytes) is = is
 readers_session w hold count l (Leave seat drop) is = (is.0, is.2)
 readers_session w hold count l (Taken seat taken) is = absurd is
-readers_session w hold count l (Cut seat) is = absurd is
+readers_session w hold count l (Cut seat) is = is
 
 writers_session : (w : World) (hold : Hold) (count : ℕ) (l : List Entry) (e : Entry) → IsWriters w hold count l e → IsSessions w hold count l e
 writers_session w hold count l (Join seat key reader writer) is = is
@@ -67,14 +71,14 @@ takes_of_session seat (Leave s drop) takes = second drop (eqb s seat) takes
     second true b h = h
     second false b h = cc
 takes_of_session seat (Taken s count) takes = takes
-takes_of_session seat (Cut s) takes = takes
+takes_of_session seat (Cut s) takes = cc
 
 readers_take_none : (w : World) (hold : Hold) (l : List Entry) (e : Entry) → IsReaders w hold l e → takes_from hold.seat e ≡ true → ⊥
 readers_take_none w hold l (Join seat key reader writer) is takes = is
 readers_take_none w hold l (Line seat bytes) is takes = cc
 readers_take_none w hold l (Leave seat drop) is takes = let z : false ≡ true = sym (ap (λ b. b && eqb seat hold.seat) is.1) ∙ takes in cc
 readers_take_none w hold l (Taken seat count) is takes = is
-readers_take_none w hold l (Cut seat) is takes = is
+readers_take_none w hold l (Cut seat) is takes = cc
 
 front_take : {A : Type 0} (k : ℕ) (f h : List A) → IsPrefix f h → k ≤ length f → take k h ≡ take k f
 front_take k f h prefix le = ap (take k) (sym prefix.1) ∙ take-append-le k f prefix.0 le
@@ -98,16 +102,20 @@ alone_of w f h readers writers hold prefix each quiet = record {
 prefix_append : {A : Type 0} (xs ys zs : List A) → IsPrefix ys zs → IsPrefix (xs ++ ys) (xs ++ zs)
 prefix_append xs ys zs prefix = (prefix.0, append_assoc xs ys prefix.0 ∙ ap (λ l. xs ++ l) prefix.1)
 
+wrote_first : (lines : List (List ℕ)) (count : ℕ) (text : List ℕ) → IsFirst lines count text → IsFront lines count text
+wrote_first lines count text wrote = record {
+  prefix = subst (λ l. IsPrefix l (bytes_of lines)) (sym wrote.text_is) (bytes_of (drop count lines), bytes_of-parts count lines);
+  whole = subst (λ l. IsPrefix (bytes_of (take count lines)) l) (sym wrote.text_is) (prefix_self (bytes_of (take count lines)));
+}
+
 -- what was written of the lines in a front is so of all of them
 wrote_front : (end : Wrote) (lines : List (List ℕ)) (count : ℕ) (text : List ℕ) → WroteBy end lines count text → IsFront lines count text
 wrote_front AllWritten lines count text wrote = record {
   prefix = subst (λ l. IsPrefix l (bytes_of lines)) (sym wrote.1) (prefix_self (bytes_of lines));
   whole = subst (λ l. IsPrefix (bytes_of (take count lines)) l) (sym wrote.1) (subst (λ l. IsPrefix (bytes_of l) (bytes_of lines)) (sym (take_all count lines (omega (arith, wrote.0)))) (prefix_self (bytes_of lines)));
 }
-wrote_front Memory lines count text wrote = record {
-  prefix = subst (λ l. IsPrefix l (bytes_of lines)) (sym wrote.text_is) (bytes_of (drop count lines), bytes_of-parts count lines);
-  whole = subst (λ l. IsPrefix (bytes_of (take count lines)) l) (sym wrote.text_is) (prefix_self (bytes_of (take count lines)));
-}
+wrote_front write_ends.Cut lines count text wrote = wrote_first lines count text wrote
+wrote_front Memory lines count text wrote = wrote_first lines count text wrote
 wrote_front WriteFault lines count text wrote = record {
   prefix = subst (λ l. IsPrefix l (bytes_of lines)) (sym wrote.text_is) (subst (IsPrefix (bytes_of (take count lines) ++ wrote.part)) (bytes_of-parts count lines) (prefix_append (bytes_of (take count lines)) wrote.part (bytes_of (drop count lines)) wrote.prefix));
   whole = (wrote.part, sym wrote.text_is);
@@ -121,6 +129,7 @@ front_longer lines more count text prefix le wrote = record {
 
 within_of : (end : Wrote) (lines : List (List ℕ)) (count : ℕ) (text : List ℕ) → WroteBy end lines count text → count ≤ length lines
 within_of AllWritten lines count text wrote = omega (arith, wrote.0)
+within_of write_ends.Cut lines count text wrote = wrote.within
 within_of Memory lines count text wrote = wrote.within
 within_of WriteFault lines count text wrote = wrote.within
 
@@ -134,9 +143,9 @@ quiet_in_front w f h own hold prefix quiet = record {
 
 -- a reading half whose session is undisturbed, and whose writing half dropped nothing, always finds the seat Joined
 never_gone : (w : World) (h : List Entry) (hold : Hold) (p q s t : PassState Entry World) (read : ReadEnd) (gone : Bool) (wrote : Wrote) (text rest before after : Option (List ℕ)) → HasJoined w h hold → (gone ≡ true → is_read w (take (suc hold.place) h) hold ≡ true)
-    → (heard : HasHeard w hold p q read gone text rest) → (written : HasWritten w hold s t wrote before after) → wrote ≡ AllWritten → hold.place < length q.front → IsPrefix q.front h → IsPrefix t.front h
+    → (heard : HasHeard w hold p q read gone text rest) → (written : HasWritten w hold s t wrote before after) → wrote ≡ AllWritten → is_cut w q.front hold ≡ false → hold.place < length q.front → IsPrefix q.front h → IsPrefix t.front h
     → IsUndisturbed w h (heard.more ++ written.more) hold → gone ≡ false
-never_gone w h hold p q s t read gone wrote text rest before after joined begun heard written all long reads writes quiet = by_gone gone refl
+never_gone w h hold p q s t read gone wrote text rest before after joined begun heard written all uncut long reads writes quiet = by_gone gone refl
   where
     harmless : (k : ℕ) (e : Entry) → Contains written.more k → slice_get q.front k ≡ Some e → (closes e && eqb (seat_of e) hold.seat) ≡ true → ⊥
     harmless k e mine there closing =
@@ -150,27 +159,51 @@ never_gone w h hold p q s t read gone wrote text rest before after joined begun 
     by_gone false e = refl
     by_gone true e =
         let begun_there = ap (λ l. is_read w l hold) (sym (front_take (suc hold.place) q.front h reads (omega (arith, long)))) ∙ begun e in
-        let read = read_throughout w q.front hold (joined_in_front w q.front h hold reads long joined) begun_there heard.more written.more (heard.kept e) harmless (quiet_in_front w q.front h (heard.more ++ written.more) hold reads quiet) (length q.front) long (omega arith) in
+        let read = read_throughout w q.front hold (joined_in_front w q.front h hold reads long joined) begun_there heard.more written.more uncut (heard.kept e) harmless (quiet_in_front w q.front h (heard.more ++ written.more) hold reads quiet) (length q.front) long (omega arith) in
         let z : true ≡ false = sym read ∙ ap (λ l. is_read w l hold) (take_all (length q.front) q.front (omega arith)) ∙ heard.closed in absurd cc
 
 -- ---- how it ended
 
--- a session that ended whole wrote all, and want of memory didn't stop its reading
-whole_of : (read : ReadEnd) (wrote : Wrote) → is_whole (ended_by read wrote) ≡ true → (wrote ≡ AllWritten) × (read ≢ Stopped NoMemory)
-whole_of Bye AllWritten so = (refl, λ e. cc)
-whole_of Spent AllWritten so = (refl, λ e. cc)
-whole_of (Stopped End) AllWritten so = (refl, λ e. cc)
-whole_of (Stopped TooLong) AllWritten so = (refl, λ e. cc)
-whole_of (Stopped ReadFault) AllWritten so = (refl, λ e. cc)
+never_whole : (b : Bool) → is_whole (cond b ends.Memory ends.Cut) ≡ true → ⊥
+never_whole true so = cc
+never_whole false so = cc
+
+never_left : (b : Bool) → cond b ends.Memory ends.Cut ≡ LeftSo → ⊥
+never_left true so = cc
+never_left false so = cc
+
+-- how a session ended that wasn't stopped: all was written, and neither a cut nor want of memory ended its reading
+record IsWhole (read : ReadEnd) (wrote : Wrote) : Type 0 where
+  wrote_all : wrote ≡ AllWritten
+  memory : read ≢ Stopped NoMemory
+  uncut : read ≢ read_ends.Cut
+
+whole_of : (read : ReadEnd) (wrote : Wrote) → is_whole (ended_by read wrote) ≡ true → IsWhole read wrote
+whole_of Bye AllWritten so = record { wrote_all = refl; memory = λ e. cc; uncut = λ e. cc }
+whole_of Spent AllWritten so = record { wrote_all = refl; memory = λ e. cc; uncut = λ e. cc }
+whole_of read_ends.Cut AllWritten so = cc
+whole_of (Stopped End) AllWritten so = record { wrote_all = refl; memory = λ e. cc; uncut = λ e. cc }
+whole_of (Stopped TooLong) AllWritten so = record { wrote_all = refl; memory = λ e. cc; uncut = λ e. cc }
+whole_of (Stopped ReadFault) AllWritten so = record { wrote_all = refl; memory = λ e. cc; uncut = λ e. cc }
 whole_of (Stopped NoMemory) AllWritten so = cc
+whole_of read write_ends.Cut so = absurd (never_whole (wants_memory read) so)
 whole_of read Memory so = cc
 whole_of read WriteFault so = cc
 
+-- neither front has a Cut of it
+pub whole_uncut : (w : World) (hold : Hold) (p q s t : PassState Entry World) (read : ReadEnd) (gone : Bool) (wrote : Wrote) (ended : Ended) (text rest before after : Option (List ℕ)) → ended ≡ ended_by read wrote → HasHeard w hold p q read gone text rest → HasWritten w hold s t wrote before after → is_whole ended ≡ true
+    → (is_cut w q.front hold ≡ false) × (is_cut w t.front hold ≡ false)
+whole_uncut w hold p q s t read gone wrote ended text rest before after end heard written so =
+    let all = whole_of read wrote (ap is_whole (sym end) ∙ so) in
+    (heard.uncut all.uncut all.memory, subst (λ x. IsCutSo x w t.front hold) all.wrote_all written.cut)
+
 -- one that just left wasn't ended by the seat's last line
-left_of : (read : ReadEnd) (wrote : Wrote) → ended_by read wrote ≡ LeftSo → read ≢ Spent
-left_of Bye AllWritten so = λ e. cc
+left_of : (read : ReadEnd) (wrote : Wrote) → ended_by read wrote ≡ LeftSo → (read ≢ Spent) × (read ≢ read_ends.Cut)
+left_of Bye AllWritten so = ((λ e. cc), (λ e. cc))
 left_of Spent AllWritten so = cc
-left_of (Stopped stop) AllWritten so = λ e. cc
+left_of read_ends.Cut AllWritten so = cc
+left_of (Stopped stop) AllWritten so = ((λ e. cc), (λ e. cc))
+left_of read write_ends.Cut so = absurd (never_left (wants_memory read) so)
 left_of read Memory so = cc
 left_of read WriteFault so = cc
 
@@ -185,15 +218,21 @@ module _ (w : World) (f h : List Entry) (hold : Hold) (own : List ℕ) (reader :
   own_within : (k : ℕ) → Contains (hold.place ∷ own) k → k < length f
   own_within k has = All-contains (λ k. k < length f) (hold.place ∷ own) k (All-cons (λ k. k < length f) hold.place own long within) has
 
-  pub cause_of : (read : ReadEnd) (wrote : Wrote) → ClosedBy read w f hold own → ((stop : Stop) → read ≡ Stopped stop → Stops stop reader left) → IsCause (ended_by read wrote) w h hold own reader left
-  cause_of read Memory closed stops = tt
-  cause_of read WriteFault closed stops = tt
-  cause_of Bye AllWritten closed stops = inl (closed.0, closed.1, bye_longer closed.0 closed.2)
-  cause_of Spent AllWritten closed stops = (closed.0, closed.1, spent_longer closed.0 (own_within closed.0 closed.1) closed.2)
-  cause_of (Stopped End) AllWritten closed stops = inr (stops End refl)
-  cause_of (Stopped TooLong) AllWritten closed stops = stops TooLong refl
-  cause_of (Stopped ReadFault) AllWritten closed stops = tt
-  cause_of (Stopped NoMemory) AllWritten closed stops = tt
+  cut_cause : (b : Bool) → is_cut w h hold ≡ true → IsCause (cond b ends.Memory ends.Cut) w h hold own reader left
+  cut_cause true cut = tt
+  cut_cause false cut = cut
+
+  pub cause_of : (read : ReadEnd) (wrote : Wrote) → (wrote ≡ write_ends.Cut → is_cut w h hold ≡ true) → ClosedBy read w f hold own → ((stop : Stop) → read ≡ Stopped stop → Stops stop reader left) → IsCause (ended_by read wrote) w h hold own reader left
+  cause_of read Memory cut closed stops = tt
+  cause_of read WriteFault cut closed stops = tt
+  cause_of read write_ends.Cut cut closed stops = cut_cause (wants_memory read) (cut refl)
+  cause_of Bye AllWritten cut closed stops = inl (closed.0, closed.1, bye_longer closed.0 closed.2)
+  cause_of Spent AllWritten cut closed stops = (closed.0, closed.1, spent_longer closed.0 (own_within closed.0 closed.1) closed.2)
+  cause_of read_ends.Cut AllWritten cut closed stops = cut_longer w f h hold prefix long closed
+  cause_of (Stopped End) AllWritten cut closed stops = inr (stops End refl)
+  cause_of (Stopped TooLong) AllWritten cut closed stops = stops TooLong refl
+  cause_of (Stopped ReadFault) AllWritten cut closed stops = tt
+  cause_of (Stopped NoMemory) AllWritten cut closed stops = tt
 
   closed_longer : IsClosedBy w f hold own → IsClosedBy w h hold own
   closed_longer closed = (closed.0, closed.1, elim closed.2 [ inl bye ↦ inl (bye_longer closed.0 bye) | inr spent ↦ inr (spent_longer closed.0 (All-contains (λ k. k < length f) own closed.0 within closed.1) spent) ])
@@ -204,7 +243,7 @@ stands_within rule f own each = λ i d lt. let at = each i d lt in slice_get_wit
 -- a session whose Join was accepted in the longer history
 pub served : (w : World) (h : List Entry) (hold : Hold) (p q s t : PassState Entry World) (read : ReadEnd) (gone : Bool) (wrote : Wrote) (ended : Ended) (text : Option (List ℕ)) (reader : ReaderState) (left before after : Option (List ℕ)) → IsOpening w → HasJoined w h hold
     → (gone ≡ true → is_read w (take (suc hold.place) h) hold ≡ true) → (heard : HasHeard w hold p q read gone text (bytes_to_come reader left)) → (written : HasWritten w hold s t wrote before after) → ended ≡ ended_by read wrote → ((stop : Stop) → read ≡ Stopped stop → Stops stop reader left)
-    → (read ≢ Spent → StandsAt (IsUnspent w hold) q.front hold.place)
+    → (read ≢ Spent → read ≢ read_ends.Cut → StandsAt (IsUnspent w hold) q.front hold.place)
     → hold.place < length q.front → IsPrefix q.front h → IsPrefix t.front h → IsServed w h hold heard.more written.more ended text reader left before after
 served w h hold p q s t read gone wrote ended text reader left before after opening joined begun heard written end stops first long reads writes =
     let readers : All (StandsAt (IsReaders w hold) h) heard.more = stands_longer (IsReaders w hold) q.front h heard.more reads heard.got.each in
@@ -219,6 +258,7 @@ served w h hold p q s t read gone wrote ended text reader left before after open
       each = All-append (StandsAt (IsSessions w hold written.count) h) heard.more written.more
           (weaker (IsReaders w hold) (IsSessions w hold written.count) h heard.more (readers_session w hold written.count) readers)
           (weaker (IsWriters w hold written.count) (IsSessions w hold written.count) h written.more (writers_session w hold written.count) writers);
+      cuts = cuts_longer w (IsReaders w hold) q.front h heard.more heard.more reads heard.got.each (λ k has. has) heard.cuts;
       lines = subst (λ l. AreFirst l text) (sym same) heard.first;
       over = subst (λ l. is_over w l hold ≡ true) writes.1 (ended_stays w t.front writes.0 hold.place hold.seat (let l = written.long in omega arith) over_there);
       written = λ quiet.
@@ -229,7 +269,7 @@ served w h hold p q s t read gone wrote ended text reader left before after open
       whole = λ quiet so.
           let all = whole_of read wrote (ap is_whole (sym end) ∙ so) in
           let by = written.wrote joined_there (alone_of w t.front h heard.more written.more hold writes readers quiet) in
-          let done = subst (λ x. WroteBy x (lines_of w t.front hold) written.count written.text) all.0 by in
+          let done = subst (λ x. WroteBy x (lines_of w t.front hold) written.count written.text) all.wrote_all by in
           let still : lines_of w h hold ≡ lines_of w t.front hold = subst (λ l. lines_of w l hold ≡ lines_of w t.front hold) writes.1 (session_stays w t.front writes.0 hold.place hold.seat (let l = written.long in omega arith) over_there) in
           done.1 ∙ ap bytes_of (sym still);
       player = λ player. printed_by_machine w h hold opening player;
@@ -237,11 +277,11 @@ served w h hold p q s t read gone wrote ended text reader left before after open
           let all = whole_of read wrote (ap is_whole (sym end) ∙ so) in
           record {
             hand = heard.hand;
-            came = subst (λ l. WhereTold text (bytes_to_come reader left) (CameBut heard.hand l)) (sym same) (heard.all (never_gone w h hold p q s t read gone wrote text (bytes_to_come reader left) before after joined begun heard written all.0 long reads writes quiet) all.1);
+            came = subst (λ l. WhereTold text (bytes_to_come reader left) (CameBut heard.hand l)) (sym same) (heard.all (never_gone w h hold p q s t read gone wrote text (bytes_to_come reader left) before after joined begun heard written all.wrote_all (heard.uncut all.uncut all.memory) long reads writes quiet) all.uncut all.memory);
             closed = λ some. closed_longer w q.front h hold heard.more reader left reads long (stands_within (IsReaders w hold) q.front heard.more heard.got.each) (heard.behind some);
           };
-      cause = subst (λ x. IsCause x w h hold heard.more reader left) (sym end) (cause_of w q.front h hold heard.more reader left reads long (stands_within (IsReaders w hold) q.front heard.more heard.got.each) read wrote heard.cause stops);
+      cause = subst (λ x. IsCause x w h hold heard.more reader left) (sym end) (cause_of w q.front h hold heard.more reader left reads long (stands_within (IsReaders w hold) q.front heard.more heard.got.each) read wrote (λ cut. cut_longer w t.front h hold writes written.long (subst (λ x. IsCutSo x w t.front hold) cut written.cut)) heard.cause stops);
       unspent = λ left_so.
           let other = left_of read wrote (sym end ∙ left_so) in
-          stands_longer (IsUnspent w hold) q.front h (hold.place ∷ heard.more) reads (All-cons (StandsAt (IsUnspent w hold) q.front) hold.place heard.more (first other) (heard.unspent other));
+          stands_longer (IsUnspent w hold) q.front h (hold.place ∷ heard.more) reads (All-cons (StandsAt (IsUnspent w hold) q.front) hold.place heard.more (first other.0 other.1) (heard.unspent other.0 other.1));
     }

@@ -1,5 +1,5 @@
 -- Turn after turn of the writing half.
-use Rattle.std.proofs.Common.{◌≡◌, ℕ, zero, suc, ◌≤◌, ◌<◌, ◌+◌, ◌-◌, Bool, true, false, cond, eqb, List, [], ◌∷◌, ◌++◌, length, take, drop, map, max, get_or, slice_get, refl, sym, ◌∙◌, ap, subst, arith, append_assoc, length-append, length-drop, ◌⊎◌, inl, inr}
+use Rattle.std.proofs.Common.{◌≡◌, ℕ, suc, ◌≤◌, ◌<◌, ◌+◌, Bool, true, false, cond, eqb, List, [], ◌∷◌, ◌++◌, length, take, drop, map, max, get_or, slice_get, refl, sym, ◌∙◌, ap, subst, arith, append_assoc, length-drop, inl, inr}
 use Rattle.std.specs.Prelude.{Option, Some, None, option_map, All, flat_map, filter}
 use Rattle.std.specs.Io.KnownBytes.{append_known}
 use Rattle.std.proofs.lemmas.List.{append-nil, take-append-le, drop-append-le, take-append-drop, take_all}
@@ -12,18 +12,18 @@ use Rattle.campaign_law.specs.Session.{session, waiting}
 use Rattle.campaign_law.specs.World.{World, seat_at, replay}
 use Rattle.campaign_law.specs.Law.{IsOpening, bytes_of}
 use Rattle.campaign_law.proofs.SessionFronts.{session_grows}
-use Rattle.turn_lock.specs.Pass.{PassState, HasTurn, Known, known, hears, places}
+use Rattle.turn_lock.specs.Pass.{PassState, HasTurn, known, hears, places}
 use Rattle.turn_lock.proofs.Prefixes.{prefix_self, prefix_trans, prefix_length}
 use Rattle.session.specs.declared.hold.Hold.{Hold}
 use Rattle.session.specs.declared.exchange.Found.{Found}
-use Rattle.session.specs.declared.exchange.Found.TheVariants.{Lines, Gone}
-use Rattle.session.specs.Held.{is_held, lines_of, is_over, HasJoined}
-use Rattle.session.specs.Exchanged.{Waits, WaitsAs, Finds, Exchanged}
-use Rattle.session.specs.Own.{StandsAt, Got, takes_from, IsAlone}
+use Rattle.session.specs.Held.{is_held, is_cut, lines_of, HasJoined}
+use Rattle.session.specs.Exchanged.{WaitsAs, Finds, Exchanged}
+use Rattle.session.specs.Own.{StandsAt, Got, IsAlone}
 use Rattle.session.specs.declared.writing.Wrote.{Wrote}
 use Rattle.session.specs.declared.writing.Wrote.TheVariants.{All as AllWritten, Memory, WriteFault}
-use Rattle.session.specs.Left.{Left}
-use Rattle.session.specs.Written.{IsTakenOf, IsWriters, line_ends, HasLines, IsFirst, IsPart, WroteBy, HasWritten, IsWriting}
+use Rattle.session.specs.declared.writing.Wrote.TheVariants as writes
+use Rattle.session.specs.Left.{LeftSo}
+use Rattle.session.specs.Written.{IsTakenOf, IsWriters, line_ends, HasLines, IsFirst, IsPart, WroteBy, IsCutSo, HasWritten, IsWriting}
 use Rattle.session.proofs.Alone.{joined_in_front, alone_in_front, stands_longer, more_counted, takes_within, drops_nothing, waits_next, no_more}
 
 append_known-none : (known : Option (List ℕ)) → known ≡ append_known known []
@@ -240,22 +240,38 @@ all_writers : (w : World) (hold : Hold) (count : ℕ) (h : List Entry) (own : Li
 all_writers w hold count h own each = λ i d lt. let at = each i d lt in record { entry = at.entry; there = at.there; lawful = writers_of w hold count (take (get_or own i d) h) at.entry at.lawful }
 
 -- its passes no longer hold the seat, so all was written
-pub writes_all : (w : World) (hold : Hold) (p r : PassState Entry World) (count : ℕ) (before mid : Option (List ℕ)) → IsOpening w → IsWriting w hold p r count before mid → hold.place < length r.front → is_held w r.front hold ≡ false → HasWritten w hold p r AllWritten before mid
-writes_all w hold p r count before mid opening is long gone = record {
+pub writes_all : (w : World) (hold : Hold) (p r : PassState Entry World) (count : ℕ) (before mid : Option (List ℕ)) → IsOpening w → IsWriting w hold p r count before mid → hold.place < length r.front → is_held w r.front hold ≡ false → is_cut w r.front hold ≡ false → HasWritten w hold p r AllWritten before mid
+writes_all w hold p r count before mid opening is long gone uncut = record {
   more = is.more;
   count = count;
   text = is.text;
   got = record { front = is.got.front; number = is.got.number; own = is.got.own; each = all_writers w hold count r.front is.more is.got.each };
   drops = λ _. is.got.each;
+  cut = uncut;
   long = long;
   gone = gone;
   has = is.has;
   wrote = λ joined alone.
       let all : List (List ℕ) = lines_of w r.front hold in
       let first = is.wrote joined alone in
-      let most = no_more w r.front hold count opening joined long (takes_within w r.front is.more hold count alone is.got.each) (drops_nothing w r.front is.more hold count alone is.got.each) gone in
+      let most = no_more w r.front hold count opening joined long (takes_within w r.front is.more hold count alone is.got.each) (drops_nothing w r.front is.more hold count alone is.got.each joined uncut) gone in
       let many : count ≡ length all = omega (arith, first.within, most) in
       (many, first.text_is ∙ ap bytes_of (take_all count all (omega (arith, many))));
+}
+
+-- the session was cut, and what waited was dropped
+pub writes_until_cut : (w : World) (hold : Hold) (p r : PassState Entry World) (count : ℕ) (before mid : Option (List ℕ)) → IsWriting w hold p r count before mid → hold.place < length r.front → is_held w r.front hold ≡ false → is_cut w r.front hold ≡ true → HasWritten w hold p r writes.Cut before mid
+writes_until_cut w hold p r count before mid is long gone cut = record {
+  more = is.more;
+  count = count;
+  text = is.text;
+  got = record { front = is.got.front; number = is.got.number; own = is.got.own; each = all_writers w hold count r.front is.more is.got.each };
+  drops = λ all. cc;
+  cut = cut;
+  long = long;
+  gone = gone;
+  has = is.has;
+  wrote = is.wrote;
 }
 
 -- what was written before a last turn
@@ -272,6 +288,7 @@ drop_prefix count lines more le prefix = (bytes_of prefix.0, sym (bytes_of-appen
 
 by_longer : (end : Wrote) (lines more : List (List ℕ)) (count : ℕ) (text : List ℕ) → IsPrefix lines more → (end ≡ AllWritten → ⊥) → WroteBy end lines count text → WroteBy end more count text
 by_longer AllWritten lines more count text prefix stopped wrote = absurd (stopped refl)
+by_longer writes.Cut lines more count text prefix stopped wrote = first_longer lines more count text prefix wrote
 by_longer Memory lines more count text prefix stopped wrote = first_longer lines more count text prefix wrote
 by_longer WriteFault lines more count text prefix stopped wrote = record {
   within = (let l = prefix_length lines more prefix in omega (arith, wrote.within));
@@ -281,9 +298,9 @@ by_longer WriteFault lines more count text prefix stopped wrote = record {
 }
 
 -- the turn in which it leaves the seat
-gives_up : (end : Wrote) (w : World) (hold : Hold) (p r s : PassState Entry World) (count : ℕ) (before after : Option (List ℕ)) (entered : Bool) → (end ≡ AllWritten → ⊥) → Before end w hold p r count before after → s.number ≡ r.number
-    → HasTurn (λ f l. Left w hold true f entered l) (cond entered (Leave hold.seat true ∷ []) []) (known r) (known s) → HasWritten w hold p s end before after
-gives_up end w hold p r s count before after entered stopped is number turn =
+gives_up : (end : Wrote) (w : World) (hold : Hold) (p r s : PassState Entry World) (count : ℕ) (before after : Option (List ℕ)) (entered cut : Bool) → (end ≡ AllWritten → ⊥) → IsCutSo end w s.front hold → Before end w hold p r count before after → s.number ≡ r.number
+    → HasTurn (λ f l. LeftSo w hold true f entered cut l) (cond entered (Leave hold.seat true ∷ []) []) (known r) (known s) → HasWritten w hold p s end before after
+gives_up end w hold p r s count before after entered cut stopped cut_so is number turn =
     let e : Entry = Leave hold.seat true in
     let es : List Entry = cond entered (e ∷ []) [] in
     let f : List Entry = turn.found in
@@ -294,7 +311,7 @@ gives_up end w hold p r s count before after entered stopped is number turn =
     let whole = prefix_length r.front s.front prefix in
     let older = prefix_length r.front f begins in
     let old : All (StandsAt (IsWriters w hold count) s.front) is.more = stands_longer (IsWriters w hold count) r.front s.front is.more prefix (all_writers w hold count r.front is.more is.got.each) in
-    let last : All (StandsAt (IsWriters w hold count) s.front) new = subst (λ l. All (StandsAt (IsWriters w hold count) l) new) (sym turn.front_is) (stands_last (IsWriters w hold count) f entered e (λ did. (refl, refl, turn.has_run.held did))) in
+    let last : All (StandsAt (IsWriters w hold count) s.front) new = subst (λ l. All (StandsAt (IsWriters w hold count) l) new) (sym turn.front_is) (stands_last (IsWriters w hold count) f entered e (λ did. (refl, refl, turn.has_run.left.held did))) in
     record {
       more = is.more ++ new;
       count = count;
@@ -306,23 +323,24 @@ gives_up end w hold p r s count before after entered stopped is number turn =
         each = All-append (StandsAt (IsWriters w hold count) s.front) is.more new old last;
       };
       drops = λ all. absurd (stopped all);
+      cut = cut_so;
       long = (let l = is.long in omega arith);
-      gone = turn.has_run.gone refl;
+      gone = turn.has_run.left.gone refl;
       has = is.has;
       wrote = λ joined alone. by_longer end (lines_of w r.front hold) (lines_of w s.front hold) count is.text (lines_longer w r.front s.front hold prefix is.long) stopped
           (is.wrote (joined_in_front w r.front s.front hold prefix is.long joined) (alone_in_front w r.front s.front is.more new hold prefix (late_places entered e (length r.front) (length f) older) alone));
     }
 
-pub stops_for_memory : (w : World) (hold : Hold) (p r s : PassState Entry World) (count : ℕ) (before mid : Option (List ℕ)) (entered : Bool) → IsWriting w hold p r count before mid → hold.place < length r.front → s.number ≡ r.number
-    → HasTurn (λ f l. Left w hold true f entered l) (cond entered (Leave hold.seat true ∷ []) []) (known r) (known s) → HasWritten w hold p s Memory before mid
-stops_for_memory w hold p r s count before mid entered is long number turn =
-    gives_up Memory w hold p r s count before mid entered (λ e. cc) (record { more = is.more; text = is.text; got = is.got; long = long; has = is.has; wrote = is.wrote }) number turn
+pub stops_for_memory : (w : World) (hold : Hold) (p r s : PassState Entry World) (count : ℕ) (before mid : Option (List ℕ)) (entered cut : Bool) → IsWriting w hold p r count before mid → hold.place < length r.front → s.number ≡ r.number
+    → HasTurn (λ f l. LeftSo w hold true f entered cut l) (cond entered (Leave hold.seat true ∷ []) []) (known r) (known s) → HasWritten w hold p s Memory before mid
+stops_for_memory w hold p r s count before mid entered cut is long number turn =
+    gives_up Memory w hold p r s count before mid entered cut (λ e. cc) tt (record { more = is.more; text = is.text; got = is.got; long = long; has = is.has; wrote = is.wrote }) number turn
 
-pub stops_for_fault : (w : World) (hold : Hold) (p r s : PassState Entry World) (count : ℕ) (before mid after : Option (List ℕ)) (text part : List ℕ) (number : ℕ) (entered : Bool) → IsOpening w → (is : IsWriting w hold p r count before mid) → hold.place < length r.front → is_held w r.front hold ≡ true → WaitsAs w r.front hold count text number
+pub stops_for_fault : (w : World) (hold : Hold) (p r s : PassState Entry World) (count : ℕ) (before mid after : Option (List ℕ)) (text part : List ℕ) (number : ℕ) (entered cut : Bool) → IsOpening w → (is : IsWriting w hold p r count before mid) → hold.place < length r.front → is_held w r.front hold ≡ true → WaitsAs w r.front hold count text number
     → IsPrefix part text → after ≡ append_known mid part → s.number ≡ r.number
-    → HasTurn (λ f l. Left w hold true f entered l) (cond entered (Leave hold.seat true ∷ []) []) (known r) (known s) → HasWritten w hold p s WriteFault before after
-stops_for_fault w hold p r s count before mid after text part number entered opening is long held found prefix written numbers turn =
-    gives_up WriteFault w hold p r s count before after entered (λ e. cc)
+    → HasTurn (λ f l. LeftSo w hold true f entered cut l) (cond entered (Leave hold.seat true ∷ []) []) (known r) (known s) → HasWritten w hold p s WriteFault before after
+stops_for_fault w hold p r s count before mid after text part number entered cut opening is long held found prefix written numbers turn =
+    gives_up WriteFault w hold p r s count before after entered cut (λ e. cc) tt
     (record {
       more = is.more;
       text = is.text ++ part;

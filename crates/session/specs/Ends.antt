@@ -1,5 +1,5 @@
 -- How a session ends, and the line that tells a refusal.
-use Rattle.std.specs.Prelude.{◌≡◌, ℕ, Bool, true, false, List, [], ◌∷◌, ◌++◌, Option}
+use Rattle.std.specs.Prelude.{◌≡◌, ℕ, Bool, true, false, if◌then◌else◌, List, [], ◌∷◌, ◌++◌, Option}
 use Rattle.std.specs.Io.KnownBytes.{append_known}
 use mathlib.Core.List.{IsPrefix}
 use Rattle.line_io.specs.Counts.{CountRose}
@@ -10,6 +10,7 @@ use Rattle.session.specs.declared.hearing.ReadEnd.TheVariants as reads
 use Rattle.session.specs.declared.writing.Wrote.{Wrote}
 use Rattle.session.specs.declared.writing.Wrote.TheVariants as writes
 use Rattle.session.specs.declared.sitting.Ended.{Ended}
+use Rattle.session.specs.Inputs.{is_memory}
 use Rattle.session.specs.declared.sitting.Ended.TheVariants as ends
 
 -- by why no further line was read
@@ -19,12 +20,21 @@ ended_at stops.TooLong = ends.TooLong
 ended_at stops.ReadFault = ends.ReadFault
 ended_at stops.Memory = ends.Memory
 
--- by how its halves ended: the first that holds of a fault of the output, want of memory, and how the reading ended
+-- the reading ended for want of memory
+abbrev pub wants_memory : ReadEnd → Bool
+wants_memory reads.Bye = false
+wants_memory reads.Spent = false
+wants_memory reads.Cut = false
+wants_memory (reads.Stopped stop) = is_memory stop
+
+-- by how its halves ended: the first that holds of a fault of the output, want of memory, a cut, and how the reading ended
 abbrev pub ended_by : ReadEnd → Wrote → Ended
 ended_by read writes.WriteFault = ends.WriteFault
 ended_by read writes.Memory = ends.Memory
+ended_by read writes.Cut = if wants_memory read then ends.Memory else ends.Cut
 ended_by reads.Bye writes.All = ends.Left
 ended_by reads.Spent writes.All = ends.Spent
+ended_by reads.Cut writes.All = ends.Cut
 ended_by (reads.Stopped stop) writes.All = ended_at stop
 
 -- all that came was entered, and all that was queued was written
@@ -33,6 +43,7 @@ is_whole ends.Left = true
 is_whole (ends.Refused refusal) = false
 is_whole ends.TooLong = true
 is_whole ends.Spent = true
+is_whole ends.Cut = false
 is_whole ends.ReadFault = true
 is_whole ends.WriteFault = false
 is_whole ends.Memory = false

@@ -1,12 +1,12 @@
 -- What a turn of the writing half finds and enters.
-use Rattle.std.specs.Prelude.{◌≡◌, ℕ, Bool, true, false, List, length, flat_map, Option, Some, option_map}
+use Rattle.std.specs.Prelude.{◌≡◌, ℕ, Bool, true, false, List, length, flat_map, Some, option_map}
 use Rattle.campaign_law.specs.declared.entry.Entry.{Entry}
 use Rattle.campaign_law.specs.World.{World, seat_at, replay}
 use Rattle.campaign_law.specs.Session.{session, waiting}
 use Rattle.session.specs.declared.hold.Hold.{Hold}
 use Rattle.session.specs.declared.exchange.Found.{Found}
-use Rattle.session.specs.declared.exchange.Found.TheVariants.{Lines, Gone, Memory}
-use Rattle.session.specs.Held.{is_held}
+use Rattle.session.specs.declared.exchange.Found.TheVariants.{Lines, Gone, Cut, Memory}
+use Rattle.session.specs.Held.{is_held, is_cut}
 
 -- these lines wait behind the first `count`, each with its LF
 abbrev pub Waits : World → List Entry → Hold → ℕ → List (List ℕ) → Type 0
@@ -21,7 +21,8 @@ pub record WaitsAs (w : World) (h : List Entry) (hold : Hold) (count : ℕ) (tex
 
 abbrev pub Finds : World → Hold → ℕ → List Entry → Found → Type 0
 Finds w hold count h (Lines text number) = (is_held w h hold ≡ true) × WaitsAs w h hold count text number
-Finds w hold count h Gone = is_held w h hold ≡ false
+Finds w hold count h Gone = (is_held w h hold ≡ false) × (is_cut w h hold ≡ false)
+Finds w hold count h Cut = (is_held w h hold ≡ false) × (is_cut w h hold ≡ true)
 Finds w hold count h Memory = Unit {0}
 
 -- the turn found one history and left another

@@ -4,7 +4,6 @@ use Rattle.command_json.specs.Commands.{command_of}
 use Rattle.campaign_law.specs.Hellos.{hello_part}
 use Rattle.session.specs.declared.first_line.FirstLine.{FirstLine}
 use Rattle.session.specs.declared.first_line.FirstLine.TheVariants as first
-use Rattle.session.specs.declared.input.Stop.{Stop}
 use Rattle.session.specs.declared.input.Stop.TheVariants.{Memory}
 use Rattle.session.specs.Inputs.{CameFirst, StopsBefore}
 

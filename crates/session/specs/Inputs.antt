@@ -1,11 +1,17 @@
 -- The lines of an input, and why no further one is read.
-use Rattle.std.specs.Prelude.{◌≡◌, ◌≢◌, ℕ, true, List, ◌++◌, length, Option}
+use Rattle.std.specs.Prelude.{◌≡◌, ◌≢◌, ℕ, Bool, true, false, List, ◌++◌, length, Option}
 use Rattle.std.specs.Io.KnownBytes.{IsAtEnd}
 use Rattle.line_io.specs.Lines.{HasNoLineEnd, lines_of as text_lines}
 use Rattle.line_io.specs.ReaderState.{ReaderState}
 use Rattle.line_io.specs.Told.{WhereTold}
 use Rattle.session.specs.declared.input.Stop.{Stop}
 use Rattle.session.specs.declared.input.Stop.TheVariants.{End, TooLong, ReadFault, Memory}
+
+abbrev pub is_memory : Stop → Bool
+is_memory End = false
+is_memory TooLong = false
+is_memory ReadFault = false
+is_memory Memory = true
 
 -- a reader of lines of at most 4,096 bytes of a source that has this left. Where it met an end, it is the source's
 pub record IsReaderOf (reader : ReaderState) (left : Option (List ℕ)) : Type 0 where

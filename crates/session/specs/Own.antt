@@ -1,11 +1,10 @@
 -- What a pass entered, and what others entered for the seat of a session.
-use Rattle.std.specs.Prelude.{◌≡◌, ◌<◌, ℕ, Bool, true, false, ◌==◌, ◌&&◌, ◌||◌, All, Contains, List, ◌++◌, take, slice_get, Some}
+use Rattle.std.specs.Prelude.{◌≡◌, ◌<◌, ℕ, Bool, true, false, ◌==◌, ◌&&◌, All, Contains, List, ◌++◌, take, slice_get, Some}
 use mathlib.Core.List.{IsPrefix}
 use Rattle.campaign_law.specs.declared.entry.Entry.{Entry}
 use Rattle.campaign_law.specs.declared.entry.Entry.TheVariants.{Join, Line, Leave, Taken, Cut}
-use Rattle.campaign_law.specs.Outcome.{seat_of}
 use Rattle.campaign_law.specs.World.{World}
-use Rattle.campaign_law.specs.Session.{is_drop_of, NoneRejoins}
+use Rattle.campaign_law.specs.Session.{NoneRejoins}
 use Rattle.turn_lock.specs.Pass.{PassState}
 use Rattle.session.specs.declared.hold.Hold.{Hold}
 use Rattle.session.specs.Held.{is_over}
@@ -28,13 +27,13 @@ pub record Got (rule : List Entry → Entry → Type 0) {Origin : Type 0} (old n
   pub own : new.own ≡ old.own ++ more
   pub each : All (StandsAt rule new.front) more
 
--- a Taken of the seat, a Leave that drops its lines, or a Cut of it
+-- a Taken of the seat, or a Leave that drops its lines
 abbrev pub takes_from : ℕ → Entry → Bool
 takes_from seat (Join s key reader writer) = false
 takes_from seat (Line s bytes) = false
 takes_from seat (Leave s drop) = drop && (s == seat)
 takes_from seat (Taken s count) = s == seat
-takes_from seat (Cut s) = s == seat
+takes_from seat (Cut s) = false
 
 -- From the Join until the seat is Free nobody else takes or drops its lines, and nobody else joins with its numbers
 pub record IsAlone (w : World) (h : List Entry) (own : List ℕ) (hold : Hold) : Type 0 where

@@ -1,5 +1,5 @@
 -- What a session did that read a hello.
-use Rattle.std.specs.Prelude.{◌≡◌, ℕ, List, [], ◌∷◌, ◌++◌, take, slice_get, Option, Some}
+use Rattle.std.specs.Prelude.{◌≡◌, ℕ, true, false, List, [], ◌∷◌, ◌++◌, take, slice_get, Option, Some}
 use mathlib.Core.List.{IsPrefix}
 use Rattle.line_io.specs.Reader.{bytes_to_come}
 use Rattle.line_io.specs.ReaderState.{ReaderState}
@@ -11,10 +11,9 @@ use Rattle.turn_lock.specs.Pass.{PassState}
 use Rattle.session.specs.declared.hold.Hold.{Hold}
 use Rattle.session.specs.declared.sitting.Ended.{Ended}
 use Rattle.session.specs.declared.sitting.Ended.TheVariants as ends
-use Rattle.session.specs.Ends.{WroteLine}
-use Rattle.session.specs.Held.{HasJoined}
+use Rattle.session.specs.Ends.{WroteLine, is_whole}
+use Rattle.session.specs.Held.{HasJoined, is_cut}
 use Rattle.session.specs.Joined.{IsRefusedBy}
-use Rattle.session.specs.Own.{Grew}
 use Rattle.session.specs.Served.{IsServed}
 
 -- the pass got one own place, where this entry stands
@@ -38,6 +37,8 @@ pub record IsSeatedSo (w : World) (e : Entry) (hold : Hold) (p q s t : PassState
   pub writer_own : t.own ≡ s.own ++ writers
   pub there : slice_get q.front hold.place ≡ Some e
   pub joined : HasJoined w q.front hold
+  -- where it ended otherwise than as cut, by its output or for want of memory, neither front has a Cut of the session
+  pub uncut : is_whole ended ≡ true → (is_cut w q.front hold ≡ false) × (is_cut w t.front hold ≡ false)
   pub served : (h : List Entry) → IsPrefix q.front h → IsPrefix t.front h → IsServed w h hold readers writers ended text reader left before after
 
 -- With the reader's pass before and after it, p and q, and the writer's, s and t. Its input had this text to come, and the reader and the source have the rest

@@ -9,14 +9,15 @@ use Rattle.campaign_law.specs.World.{World}
 use Rattle.session.specs.declared.hold.Hold.{Hold}
 use Rattle.session.specs.declared.exchange.Found.{Found}
 use Rattle.session.specs.declared.writing.Wrote.{Wrote}
-use Rattle.session.specs.declared.writing.Wrote.TheVariants.{All as AllWritten, Memory, WriteFault}
+use Rattle.session.specs.declared.writing.Wrote.TheVariants.{All as AllWritten, Cut, Memory, WriteFault}
 use Rattle.session.specs.Exchanged.{Exchanged}
-use Rattle.session.specs.Left.{Left}
+use Rattle.session.specs.Left.{LeftSo}
 
 -- the text of so many further lines was written, none of it, or a part
 abbrev pub Sends : Result ℕ Wrote → List ℕ → ℕ → ℕ → Option (List ℕ) → Option (List ℕ) → Type 0
 Sends (Ok next) text count lines before after = (next ≡ count + lines) × (after ≡ append_known before text)
 Sends (Err AllWritten) text count lines before after = ⊥
+Sends (Err Cut) text count lines before after = ⊥
 Sends (Err Memory) text count lines before after = after ≡ before
 Sends (Err WriteFault) text count lines before after = TookPrefix before text after
 
@@ -28,4 +29,5 @@ pub record Exchanges (w : World) (hold : Hold) (count : ℕ) (found : Found) (p 
 pub record Drops (w : World) (hold : Hold) (p q : PassState Entry World) : Type 0 where
   pub number : q.number ≡ p.number
   pub entered : Bool
-  pub turn : HasTurn (λ before after. Left w hold true before entered after) (if entered then Leave hold.seat true ∷ [] else []) (known p) (known q)
+  pub cut : Bool
+  pub turn : HasTurn (λ before after. LeftSo w hold true before entered cut after) (if entered then Leave hold.seat true ∷ [] else []) (known p) (known q)

@@ -1,8 +1,7 @@
 -- What a session did, in a history that both of its passes know a front of.
-use Rattle.std.specs.Prelude.{◌≡◌, ◌≢◌, ◌<◌, ◌≤◌, ◌==◌, ◌⊎◌, ℕ, Bool, true, false, All, Contains, List, [], ◌∷◌, ◌++◌, length, take, slice_get, Option, Some}
+use Rattle.std.specs.Prelude.{◌≡◌, ◌≢◌, ◌<◌, ◌≤◌, ◌==◌, ◌⊎◌, ℕ, Bool, true, false, All, Contains, List, [], ◌∷◌, ◌++◌, take, slice_get, Option, Some}
 use Rattle.std.specs.Io.KnownBytes.{IsAtEnd}
 use mathlib.Core.List.{IsPrefix}
-use Rattle.line_io.specs.Lines.{HasNoLineEnd}
 use Rattle.line_io.specs.Reader.{bytes_to_come}
 use Rattle.line_io.specs.ReaderState.{ReaderState}
 use Rattle.line_io.specs.Told.{WhereTold}
@@ -12,27 +11,28 @@ use Rattle.campaign_law.specs.World.{World}
 use Rattle.campaign_law.specs.Law.{bytes_of}
 use Rattle.campaign_law.specs.Player.{opening, trace, machine}
 use Rattle.campaign_law.specs.Session.{NoneRejoins}
+use Rattle.campaign_core.specs.Over.{over_of}
 use Rattle.session.specs.declared.hold.Hold.{Hold}
 use Rattle.session.specs.declared.sitting.Ended.{Ended}
 use Rattle.session.specs.declared.sitting.Ended.TheVariants as ends
 use Rattle.session.specs.declared.input.Stop.TheVariants.{TooLong}
 use Rattle.session.specs.Inputs.{Stops}
-use Rattle.session.specs.Held.{is_held, is_read, is_over, lines_of}
+use Rattle.session.specs.Held.{is_held, is_read, is_cut, is_over, lines_of}
 use Rattle.session.specs.Own.{StandsAt}
-use Rattle.session.specs.Heard.{lines_at, CameBut, AreFirst, IsByeAt, IsSpentAt, IsUnspent, IsClosedBy}
+use Rattle.session.specs.Heard.{lines_at, CameBut, AreFirst, IsByeAt, IsSpentAt, IsUnspent, IsClosedBy, CutsBehindLines}
 use Rattle.session.specs.Written.{HasLines}
 use Rattle.session.specs.Ends.{is_whole}
 use Rattle.session.specs.Among.{AreAmong}
 
--- a Line, a Leave, a Taken or a Cut of the seat
+-- a Line, a Leave or a Taken of the seat
 abbrev pub is_of_session : ℕ → Entry → Bool
 is_of_session seat (Join s key reader writer) = false
 is_of_session seat (Line s bytes) = s == seat
 is_of_session seat (Leave s drop) = s == seat
 is_of_session seat (Taken s count) = s == seat
-is_of_session seat (Cut s) = s == seat
+is_of_session seat (Cut s) = false
 
--- From the session's Join until its seat is Free each Line, Leave, Taken and Cut of the seat is its own, and nobody joins the seat with its numbers again
+-- From the session's Join until its seat is Free each Line, Leave and Taken of the seat is its own, and nobody joins the seat with its numbers again
 pub record IsUndisturbed (w : World) (h : List Entry) (own : List ℕ) (hold : Hold) : Type 0 where
   pub own_alone : (k : ℕ) (e : Entry) → hold.place < k → is_over w (take k h) hold ≡ false → slice_get h k ≡ Some e → is_of_session hold.seat e ≡ true → Contains own k
   pub once : NoneRejoins h hold.place hold.seat hold.reader hold.writer
@@ -43,7 +43,7 @@ IsSessions w hold count before (Join seat key reader writer) = ⊥
 IsSessions w hold count before (Line seat bytes) = (seat ≡ hold.seat) × (is_read w before hold ≡ true)
 IsSessions w hold count before (Leave seat drop) = (seat ≡ hold.seat) × (is_held w before hold ≡ true)
 IsSessions w hold count before (Taken seat taken) = (seat ≡ hold.seat) × (taken ≤ count) × (is_held w before hold ≡ true)
-IsSessions w hold count before (Cut seat) = ⊥
+IsSessions w hold count before (Cut seat) = over_of w before ≡ Some seat
 
 -- of the session's lines this text was written, and so many of them whole
 pub record IsFront (lines : List (List ℕ)) (count : ℕ) (text : List ℕ) : Type 0 where
@@ -56,6 +56,7 @@ IsCause ends.Left w h hold readers reader left = ((k : ℕ) × Contains readers 
 IsCause (ends.Refused refusal) w h hold readers reader left = ⊥
 IsCause ends.TooLong w h hold readers reader left = Stops TooLong reader left
 IsCause ends.Spent w h hold readers reader left = (k : ℕ) × Contains (hold.place ∷ readers) k × IsSpentAt w h hold.seat k
+IsCause ends.Cut w h hold readers reader left = is_cut w h hold ≡ true
 IsCause ends.ReadFault w h hold readers reader left = Unit {0}
 IsCause ends.WriteFault w h hold readers reader left = Unit {0}
 IsCause ends.Memory w h hold readers reader left = Unit {0}
@@ -73,6 +74,8 @@ pub record IsServed (w : World) (h : List Entry) (hold : Hold) (readers writers 
   -- no Taken says more than the number of lines that were written whole
   pub has : HasLines output count before after
   pub each : All (StandsAt (IsSessions w hold count) h) (readers ++ writers)
+  -- right behind each Line stand Cuts of the seats for which too much waits, until there is none
+  pub cuts : CutsBehindLines w h readers
   -- the Lines are the first lines that came, each once and in order
   pub lines : AreFirst (lines_at h readers) text
   pub over : is_over w h hold ≡ true

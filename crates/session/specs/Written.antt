@@ -9,7 +9,8 @@ use Rattle.campaign_law.specs.Law.{bytes_of}
 use Rattle.session.specs.declared.hold.Hold.{Hold}
 use Rattle.session.specs.declared.writing.Wrote.{Wrote}
 use Rattle.session.specs.declared.writing.Wrote.TheVariants.{All as AllWritten, Memory, WriteFault}
-use Rattle.session.specs.Held.{is_held, lines_of, HasJoined}
+use Rattle.session.specs.declared.writing.Wrote.TheVariants as writes
+use Rattle.session.specs.Held.{is_held, is_cut, lines_of, HasJoined}
 use Rattle.turn_lock.specs.Pass.{PassState}
 use Rattle.session.specs.Own.{StandsAt, Got, IsAlone}
 
@@ -64,8 +65,16 @@ pub record IsWriting (w : World) (hold : Hold) (p q : PassState Entry World) (co
 -- what was written of a session's lines, by how the writing half ended
 abbrev pub WroteBy : Wrote → List (List ℕ) → ℕ → List ℕ → Type 0
 WroteBy AllWritten lines count text = (count ≡ length lines) × (text ≡ bytes_of lines)
+WroteBy writes.Cut lines count text = IsFirst lines count text
 WroteBy Memory lines count text = IsFirst lines count text
 WroteBy WriteFault lines count text = IsPart lines count text
+
+-- whether the session was cut, where the writing half looked
+abbrev pub IsCutSo : Wrote → World → List Entry → Hold → Type 0
+IsCutSo AllWritten w h hold = is_cut w h hold ≡ false
+IsCutSo writes.Cut w h hold = is_cut w h hold ≡ true
+IsCutSo Memory w h hold = Unit {0}
+IsCutSo WriteFault w h hold = Unit {0}
 
 -- The writing half ended, which began with the pass p and wrote so many lines whole
 pub record HasWritten (w : World) (hold : Hold) (p q : PassState Entry World) (end : Wrote) (before after : Option (List ℕ)) : Type 0 where
@@ -75,6 +84,7 @@ pub record HasWritten (w : World) (hold : Hold) (p q : PassState Entry World) (e
   pub got : Got (IsWriters w hold count) p q more
   -- unless it stopped, it dropped nothing
   pub drops : end ≡ AllWritten → All (StandsAt (IsTakenOf w hold count) q.front) more
+  pub cut : IsCutSo end w q.front hold
   -- its front has the Join, and its passes no longer hold the seat
   pub long : hold.place < length q.front
   pub gone : is_held w q.front hold ≡ false

@@ -1,10 +1,11 @@
 //! The turn of the writing half: how many lines were written, and those that wait.
-ghost use Rattle.std.specs.Prelude.{◌≡◌, ◌++◌, ◌∷◌, [], if◌then◌else◌, false};
+ghost use Rattle.std.specs.Prelude.{◌≡◌, ◌++◌, ◌∷◌, [], ℕ, if◌then◌else◌, false};
 ghost use Rattle.campaign_law.specs.declared.entry.Entry.TheVariants.{Taken};
 ghost use Rattle.session.specs.Exchanged.{Exchanged, Finds};
+ghost use Rattle.session.specs.Held.{is_held as is_held_lem};
 
 use crate::Table;
-use crate::hold::{Hold, is_held};
+use crate::hold::{Hold, is_cut, is_held};
 use campaign_law::Entry;
 use names::LineText;
 use turn_lock::{Job, Object};
@@ -16,6 +17,8 @@ pub(crate) enum Found {
     Lines { text: LineText, lines: u64 },
     /// Its passes no longer hold the seat.
     Gone,
+    /// Its passes no longer hold the seat, and the session was cut.
+    Cut,
     /// Want of memory.
     Memory,
 }
@@ -67,7 +70,7 @@ impl Exchange {
         ensures ran { Exchanged campaign.old.origin self.old.hold self.old.count campaign.old.history self.new.entered result campaign.new.history }
     {
         if !is_held(campaign, &self.hold) {
-            return Found::Gone;
+            return gone(campaign, &self.hold);
         }
         if self.news {
             if campaign.step(self.taken()).is_err() {
@@ -94,10 +97,22 @@ fn waiting(campaign: &Table, hold: &Hold, count: u64) -> Found
     ensures { Finds campaign.now.origin hold.now count campaign.now.history result }
 {
     if !is_held(campaign, hold) {
-        return Found::Gone;
+        return gone(campaign, hold);
     }
     match campaign.text_for(hold.seat, count) {
         Ok((text, lines)) => Found::Lines { text, lines },
         Err(_) => Found::Memory,
+    }
+}
+
+// How it is gone.
+fn gone(campaign: &Table, hold: &Hold) -> Found
+    requires { is_held_lem campaign.now.origin campaign.now.history hold.now ≡ false }
+    ensures { (count : ℕ) → Finds campaign.now.origin hold.now count campaign.now.history result }
+{
+    if is_cut(campaign, hold) {
+        Found::Cut
+    } else {
+        Found::Gone
     }
 }

@@ -3,9 +3,11 @@ ghost use Rattle.std.specs.Prelude.{◌≡◌, ◌≤◌, true, false};
 ghost use Rattle.line_io.specs.Counts.{CountRose};
 ghost use Rattle.line_io.specs.Reader.{bytes_to_come};
 ghost use Rattle.turn_lock.specs.Pass.{IsPassOf};
+ghost use Rattle.campaign_law.specs.Law.{IsOpening};
 ghost use Rattle.session.specs.Inputs.{IsReaderOf, Stops};
 ghost use Rattle.session.specs.declared.hearing.ReadEnd.TheVariants.{Stopped};
-ghost use Rattle.session.specs.Heard.{HasHeard};
+ghost use Rattle.session.specs.Heard.{HasHeard, stopped as stopped_lem};
+ghost use Rattle.session.specs.Ends.{wants_memory};
 ghost use Rattle.session.specs.Turned.{SpeaksAll, Leaves};
 
 use crate::Table;
@@ -26,13 +28,24 @@ pub(crate) enum ReadEnd {
     Bye,
     /// The seat's last line was entered.
     Spent,
+    /// The session was cut.
+    Cut,
     /// No further line was read.
     Stopped(Stop),
 }
 
+impl ReadEnd {
+    /// Whether the reading ended for want of memory.
+    pub(crate) fn is_memory(self) -> bool
+        ensures { result ≡ wants_memory self }
+    {
+        matches!(self, ReadEnd::Stopped(Stop::Memory))
+    }
+}
+
 /// Enters the lines of the input, those that came together in one turn, until the session ends or the input does. Where
-/// the session's passes no longer hold the seat as Joined, it reads on to the end and enters nothing
-/// more; the second part of the answer tells that.
+/// the session was cut it ends. Where its passes no longer hold the seat as Joined for another cause, it reads on to the
+/// end and enters nothing more; the second part of the answer tells that.
 pub(crate) fn read_half<R: Wait, I: Source>(
     rt: &R,
     alloc: Global,
@@ -43,6 +56,7 @@ pub(crate) fn read_half<R: Wait, I: Source>(
     input: &mut I,
 ) -> (ReadEnd, bool)
     requires hall { IsPassOf hall.now pass.old }
+    requires opening { IsOpening hall.now.origin }
     requires reader { IsReaderOf reader.old (I.left input.old) }
     ensures hall { IsPassOf hall.now pass.new }
     ensures reader { IsReaderOf reader.new (I.left input.new) }
@@ -55,14 +69,15 @@ pub(crate) fn read_half<R: Wait, I: Source>(
         let lines = match next_lines(alloc, reader, input) {
             Ok(lines) => lines,
             Err(stop) => {
-                leave(rt, hall, pass, hold);
-                return (ReadEnd::Stopped(stop), false);
+                let cut = leave(rt, hall, pass, hold);
+                return (stopped(stop, cut), false);
             }
         };
         match speak(rt, hall, pass, hold, lines) {
             Said::Goes => {}
             Said::Bye => return (ReadEnd::Bye, false),
             Said::Spent => return (ReadEnd::Spent, false),
+            Said::Cut => return (ReadEnd::Cut, false),
             Said::Gone => return (ReadEnd::Stopped(read_on(rt, reader, input)), true),
             Said::Memory => {
                 leave(rt, hall, pass, hold);
@@ -71,6 +86,16 @@ pub(crate) fn read_half<R: Wait, I: Source>(
         }
     }
     unreachable!()
+}
+
+// How the reading ended where no further line was read, and the session was cut or not. Want of memory is told first.
+fn stopped(stop: Stop, cut: bool) -> ReadEnd
+    ensures { result ≡ stopped_lem cut stop }
+{
+    if cut && !stop.is_memory() {
+        return ReadEnd::Cut;
+    }
+    ReadEnd::Stopped(stop)
 }
 
 // One turn: the lines are entered, as long as the passes hold the seat as Joined.
@@ -95,16 +120,18 @@ fn speak<R: Wait>(
     turn.said
 }
 
-// One turn, after which the seat's lines aren't read any more.
-fn leave<R: Wait>(rt: &R, hall: &Hall<Table>, pass: &mut Pass<Table>, hold: &Hold)
+// One turn, after which the seat's lines aren't read any more. Whether the session was cut.
+fn leave<R: Wait>(rt: &R, hall: &Hall<Table>, pass: &mut Pass<Table>, hold: &Hold) -> bool
     requires { IsPassOf hall.now pass.old }
     ensures hall { IsPassOf hall.now pass.new }
-    ensures turn { Leaves hall.now.origin hold.now pass.old pass.new }
+    ensures turn { Leaves hall.now.origin hold.now result pass.old pass.new }
 {
     let mut turn = Leaving {
         hold: hold.copy(),
         drop: false,
         entered: false,
+        cut: false,
     };
     hall.act(rt, pass, &mut turn);
+    turn.cut
 }

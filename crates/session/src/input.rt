@@ -2,7 +2,7 @@
 ghost use Rattle.std.specs.Prelude.{◌≡◌, ◌≤◌, ◌∷◌, [], ℕ, List, Option, IfOk, IfErr, Err};
 ghost use Rattle.line_io.specs.Counts.{CountRose};
 ghost use Rattle.line_io.specs.Reader.{bytes_to_come};
-ghost use Rattle.session.specs.Inputs.{IsReaderOf, CameFirst, StopsBefore, Stops};
+ghost use Rattle.session.specs.Inputs.{IsReaderOf, CameFirst, StopsBefore, Stops, is_memory as is_memory_lem};
 
 use line_io::{LineReader, NextLine, Source};
 use names::LineText;
@@ -26,6 +26,14 @@ pub(crate) enum Stop {
     ReadFault,
     /// Want of memory.
     Memory,
+}
+
+impl Stop {
+    pub(crate) fn is_memory(self) -> bool
+        ensures { result ≡ is_memory_lem self }
+    {
+        matches!(self, Stop::Memory)
+    }
 }
 
 /// The next line of the input.

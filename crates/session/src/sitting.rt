@@ -25,8 +25,8 @@ use std::sync::Wait;
 use std::thread::Threads;
 use turn_lock::{Hall, Pass};
 
-/// How a session ended: the first of these whose cause holds, in the order Refused, WriteFault, Memory, ReadFault, TooLong,
-/// Spent, Left.
+/// How a session ended: the first of these whose cause holds, in the order Refused, WriteFault, Memory, Cut, ReadFault,
+/// TooLong, Spent, Left.
 #[derive(Clone, Copy, Debug, PartialEq, Eq)]
 pub enum Ended {
     /// A bye was entered, or the input was read to its end.
@@ -37,6 +37,8 @@ pub enum Ended {
     TooLong,
     /// The session's Join or a line of it was the seat's last.
     Spent,
+    /// The seat was cut while the session's passes held it as Joined: too much waited for it.
+    Cut,
     /// The input failed, and counted it.
     ReadFault,
     /// The output failed, and counted it.
@@ -178,9 +180,17 @@ fn ended_by(read: ReadEnd, wrote: Wrote) -> Ended
     match wrote {
         Wrote::WriteFault => Ended::WriteFault,
         Wrote::Memory => Ended::Memory,
+        Wrote::Cut => {
+            if read.is_memory() {
+                Ended::Memory
+            } else {
+                Ended::Cut
+            }
+        }
         Wrote::All => match read {
             ReadEnd::Bye => Ended::Left,
             ReadEnd::Spent => Ended::Spent,
+            ReadEnd::Cut => Ended::Cut,
             ReadEnd::Stopped(stop) => stopped(stop),
         },
     }

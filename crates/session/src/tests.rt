@@ -3,6 +3,7 @@ ghost use Rattle.std.specs.Prelude.{◌≡◌, ◌<◌, ◌+◌, IfOk};
 ghost use Rattle.turn_lock.specs.Pass.{IsPassOf, IsUsherOf};
 ghost use Rattle.campaign_law.specs.Law.{IsOpening};
 
+mod cut_off;
 mod guests;
 mod side_by_side;
 

@@ -20,6 +20,8 @@ use turn_lock::{Hall, Pass};
 pub(crate) enum Wrote {
     /// Its passes no longer held the seat.
     All,
+    /// They no longer held it, and the session was cut.
+    Cut,
     /// Want of memory.
     Memory,
     /// The output failed, and counted it.
@@ -49,6 +51,7 @@ pub(crate) fn write_half<R: Wait, O: Sink>(
         let (found, length) = exchange(rt, hall, pass, hold, count, news);
         let (text, lines) = match found {
             Found::Gone => return Wrote::All,
+            Found::Cut => return Wrote::Cut,
             Found::Memory => {
                 leave(rt, hall, pass, hold);
                 return Wrote::Memory;
@@ -108,6 +111,7 @@ fn leave<R: Wait>(rt: &R, hall: &Hall<Table>, pass: &mut Pass<Table>, hold: &Hol
         hold: hold.copy(),
         drop: true,
         entered: false,
+        cut: false,
     };
     hall.act(rt, pass, &mut turn);
 }

@@ -13,20 +13,20 @@ use std::test::Fail;
 use std::thread::{self, Threads, join};
 use turn_lock::{Hall, Pass};
 
-const ANNS_HELLO: &[u8] = b"{\"do\":\"hello\",\"seat\":1,\"key\":\"a\"}\n";
+pub(super) const ANNS_HELLO: &[u8] = b"{\"do\":\"hello\",\"seat\":1,\"key\":\"a\"}\n";
 
 const BOBS_HELLO: &[u8] = b"{\"do\":\"hello\",\"seat\":2,\"key\":\"b\"}\n";
 
-const BYE: &[u8] = b"{\"do\":\"bye\"}\n";
+pub(super) const BYE: &[u8] = b"{\"do\":\"bye\"}\n";
 
 // So often a gate is looked at before it is given up.
 const YIELDS: u32 = 1_000_000;
 
 // The lines that an output took, of which so many are waited for.
 #[derive(Clone, Copy)]
-struct Gate<'a> {
-    lines: &'a AtomicU64,
-    least: u64,
+pub(super) struct Gate<'a> {
+    pub(super) lines: &'a AtomicU64,
+    pub(super) least: u64,
 }
 
 impl<'a> Gate<'a> {
@@ -34,8 +34,8 @@ impl<'a> Gate<'a> {
         self.lines.load(Ordering::SeqCst) >= self.least
     }
 
-    fn opens(&self) -> bool {
-        for _ in 0..YIELDS {
+    pub(super) fn opens_within(&self, yields: u32) -> bool {
+        for _ in 0..yields {
             if self.is_open() {
                 return true;
             }
@@ -54,8 +54,9 @@ enum Stage {
 
 // Gives a hello, and a bye once both gates are open. Where one doesn't open it fails.
 #[derive(Drop)]
-struct Gated<'a> {
+pub(super) struct Gated<'a> {
     hello: &'a [u8],
+    yields: u32,
     stage: Stage,
     anns: Gate<'a>,
     bobs: Gate<'a>,
@@ -63,9 +64,10 @@ struct Gated<'a> {
 }
 
 impl<'a> Gated<'a> {
-    fn of(hello: &'a [u8], anns: Gate<'a>, bobs: Gate<'a>) -> Gated<'a> {
+    pub(super) fn of(hello: &'a [u8], yields: u32, anns: Gate<'a>, bobs: Gate<'a>) -> Gated<'a> {
         Gated {
             hello,
+            yields,
             stage: Stage::Hello,
             anns,
             bobs,
@@ -74,7 +76,7 @@ impl<'a> Gated<'a> {
     }
 }
 
-fn copied(line: &[u8], piece: &mut [u8]) -> usize
+pub(super) fn copied(line: &[u8], piece: &mut [u8]) -> usize
     ensures { result ≤ length piece.new }
 {
     let count = line.len().min(piece.len());
@@ -92,7 +94,7 @@ impl<'a> Source for Gated<'a> {
                 Ok(copied(self.hello, piece))
             }
             Stage::Bye => {
-                if !(self.anns.opens() && self.bobs.opens()) {
+                if !(self.anns.opens_within(self.yields) && self.bobs.opens_within(self.yields)) {
                     self.faults = self.faults.saturating_add(1);
                     return Err(Failed);
                 }
@@ -110,8 +112,8 @@ impl<'a> Source for Gated<'a> {
 
 // Counts the lines that it takes.
 #[derive(Drop)]
-struct Counted<'a> {
-    lines: &'a AtomicU64,
+pub(super) struct Counted<'a> {
+    pub(super) lines: &'a AtomicU64,
 }
 
 impl<'a> Sink for Counted<'a> {
@@ -133,13 +135,13 @@ impl<'a> Sink for Counted<'a> {
 
 // A session's two passes.
 #[derive(Drop)]
-struct Passes {
-    reader: Pass<Table>,
-    writer: Pass<Table>,
+pub(super) struct Passes {
+    pub(super) reader: Pass<Table>,
+    pub(super) writer: Pass<Table>,
 }
 
 // A hall for two sessions.
-fn two_sessions(alloc: Global) -> Result<(Hall<Table>, Passes, Passes), Fail>
+pub(super) fn two_sessions(alloc: Global) -> Result<(Hall<Table>, Passes, Passes), Fail>
     ensures opening { IfOk result (λ made. IsOpening made.0.origin) }
     ensures anns { IfOk result (λ made. IsPassOf made.0 made.1.reader × IsPassOf made.0 made.1.writer) }
     ensures bobs { IfOk result (λ made. IsPassOf made.0 made.2.reader × IsPassOf made.0 made.2.writer) }
@@ -180,7 +182,7 @@ fn serve_ann<R: Threads + Wait + Sync>(
         lines: bobs,
         least: 1,
     };
-    let mut input = Gated::of(ANNS_HELLO, anns_gate, bobs_gate);
+    let mut input = Gated::of(ANNS_HELLO, YIELDS, anns_gate, bobs_gate);
     let mut output = Counted { lines: anns };
     let Passes { reader, writer } = passes;
     serve_session(rt, alloc, hall, reader, writer, &mut input, &mut output).ended
@@ -207,7 +209,7 @@ fn serve_bob<R: Threads + Wait + Sync>(
         lines: bobs,
         least: 2,
     };
-    let mut input = Gated::of(BOBS_HELLO, anns_gate, bobs_gate);
+    let mut input = Gated::of(BOBS_HELLO, YIELDS, anns_gate, bobs_gate);
     let mut output = Counted { lines: bobs };
     let Passes { reader, writer } = passes;
     serve_session(rt, alloc, hall, reader, writer, &mut input, &mut output).ended
