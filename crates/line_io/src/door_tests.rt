@@ -7,63 +7,66 @@ use names::LineText;
 use std::alloc::Global;
 use std::io::{Read, Write};
 use std::net::{Ipv4Addr, SocketAddr, TcpStream};
-use std::test::Fail;
+use std::process::Abort;
 
-fn ends(alloc: Global, text: &[u8]) -> Result<(MemSource, MemSink), Fail> {
-    let source = MemSource::new(alloc, LineText::copy(alloc, text)?, 4096, Vec::new(alloc));
-    let sink = MemSink::new(alloc, 64, 64, Vec::new(alloc))?;
-    Ok((source, sink))
+// A door with so many connections, whose call of this number fails.
+fn door(rt: &impl Abort, alloc: Global, count: u8, failing: u64) -> MemDoor {
+    let mut ends = Vec::new(alloc);
+    for _ in 0..count {
+        let text = LineText::copy(alloc, b"a").expect(rt, "memory");
+        let source = MemSource::new(alloc, text, 4096, Vec::new(alloc));
+        let sink = MemSink::new(alloc, 64, 64, Vec::new(alloc)).expect(rt, "memory");
+        ends.push((source, sink)).expect(rt, "memory");
+    }
+    let failing = [failing].to_vec(alloc).expect(rt, "memory");
+    MemDoor::new(alloc, ends, failing)
 }
 
-// What the door does: a letter for each call, `c` for a connection, `e` for the end and `f` for a fault.
-fn calls(alloc: Global, door: &mut MemDoor) -> Result<String, Fail> {
+fn letter(door: &mut MemDoor) -> char {
+    match door.next() {
+        Ok(Some(_)) => 'c',
+        Ok(None) => 'e',
+        Err(Failed) => 'f',
+    }
+}
+
+// What the door does: a letter for each call, `o` for its opening, `c` for a connection, `e` for the end and `f` for a
+// fault.
+fn calls(rt: &impl Abort, alloc: Global, door: &mut MemDoor) -> String {
     let mut shown = String::new(alloc);
-    shown.push(if door.open(7).is_ok() { 'o' } else { 'f' })?;
+    let opened = if door.open(7).is_ok() { 'o' } else { 'f' };
+    shown.push(opened).expect(rt, "memory");
     for _ in 0..4 {
-        shown.push(match door.next() {
-            Ok(Some(_)) => 'c',
-            Ok(None) => 'e',
-            Err(Failed) => 'f',
-        })?;
+        shown.push(letter(door)).expect(rt, "memory");
     }
-    Ok(shown)
+    shown
 }
 
 #[test]
-fn each_call_of_a_door_fails_once(rt: HostRuntime) -> Result<(), Fail> {
-    let alloc = rt.alloc();
-    for (fail, shown) in [
-        (&[][..], "occee"),
-        (&[0], "fccee"),
-        (&[1], "ofcce"),
-        (&[2], "ocfce"),
-        (&[3], "occfe"),
+fn each_call_of_a_door_fails_once(rt: HostRuntime) {
+    for (failing, wanted) in [
+        (9, "occee"),
+        (0, "fccee"),
+        (1, "ofcce"),
+        (2, "ocfce"),
+        (3, "occfe"),
     ] {
-        let mut list = Vec::new(alloc);
-        list.push(ends(alloc, b"a")?)?;
-        list.push(ends(alloc, b"b")?)?;
-        let mut door = MemDoor::new(alloc, list, fail.to_vec(alloc)?);
-        assert_eq!(rt; calls(alloc, &mut door)?.as_str(), shown);
-        assert_eq!(rt; door.faults(), fail.len() as u64);
+        let mut door = door(&rt, rt.alloc(), 2, failing);
+        let shown = calls(&rt, rt.alloc(), &mut door);
+        assert_eq!(rt; shown.as_str(), wanted);
+        assert!(rt; door.faults() == u64::from(failing < 9));
     }
-    Ok(())
 }
 
 #[test]
-fn ends_come_back_in_the_order_of_their_return(rt: HostRuntime) -> Result<(), Fail> {
-    let alloc = rt.alloc();
-    let mut list = Vec::new(alloc);
-    list.push(ends(alloc, b"a")?)?;
-    let mut door = MemDoor::new(alloc, list, Vec::new(alloc));
-    if let Ok(Some((input, mut output))) = door.next() {
-        assert_eq!(rt; write_whole(&mut output, b"kept").is_ok(), true);
-        door.give_back(input, output);
-    }
-    let [(_, output)] = door.ended() else {
-        return Err(Fail::new("no such answer"));
-    };
+fn ends_come_back(rt: HostRuntime) {
+    let mut door = door(&rt, rt.alloc(), 1, 9);
+    let ends = door.next().expect(&rt, "no fault");
+    let (input, mut output) = ends.expect(&rt, "a connection");
+    assert!(rt; write_whole(&mut output, b"kept").is_ok());
+    door.give_back(input, output);
+    let (_, output) = door.ended().first().expect(&rt, "an end");
     assert_eq!(rt; output.bytes(), b"kept".as_slice());
-    Ok(())
 }
 
 /// A work that gives a number.
@@ -83,16 +86,13 @@ impl Work for Counts {
 }
 
 #[test]
-fn a_list_spawner_runs_what_it_starts(rt: HostRuntime) -> Result<(), Fail> {
-    let alloc = rt.alloc();
-    let mut spawner = ListSpawner::new(alloc, [1].to_vec(alloc)?);
-    let Ok(first) = spawner.start(Counts { number: 4 }) else {
-        return Err(Fail::new("no such answer"));
-    };
-    assert_eq!(rt; spawner.start(Counts { number: 5 }).is_err(), true);
+fn a_list_spawner_runs_what_it_starts(rt: HostRuntime) {
+    let failing = [1].to_vec(rt.alloc()).expect(&rt, "memory");
+    let mut spawner = ListSpawner::new(rt.alloc(), failing);
+    let first = spawner.start(Counts { number: 4 }).expect(&rt, "a task");
+    assert!(rt; spawner.start(Counts { number: 5 }).is_err());
     let done: u64 = spawner.gather(first);
     assert_eq!(rt; done, 4);
-    Ok(())
 }
 
 // The first port from this one on that can be opened, among twenty.
@@ -107,25 +107,27 @@ fn opened<D: Door>(door: &mut D, first: u16) -> Option<u16>
     None
 }
 
+// Reads the line `hello` and answers it.
+fn welcome<I: Source, O: Sink>(rt: &impl Abort, alloc: Global, input: &mut I, output: &mut O) {
+    let mut reader = LineReader::new(alloc, 64).expect(rt, "memory");
+    let NextLine::Line(line) = reader.next(input) else {
+        panic!(rt; "no line");
+    };
+    assert_eq!(rt; line.bytes(), b"hello".as_slice());
+    assert!(rt; write_whole(output, b"welcome").is_ok());
+}
+
 #[test]
-fn a_line_goes_each_way_over_tcp(rt: HostRuntime) -> Result<(), Fail> {
+fn a_line_goes_each_way_over_tcp(rt: HostRuntime) {
     let mut door = TcpDoor::new(&rt);
-    let Some(port) = opened(&mut door, 47_310) else {
-        return Err(Fail::new("no such answer"));
-    };
-    let mut peer = TcpStream::connect(&rt, SocketAddr::from((Ipv4Addr::LOCALHOST, port)))?;
-    let Ok(Some((mut input, mut output))) = door.next() else {
-        return Err(Fail::new("no such answer"));
-    };
-    peer.write_all(b"hello\n")?;
-    let mut reader = LineReader::new(rt.alloc(), 64)?;
-    match reader.next(&mut input) {
-        NextLine::Line(line) => assert_eq!(rt; line.bytes(), b"hello".as_slice()),
-        _ => return Err(Fail::new("no such answer")),
-    }
-    assert_eq!(rt; write_whole(&mut output, b"welcome").is_ok(), true);
+    let port = opened(&mut door, 47_310).expect(&rt, "a port");
+    let address = SocketAddr::from((Ipv4Addr::LOCALHOST, port));
+    let mut peer = TcpStream::connect(&rt, address).expect(&rt, "a peer");
+    let ends = door.next().expect(&rt, "no fault");
+    let (mut input, mut output) = ends.expect(&rt, "a connection");
+    peer.write_all(b"hello\n").expect(&rt, "a write");
+    welcome(&rt, rt.alloc(), &mut input, &mut output);
     let mut answer = [0; 7];
-    peer.read_exact(&mut answer)?;
+    peer.read_exact(&mut answer).expect(&rt, "a read");
     assert_eq!(rt; answer, *b"welcome");
-    Ok(())
 }

@@ -34,7 +34,7 @@ const RUNS: [(&str, u8, To, &str); 4] = [
 ];
 
 /// All functions, all operators, all options: what seat 1 gets of what it runs to itself.
-const VALUES: [(&str, &str); 16] = [
+static VALUES: [(&str, &str); 16] = [
     (
         "[r: prop(\"1:ann\", \"hp\")] [r: own(\"1:ann\", \"mp\")] [r: has(\"1:ann\", \"xp\")] [r: setprop(\"1:ann\", \"hp\", num(\"9\"))] [r: setown(\"1:ann\", \"mp\", 4)] [r: arg(0)] [r: argc()] [r: min(2, 3) + max(2, 3) + abs(-4)] [r: len(\"abc\")]",
         "10 5 0 9 4 k 1 9 3",
@@ -81,7 +81,7 @@ const VALUES: [(&str, &str); 16] = [
 ];
 
 /// All kinds of faults, and where they stand.
-const FAULTS: [(&str, FaultKind, u32); 44] = [
+static FAULTS: [(&str, FaultKind, u32); 44] = [
     ("[r: x]", FaultKind::NoName, 4),
     ("[count(0): 1][r: count]", FaultKind::NoName, 17),
     ("[r: prop(\"1:ann\", \"xp\")]", FaultKind::NoProp, 4),
@@ -141,7 +141,7 @@ const FAULTS: [(&str, FaultKind, u32); 44] = [
 ];
 
 /// Numbers past the greatest and the least.
-const OVERFLOWS: [&str; 6] = [
+static OVERFLOWS: [&str; 6] = [
     "[r: 999999999999999999 * 99]",
     "[r: 999999999999999999 * 9 + 999999999999999999]",
     "[r: -999999999999999999 * 9 - 999999999999999999]",
@@ -268,9 +268,9 @@ fn own<'a>(rt: &impl Abort, answer: &'a Result<Outcome, MacroStop>) -> &'a str {
 #[test]
 fn values(rt: HostRuntime) {
     let table = table(&rt, rt.alloc());
-    for (text, wanted) in VALUES {
+    for (text, wanted) in &VALUES {
         let answer = to_self(&rt, rt.alloc(), text, &table);
-        assert_eq!(rt; own(&rt, &answer), wanted, "{text}");
+        assert_eq!(rt; own(&rt, &answer), *wanted, "{text}");
     }
 }
 
@@ -286,16 +286,16 @@ fn faults(rt: &impl Abort, alloc: Global, table: &Readable, text: &str) -> (Faul
 #[test]
 fn faults_stand_at_their_places(rt: HostRuntime) {
     let table = table(&rt, rt.alloc());
-    for (text, kind, at) in FAULTS {
+    for (text, kind, at) in &FAULTS {
         let found = faults(&rt, rt.alloc(), &table, text);
-        assert!(rt; found.0 == kind && found.1 == at, "{text}");
+        assert!(rt; found.0 == *kind && found.1 == *at, "{text}");
     }
 }
 
 #[test]
 fn numbers_have_limits(rt: HostRuntime) {
     let table = table(&rt, rt.alloc());
-    for text in OVERFLOWS {
+    for text in &OVERFLOWS {
         let over = to_self(&rt, rt.alloc(), text, &table);
         assert!(rt; matches!(over, Err(MacroStop::Overflow)), "{text}");
     }
