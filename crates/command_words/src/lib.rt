@@ -13,6 +13,8 @@
 mod forms;
 mod matches;
 mod read;
+#[cfg(test)]
+mod tests;
 
 pub use forms::Job;
 pub use read::{WordsFault, read_words};

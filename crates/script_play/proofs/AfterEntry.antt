@@ -27,7 +27,7 @@ abbrev pub with_entry : Course → Entry → Course
 with_entry c e = record c { history = c.history ++ e ∷ [] }
 
 -- what waits and is sent goes by the origin and the history alone
-waiting_same : (c d : Course) (seat : ℕ) → c.origin ≡ d.origin → c.history ≡ d.history → waiting_lines c seat ≡ waiting_lines d seat
+pub waiting_same : (c d : Course) (seat : ℕ) → c.origin ≡ d.origin → c.history ≡ d.history → waiting_lines c seat ≡ waiting_lines d seat
 waiting_same c d seat o h = λ i. untaken (seat_at (replay (o i) (h i)) seat) (session (o i) (h i) seat)
 
 sent_same : (c d : Course) (acting : ℕ) (reply : Option (List ℕ)) (seat : ℕ) → c.origin ≡ d.origin → c.history ≡ d.history → sent_below c acting reply seat ≡ sent_below d acting reply seat
@@ -35,9 +35,9 @@ sent_same c d acting reply zero o h = refl
 sent_same c d acting reply (suc seat) o h = ap₂ (λ t ls. t ++ tagged_lines seat (reply_to acting seat reply ++ ls)) (sent_same c d acting reply seat o h) (waiting_same c d seat o h)
 
 -- an entry that a seat of the world sends by a script
-record OfSeat (w : World) (e : Entry) : Type 0 where
-  there : seat_of e < length w.seats
-  leaves : LeavesAt w e
+pub record OfSeat (w : World) (e : Entry) : Type 0 where
+  pub there : seat_of e < length w.seats
+  pub leaves : LeavesAt w e
 
 of_parts : (w : World) (e : Entry) (seat : ℕ) (bytes : List ℕ) (within : Bool) → nat_lt seat (length w.seats) ≡ within → cond within (Some (entry_of w seat bytes)) None ≡ Some e → OfSeat w e
 of_parts w e seat bytes true lt h =
@@ -49,7 +49,7 @@ of_parts w e seat bytes true lt h =
     })
 of_parts w e seat bytes false lt h = cc
 
-of_line : (w : World) (e : Entry) (parts : Option (ℕ × List ℕ)) → option_and_then (λ (parts : ℕ × List ℕ). cond (nat_lt parts.0 (length w.seats)) (Some (entry_of w parts.0 parts.1)) None) parts ≡ Some e → OfSeat w e
+pub of_line : (w : World) (e : Entry) (parts : Option (ℕ × List ℕ)) → option_and_then (λ (parts : ℕ × List ℕ). cond (nat_lt parts.0 (length w.seats)) (Some (entry_of w parts.0 parts.1)) None) parts ≡ Some e → OfSeat w e
 of_line w e None h = cc
 of_line w e (Some parts) h = of_parts w e parts.0 parts.1 (nat_lt parts.0 (length w.seats)) refl h
 
@@ -70,7 +70,7 @@ waits_then c e p s opening leaves quiet is =
     let lines : session c.origin (c.history ++ e ∷ []) p ≡ unless_free (ls ++ queued_of w e p) (Some (seat_after w e p s)) = session_more c.origin [] c.history e p ∙ ap (unless_free (ls ++ queued_of w e p)) after in
     ap₂ untaken now lines ∙ waits_queued w e p s ls leaves is kept all
 
-seat_sent : (c : Course) (e : Entry) (p : ℕ) → IsOpening c.origin → OfSeat (world_of c) e → NothingWaits (world_of c) → p < length (world_of c).seats → reply_to (seat_of e) p (answer_after c e).line ++ waiting_lines (with_entry c e) p ≡ lines_of (world_of c) e p
+pub seat_sent : (c : Course) (e : Entry) (p : ℕ) → IsOpening c.origin → OfSeat (world_of c) e → NothingWaits (world_of c) → p < length (world_of c).seats → reply_to (seat_of e) p (answer_after c e).line ++ waiting_lines (with_entry c e) p ≡ lines_of (world_of c) e p
 seat_sent c e p opening own quiet lt =
     let w : World = world_of c in
     let x = seat_there w.seats p lt in

@@ -230,7 +230,7 @@ pub lines_sent : (w : World) (e : Entry) (p : ℕ) (s : Seat) → LeavesAt w e �
 lines_sent w e p s leaves is = by_acts p (eqb (seat_of e) p) (seat_at w p) (outcome_of w e) (view_of w.scene p) (view_of (scene_after w e) p) (λ h. (leaves s is).once)
 
 -- to a seat that isn't in the campaign nothing is sent, unless it acts
-absent_lines : (p : ℕ) (acts : Bool) (before : Option Seat) (o : Outcome) (v v' : View) → acts ≡ false → before ≡ None → entry_lines p acts before o v v' ≡ []
+pub absent_lines : (p : ℕ) (acts : Bool) (before : Option Seat) (o : Outcome) (v v' : View) → acts ≡ false → before ≡ None → entry_lines p acts before o v v' ≡ []
 absent_lines p acts before o v v' h k = λ i. entry_lines p (h i) (k i) o v v'
 
 pub slice_get-past : {A : Type 0} (xs : List A) (i : ℕ) → length xs ≤ i → slice_get xs i ≡ None

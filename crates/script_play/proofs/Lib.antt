@@ -10,3 +10,4 @@ pub mod LineRuns
 pub mod WholeRuns
 pub mod Behind
 pub mod Written
+pub mod Counts

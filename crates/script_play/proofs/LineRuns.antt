@@ -43,7 +43,7 @@ goes_both old middle new a b = goes_on old new _ (b.origin ∙ a.origin) (since_
 pub world_on : (old new : Course) → GoesOn old new → world_of new ≡ replay (world_of old) (entries_since old new)
 world_on old new g = (λ i. replay (g.origin i) (g.history i)) ∙ replay-append old.origin old.history (entries_since old new)
 
-world_entered : (old new : Course) (e : Entry) → GoesOn old new → entries_since old new ≡ e ∷ [] → world_of new ≡ step (world_of old) e
+pub world_entered : (old new : Course) (e : Entry) → GoesOn old new → entries_since old new ≡ e ∷ [] → world_of new ≡ step (world_of old) e
 world_entered old new e g h = world_on old new g ∙ ap (replay (world_of old)) h
 
 -- ---- an entry, and then its Takens

@@ -79,7 +79,7 @@ reply_queued true true reply h = refl
 reply_queued true false reply h = h
 reply_queued false direct reply h = refl
 
-quiet_lines : (w : World) (seat count p : ℕ) → IsSettled w.scene → lines_of w (Taken seat count) p ≡ []
+pub quiet_lines : (w : World) (seat count p : ℕ) → IsSettled w.scene → lines_of w (Taken seat count) p ≡ []
 quiet_lines w seat count p steady =
     let o : Outcome = outcome_of w (Taken seat count) in
     let q = quiet_of w seat count in

@@ -28,6 +28,11 @@ abbrev pub sent_below : Course → ℕ → Option (List ℕ) → ℕ → List �
 sent_below c acting reply zero = []
 sent_below c acting reply (suc seat) = sent_below c acting reply seat ++ tagged_lines seat (reply_to acting seat reply ++ waiting_lines c seat)
 
+-- the lines that are sent to the seats below this number, without the seats' numbers
+abbrev pub lines_below : Course → ℕ → Option (List ℕ) → ℕ → List (List ℕ)
+lines_below c acting reply zero = []
+lines_below c acting reply (suc seat) = lines_below c acting reply seat ++ (reply_to acting seat reply ++ waiting_lines c seat)
+
 -- a front of the text was written
 pub record WroteFront (before : Option (List ℕ)) (text : List ℕ) (after : Option (List ℕ)) : Type 0 where
   pub front : List ℕ

@@ -5,5 +5,7 @@
 mod entries;
 mod run;
 mod sending;
+mod tally;
 
-pub use run::{LINE_BYTES, LINE_LIMIT, Played, play};
+pub use run::{LINE_BYTES, LINE_LIMIT, Played, play, play_counted};
+pub use tally::Tally;

@@ -9,6 +9,9 @@ use Rattle.script_play.proofs.Fronts.{all_written, wrote_nothing}
 use Rattle.script_play.proofs.AfterEntry.{stays, nothing_since}
 use Rattle.script_play.proofs.LineRuns.{goes_both}
 use Rattle.script_play.proofs.WholeRuns.{not_so, starts, goes_on_line, stops_at, done_at, too_long_at, fault_at, read_to_fault, memory_at, written_on, meets_end}
+use Rattle.script_play.specs.declared.tally.Tally.{Tally}
+use Rattle.script_play.specs.Played.{IsLineStop}
+use Rattle.script_play.proofs.Counts.{adds_both, adds_nothing}
 use Rattle.script_play.proofs.run.play_lines.Goals as goal
 
 pub lines-init : goal.lines-init
@@ -22,6 +25,9 @@ lines-init g c =
       at_end = λ h. let z : true ≡ false = sym h ∙ ap (λ (r : ReaderState). r.ended) c.requires.reader in cc;
       cap = ap (λ (r : ReaderState). r.cap) c.requires.reader;
       number = omega arith;
+      counted = adds_nothing c.args.tally.now old;
+      lines = let e = ap (λ (t : Tally). t.lines) c.requires.tally in omega (arith, e);
+      refused = let e = ap (λ (t : Tally). t.refused) c.requires.tally in omega (arith, e);
       script_count = omega arith;
       out_count = omega arith;
     }
@@ -43,6 +49,9 @@ lines-preserved g c =
       at_end = meets_end c.lines.reader.ended c.next.new.self.ended (g.S.Source.left c.lines.script) (g.S.Source.left c.next.new.source) inv.at_end (λ e. ap g.S.Source.left (c.in-Line.ensures.stays_ended e).2) c.in-Line.ensures.met_end;
       cap = c.in-Line.ensures.cap ∙ inv.cap;
       number = omega (arith, c.in-Ok.ensures.few);
+      counted = adds_both c.args.tally.now c.lines.tally c.play_line.new.tally old now new inv.campaign c.in-Ok.ensures.campaign inv.counted c.in-Ok.ensures.counted;
+      lines = omega (arith, inv.lines, c.in-Ok.ensures.lines);
+      refused = c.in-Ok.ensures.refused;
       script_count = omega (arith, inv.script_count, c.in-Line.ensures.count);
       out_count = omega (arith, inv.out_count, c.in-Ok.ensures.count);
     }
@@ -84,3 +93,6 @@ returns-in-TooLong-clause-written g c = all_written TooLarge _ _ _ _ c.lines.inv
 
 pub returns-in-ReadFault-clause-written : goal.returns-in-ReadFault-clause-written
 returns-in-ReadFault-clause-written g c = all_written ReadFault _ _ _ _ c.lines.invariant.written
+
+pub returns-in-Err-clause-counted : goal.returns-in-Err-clause-counted
+returns-in-Err-clause-counted g c = λ e. absurd (subst IsLineStop e c.in-Err.ensures.stop)

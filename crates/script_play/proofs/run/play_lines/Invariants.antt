@@ -1,4 +1,4 @@
-use Rattle.std.proofs.Common.{◌≡◌, ◌≤◌, ◌-◌, true}
+use Rattle.std.proofs.Common.{◌≡◌, ◌≤◌, ◌<◌, ◌-◌, true}
 use Rattle.std.specs.Io.KnownBytes.{IsAtEnd}
 use Rattle.line_io.specs.Reader.{bytes_to_come}
 use Rattle.line_io.specs.Told.{WhereTold}
@@ -6,6 +6,7 @@ use Rattle.campaign_law.specs.Law.{world_of}
 use Rattle.script_play.specs.Script.{NothingWaits}
 use Rattle.script_play.specs.declared.run.Played.TheVariants.{Done}
 use Rattle.script_play.specs.Played.{GoesOn, HasWritten, entries_since}
+use Rattle.script_play.specs.Counting.{Adds}
 use Rattle.script_play.proofs.WholeRuns.{CameTo}
 use Rattle.script_play.proofs.run.play_lines.Given as goal
 
@@ -18,6 +19,9 @@ invariant-lines g l = record {
   at_end : l.reader.ended ≡ true → IsAtEnd (g.S.Source.left l.script);
   cap : l.reader.cap ≡ 4112;
   number : l.number ≤ 1000001;
+  counted : Adds l.fn.tally l.tally l.fn.campaign l.campaign;
+  lines : l.tally.lines < l.number;
+  refused : l.tally.refused ≤ l.tally.lines;
   script_count : g.S.Source.faults_of l.fn.script ≤ g.S.Source.faults_of l.script;
   out_count : g.O.Sink.faults_of l.fn.out ≤ g.O.Sink.faults_of l.out;
 }

@@ -5,10 +5,12 @@ use Rattle.campaign_law.specs.World.{World, seat_at}
 use Rattle.campaign_law.specs.Law.{world_of}
 use Rattle.script_play.specs.Script.{takens_below, takens, taken_of}
 use Rattle.script_play.specs.Tagged.{tagged_lines}
-use Rattle.script_play.specs.Sending.{sent_below, reply_to, waiting_lines}
+use Rattle.script_play.specs.Sending.{lines_below, sent_below, reply_to, waiting_lines}
 use Rattle.script_play.proofs.EntryLines.{seats_of_replay}
 use Rattle.script_play.proofs.WholeLines.{sent_whole}
 use Rattle.script_play.proofs.SendingLemmas.{stops_behind, sent_from, sent_next, takens_next}
+use Rattle.script_play.specs.Counting.{with_sent}
+use Rattle.script_play.proofs.Counts.{sent_to_next}
 use Rattle.script_play.proofs.sending.send_all.Goals as goal
 
 pub loop-number-preserved : goal.loop-number-preserved
@@ -24,6 +26,7 @@ loop-number-preserved g c =
           ∙ ap (λ m. append_known m text) c.loop-number.invariant.written
           ∙ sym (append_known-append (g.O.Sink.written c.args.out.now) front text)
           ∙ ap (append_known (g.O.Sink.written c.args.out.now)) (sym (sent_next c.args.campaign.now c.args.acting c.args.reply.now n));
+      tally = sent_to_next c.args.campaign.now c.args.acting c.args.reply.now n c.args.tally.now c.loop-number.tally c.send_next.new.tally c.loop-number.invariant.tally c.in-Ok.ensures.counted;
       count = omega (arith, c.in-Ok.ensures.count, c.loop-number.invariant.count);
     }
 
@@ -41,3 +44,8 @@ returns-clause-takens g c =
     let end : c.loop-number.number ≡ length c.args.campaign.now.origin.seats = omega (arith, c.loop-number-test.false, c.loop-number.auto.number-end, c.seat_count-number-end.ensures.value) in
     c.loop-number.invariant.entries
     ∙ ap (takens_below (world_of c.args.campaign.now)) (end ∙ sym (seats_of_replay c.args.campaign.now.origin c.args.campaign.now.history))
+
+pub returns-clause-counted : goal.returns-clause-counted
+returns-clause-counted g c =
+    let end : c.loop-number.number ≡ length c.args.campaign.now.origin.seats = omega (arith, c.loop-number-test.false, c.loop-number.auto.number-end, c.seat_count-number-end.ensures.value) in
+    c.loop-number.invariant.tally ∙ ap (λ n. with_sent c.args.tally.now (lines_below c.args.campaign.now c.args.acting c.args.reply.now n)) end

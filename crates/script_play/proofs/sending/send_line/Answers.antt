@@ -10,6 +10,6 @@ returns-in_default-clause-sends g c = stops_first Memory _ _ tt
 pub returns-clause-sends : goal.returns-clause-sends
 returns-clause-sends g c = record {
   cut = tt;
-  part = subst (λ t. WroteFront (g.O.Sink.written c.args.out.now) t (g.O.Sink.written c.write_whole.new.sink)) (c.deref.ensures.value ∙ c.in-Ok.ensures) (front_taken _ _ _ c.in-Err.ensures.err);
+  part = subst (λ t. WroteFront (g.O.Sink.written c.args.out.now) t (g.O.Sink.written c.write_whole.new.sink)) (c.deref.ensures.value ∙ c.in-Ok.ensures.text) (front_taken _ _ _ c.in-Err.ensures.err);
   whole = λ e. let z : WriteFault ≡ Memory = e in cc;
 }

@@ -5,6 +5,7 @@ use Rattle.script_play.specs.Tagged.{seat_tag, IsWholeLines}
 use Rattle.script_play.specs.Sending.{waiting_lines, WroteTill}
 use Rattle.script_play.specs.declared.run.Played.TheVariants.{Memory}
 use Rattle.script_play.proofs.SendingLemmas.{tagged_ended, ended_whole, stops_first}
+use Rattle.script_play.proofs.Counts.{ended_sent}
 use Rattle.script_play.proofs.sending.send_waiting.Goals as goal
 
 pub returns-in-Ok-send_lines-clause-sends : goal.returns-in-Ok-send_lines-clause-sends
@@ -23,3 +24,6 @@ returns-clause-sends g c =
 
 pub returns-in_default-clause-sends : goal.returns-in_default-clause-sends
 returns-in_default-clause-sends g c = stops_first Memory _ _ tt
+
+pub returns-in-Ok-send_lines-clause-counted : goal.returns-in-Ok-send_lines-clause-counted
+returns-in-Ok-send_lines-clause-counted g c = c.in-Ok-send_lines.ensures.counted ∙ ended_sent c.args.tally.now _ (waiting_lines c.args.campaign.now c.args.seat) (c.deref.ensures.value ∙ c.in-Ok.ensures)

@@ -8,11 +8,11 @@ use Rattle.script_play.proofs.AfterEntry.{nothing_since, prefix_none, stays}
 use Rattle.script_play.proofs.Fronts.{wrote_nothing}
 use Rattle.script_play.proofs.Written.{writes}
 use Rattle.script_play.proofs.Reading.{told_same}
-use Rattle.script_play.proofs.run.play.Goals as goal
+use Rattle.script_play.proofs.run.play_counted.Goals as goal
 
 pub returns-in-Ok-clause-sent : goal.returns-in-Ok-clause-sent
 returns-in-Ok-clause-sent g c =
-    λ p. sent_is_machine c.play_lines.new.campaign.origin c.play_lines.new.campaign.history p (subst IsOpening (sym c.play_lines.ensures.campaign.origin) c.seat_count-seats.ensures.opening)
+    λ p. sent_is_machine c.play_lines-played.new.campaign.origin c.play_lines-played.new.campaign.history p (subst IsOpening (sym c.play_lines-played.ensures.campaign.origin) c.seat_count-seats.ensures.opening)
 
 pub returns-in-Err-clause-sent : goal.returns-in-Err-clause-sent
 returns-in-Err-clause-sent g c = λ p. sent_is_machine c.args.campaign.now.origin c.args.campaign.now.history p c.seat_count-seats.ensures.opening
@@ -24,7 +24,7 @@ returns-in-Err-clause-entered g c =
 
 pub returns-in-Ok-clause-written : goal.returns-in-Ok-clause-written
 returns-in-Ok-clause-written g c =
-    writes c.play_lines.result c.args.campaign.now c.play_lines.new.campaign _ _ c.seat_count-seats.ensures.opening c.play_lines.ensures.campaign c.play_lines.ensures.written
+    writes c.play_lines-played.result c.args.campaign.now c.play_lines-played.new.campaign _ _ c.seat_count-seats.ensures.opening c.play_lines-played.ensures.campaign c.play_lines-played.ensures.written
 
 pub returns-in-Err-clause-written : goal.returns-in-Err-clause-written
 returns-in-Err-clause-written g c =
