@@ -15,6 +15,3 @@ mod type_values;
 mod values;
 
 pub use campaign::{campaign_value, read_worlds_are_written, write_campaign};
-
-#[cfg(test)]
-mod tests;

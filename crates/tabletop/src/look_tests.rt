@@ -5,44 +5,32 @@ use names::{LineText, SeatNo};
 use sight_sweep::SweepEye;
 use std::alloc::Global;
 use std::process::Abort;
-use std::test::Fail;
 
 // The game master and one player, whose token stands in a cave that a wall cuts in two.
 const CAVE: &[u8] =
     br#"{"format":1,"lights":{},"maps":[{"h":3,"mbl":[],"mode":"day","name":"cave","rows":["...","...","..."],"shown":true,"vbl":[[2,0,2,4]],"w":3}],"seats":[{"drawn":0,"fog":{},"key":"g","macros":{},"seed":"0000000000000000000000000000000000000000000000000000000000000000","tags":[]},{"drawn":0,"fog":{},"key":"a","macros":{},"seed":"0000000000000000000000000000000000000000000000000000000000000000","tags":["ann"]}],"sights":{"human":[10,0,2]},"tokens":[{"cell":[0,0],"id":"1:ann","layer":"token","light":null,"map":"cave","name":"Ann","own":[],"owners":[1],"props":[],"secret":[],"sight":"human","size":1,"visible":true}]}"#;
 
-fn seat(number: u8) -> Result<SeatNo, Fail> {
-    Ok(SeatNo::new(number).ok_or("a seat")?)
+fn seat(rt: &impl Abort, number: u8) -> SeatNo {
+    SeatNo::new(number).expect(rt, "a seat")
 }
 
-fn opened(alloc: Global) -> Result<Campaign<SweepEye>, Fail> {
-    match Campaign::open(alloc, CAVE, SweepEye::new(alloc)) {
-        Ok(campaign) => Ok(campaign),
-        Err(_) => Err(Fail::from("no campaign")),
-    }
+fn opened(rt: &impl Abort, alloc: Global) -> Campaign<SweepEye> {
+    let campaign = Campaign::open(alloc, CAVE, SweepEye::new(alloc));
+    campaign.ok().expect(rt, "a campaign")
 }
 
-fn step(campaign: &mut Campaign<SweepEye>, entry: Entry) -> Result<Answer, Fail> {
-    match campaign.step(entry) {
-        Ok(answer) => Ok(answer),
-        Err(_) => Err(Fail::from("want of memory")),
-    }
+fn step(rt: &impl Abort, campaign: &mut Campaign<SweepEye>, entry: Entry) -> Answer {
+    campaign.step(entry).ok().expect(rt, "memory")
 }
 
-fn join(
-    alloc: Global,
-    campaign: &mut Campaign<SweepEye>,
-    number: u8,
-    key: &[u8],
-) -> Result<(), Fail> {
+fn join(rt: &impl Abort, alloc: Global, campaign: &mut Campaign<SweepEye>, number: u8, key: &[u8]) {
     let entry = Entry::Join {
-        seat: seat(number)?,
-        key: LineText::copy(alloc, key)?,
+        seat: seat(rt, number),
+        key: LineText::copy(alloc, key).expect(rt, "memory"),
         reader: 1,
         writer: 2,
     };
-    let _answer = step(campaign, entry)?;
-    Ok(())
+    let _answer = step(rt, campaign, entry);
 }
 
 // A line, and how many looks are made at it at most.
@@ -54,7 +42,7 @@ struct Asked<'a> {
     looks: u64,
 }
 
-const LINES: [Asked<'static>; 8] = [
+static LINES: [Asked<'static>; 8] = [
     Asked {
         seat: 1,
         line: r#"{"do":"say","text":"hi"}"#,
@@ -105,39 +93,30 @@ const LINES: [Asked<'static>; 8] = [
     },
 ];
 
-fn ask(
-    rt: &impl Abort,
-    alloc: Global,
-    campaign: &mut Campaign<SweepEye>,
-    asked: &Asked<'_>,
-) -> Result<(), Fail> {
+fn ask(rt: &impl Abort, alloc: Global, campaign: &mut Campaign<SweepEye>, asked: &Asked<'_>) {
     let before = campaign.looks();
     let entry = Entry::Line {
-        seat: seat(asked.seat)?,
-        bytes: LineText::copy(alloc, asked.line.as_bytes())?,
+        seat: seat(rt, asked.seat),
+        bytes: LineText::copy(alloc, asked.line.as_bytes()).expect(rt, "memory"),
     };
-    let answer = step(campaign, entry)?;
-    assert_eq!(rt; answer.refusal.is_some(), asked.refused, "{}", asked.line);
+    let answer = step(rt, campaign, entry);
     let made = campaign.looks().saturating_sub(before);
-    assert!(rt; made <= asked.looks, "{}", asked.line);
-    Ok(())
+    assert!(rt; answer.refusal.is_some() == asked.refused && made <= asked.looks);
 }
 
-// Both seats have joined.
-fn joined(rt: &impl Abort, alloc: Global) -> Result<Campaign<SweepEye>, Fail> {
-    let mut campaign = opened(alloc)?;
-    assert_eq!(rt; campaign.looks(), 1);
-    join(alloc, &mut campaign, 0, b"g")?;
-    join(alloc, &mut campaign, 1, b"a")?;
-    assert_eq!(rt; campaign.looks(), 1, "a join asks nothing");
-    Ok(campaign)
+// Both seats join, which asks nothing.
+fn join_both(rt: &impl Abort, alloc: Global, campaign: &mut Campaign<SweepEye>) {
+    assert!(rt; campaign.looks() == 1);
+    join(rt, alloc, campaign, 0, b"g");
+    join(rt, alloc, campaign, 1, b"a");
+    assert!(rt; campaign.looks() == 1);
 }
 
 #[test]
-fn looks(rt: HostRuntime) -> Result<(), Fail> {
-    let mut campaign = joined(&rt, rt.alloc())?;
+fn looks(rt: HostRuntime) {
+    let mut campaign = opened(&rt, rt.alloc());
+    join_both(&rt, rt.alloc(), &mut campaign);
     for asked in &LINES {
-        ask(&rt, rt.alloc(), &mut campaign, asked)?;
+        ask(&rt, rt.alloc(), &mut campaign, asked);
     }
-    Ok(())
 }

@@ -4,17 +4,19 @@
 mod campaigns;
 mod checks;
 mod evening;
+mod faults;
 mod macros;
 mod plays;
 mod refusals;
+mod serves;
 mod stops;
+mod writing;
 
 use crate::tabletop;
 use line_io::{MemDesk, MemSink, MemSource};
 use names::{LineText, Text};
 use std::alloc::Global;
 use std::process::Abort;
-use std::test::Fail;
 
 // A run on `table.json`: the calls of the desk, the script and the output that fail, and what is wanted. The wanted
 // output has a space where a TAB is printed behind a seat's number.
@@ -26,6 +28,8 @@ struct Run<'a> {
     desk_fails: &'a [u64],
     script_fails: &'a [u64],
     out_fails: &'a [u64],
+    // How many bytes the output takes at once.
+    takes: usize,
     status: u8,
     output: &'a str,
 }
@@ -38,6 +42,7 @@ const PLAIN: Run<'static> = Run {
     desk_fails: &[],
     script_fails: &[],
     out_fails: &[],
+    takes: 4096,
     status: 0,
     output: "",
 };
@@ -55,83 +60,129 @@ const WORDS: [&str; 2] = ["play", "table.json"];
 // So many bytes an output takes.
 const ROOM: usize = 1 << 20;
 
-// The text with a TAB behind each seat's number.
-fn with_tabs(alloc: Global, text: &str) -> Result<String, Fail> {
-    let mut tabbed = String::new(alloc);
-    for line in text.split_inclusive('\n') {
-        match line.split_once(' ') {
-            Some((seat, rest)) if !seat.ends_with(':') => {
-                tabbed.push_str(&format!(in alloc; "{seat}\t{rest}")?)?;
-            }
-            _ => tabbed.push_str(line)?,
+fn text_of(rt: &impl Abort, alloc: Global, text: &str) -> LineText {
+    LineText::copy(alloc, text.as_bytes()).expect(rt, "memory")
+}
+
+fn calls(rt: &impl Abort, alloc: Global, failing: &[u64]) -> Vec<u64> {
+    failing.to_vec(alloc).expect(rt, "memory")
+}
+
+fn add(rt: &impl Abort, text: &mut String, piece: &str) {
+    text.push_str(piece).expect(rt, "memory");
+}
+
+fn tabbed(rt: &impl Abort, alloc: Global, line: &str) -> String {
+    match line.split_once(' ') {
+        Some((seat, rest)) if !seat.ends_with(':') => {
+            format!(in alloc; "{seat}\t{rest}").expect(rt, "memory")
         }
+        _ => String::from_str(alloc, line).expect(rt, "memory"),
     }
-    Ok(tabbed)
+}
+
+// The text with a TAB behind each seat's number.
+fn with_tabs(rt: &impl Abort, alloc: Global, text: &str) -> String {
+    let mut all = String::new(alloc);
+    for line in text.split_inclusive('\n') {
+        add(rt, &mut all, &tabbed(rt, alloc, line));
+    }
+    all
+}
+
+fn strings(rt: &impl Abort, alloc: Global, words: &[&str]) -> Vec<String> {
+    let mut all = Vec::new(alloc);
+    for word in words {
+        let word = String::from_str(alloc, word).expect(rt, "memory");
+        all.push(word).expect(rt, "memory");
+    }
+    all
+}
+
+// A desk with this campaign.
+fn desk_of(rt: &impl Abort, alloc: Global, campaign: &str, failing: &[u64]) -> MemDesk {
+    let name = Text::copy(alloc, "table.json").expect(rt, "memory");
+    let mut texts = Vec::new(alloc);
+    texts
+        .push((name, text_of(rt, alloc, campaign)))
+        .expect(rt, "memory");
+    MemDesk::new(alloc, texts, calls(rt, alloc, failing))
+}
+
+fn sink_of(rt: &impl Abort, alloc: Global, takes: usize, failing: &[u64]) -> MemSink {
+    MemSink::new(alloc, ROOM, takes, calls(rt, alloc, failing)).expect(rt, "memory")
+}
+
+// The status, and the output.
+fn outcome(rt: &impl Abort, alloc: Global, words: &[&str], run: &Run<'_>) -> (u8, MemSink) {
+    let words = strings(rt, alloc, words);
+    let mut desk = desk_of(rt, alloc, run.campaign, run.desk_fails);
+    let script = text_of(rt, alloc, run.script);
+    let mut script = MemSource::new(alloc, script, 7, calls(rt, alloc, run.script_fails));
+    let mut out = sink_of(rt, alloc, run.takes, run.out_fails);
+    let status = tabletop(alloc, &words, &mut desk, &mut script, &mut out);
+    (status, out)
 }
 
 // The status, and what was printed.
-fn played(alloc: Global, words: &[&str], run: &Run<'_>) -> Result<(u8, String), Fail> {
-    let mut all = Vec::new(alloc);
-    for word in words {
-        all.push(String::from_str(alloc, word)?)?;
-    }
-    let mut texts = Vec::new(alloc);
-    texts.push((
-        Text::copy(alloc, "table.json")?,
-        LineText::copy(alloc, run.campaign.as_bytes())?,
-    ))?;
-    let mut desk = MemDesk::new(alloc, texts, run.desk_fails.to_vec(alloc)?);
-    let script = LineText::copy(alloc, run.script.as_bytes())?;
-    let mut script = MemSource::new(alloc, script, 7, run.script_fails.to_vec(alloc)?);
-    let mut out = MemSink::new(alloc, ROOM, 4096, run.out_fails.to_vec(alloc)?)?;
-    let status = tabletop(alloc, &all, &mut desk, &mut script, &mut out);
-    Ok((status, String::from_utf8(out.bytes().to_vec(alloc)?)?))
+fn played(rt: &impl Abort, alloc: Global, words: &[&str], run: &Run<'_>) -> (u8, String) {
+    let (status, out) = outcome(rt, alloc, words, run);
+    let bytes = out.bytes().to_vec(alloc).expect(rt, "memory");
+    (status, String::from_utf8(bytes).expect(rt, "UTF-8"))
+}
+
+// The run ends with this status, and this was printed.
+fn ends(rt: &impl Abort, alloc: Global, words: &[&str], run: &Run<'_>, status: u8, output: &str) {
+    let (ended, printed) = played(rt, alloc, words, run);
+    assert!(rt; ended == status, "{}", run.name);
+    assert_eq!(rt; printed.as_str(), output, "{}", run.name);
 }
 
 // Plays the run, which prints what it is to print.
-fn check(rt: &impl Abort, alloc: Global, run: &Run<'_>) -> Result<String, Fail> {
-    let (status, output) = played(alloc, &WORDS, run)?;
-    assert_eq!(rt; status, run.status, "{}", run.name);
-    let wanted = with_tabs(alloc, run.output)?;
-    assert_eq!(rt; output.as_str(), wanted.as_str(), "{}", run.name);
-    Ok(output)
+fn check(rt: &impl Abort, alloc: Global, run: &Run<'_>) {
+    let wanted = with_tabs(rt, alloc, run.output);
+    ends(rt, alloc, &WORDS, run, run.status, &wanted);
 }
 
 #[test]
-fn plays_scripts(rt: HostRuntime) -> Result<(), Fail> {
-    let evening = [evening::EVENING];
-    let tables: [&[Run<'_>]; 3] = [&plays::PLAYS, &stops::STOPS, &evening];
-    for run in tables.into_iter().flatten() {
-        check(&rt, rt.alloc(), run)?;
+fn plays_scripts(rt: HostRuntime) {
+    for run in &plays::PLAYS {
+        check(&rt, rt.alloc(), run);
     }
-    Ok(())
+    check(&rt, rt.alloc(), &evening::EVENING);
 }
 
 #[test]
-fn plays_macros(rt: HostRuntime) -> Result<(), Fail> {
+fn stops_scripts(rt: HostRuntime) {
+    for run in &stops::STOPS {
+        check(&rt, rt.alloc(), run);
+    }
+}
+
+#[test]
+fn plays_macros(rt: HostRuntime) {
     for run in &macros::MACROS {
-        check(&rt, rt.alloc(), run)?;
+        check(&rt, rt.alloc(), run);
     }
-    Ok(())
 }
 
 // The lines of the first player.
-fn first_players(alloc: Global, output: &str) -> Result<String, Fail> {
+fn first_players(rt: &impl Abort, alloc: Global, output: &str) -> String {
     let mut lines = String::new(alloc);
     for line in output.split_inclusive('\n') {
         if line.starts_with("1\t") {
-            lines.push_str(line)?;
+            add(rt, &mut lines, line);
         }
     }
-    Ok(lines)
+    lines
 }
 
 #[test]
-fn what_is_unseen_changes_no_roll(rt: HostRuntime) -> Result<(), Fail> {
-    let alloc = rt.alloc();
-    let alone = check(&rt, alloc, &plays::ROLL_ALONE)?;
-    let among_others = check(&rt, alloc, &plays::ROLL_AMONG_OTHERS)?;
-    let among_others = first_players(alloc, &among_others)?;
+fn what_is_unseen_changes_no_roll(rt: HostRuntime) {
+    check(&rt, rt.alloc(), &plays::ROLL_ALONE);
+    check(&rt, rt.alloc(), &plays::ROLL_AMONG_OTHERS);
+    let (_, alone) = played(&rt, rt.alloc(), &WORDS, &plays::ROLL_ALONE);
+    let (_, all) = played(&rt, rt.alloc(), &WORDS, &plays::ROLL_AMONG_OTHERS);
+    let among_others = first_players(&rt, rt.alloc(), &all);
     assert_eq!(rt; among_others.as_str(), alone.as_str());
-    Ok(())
 }

@@ -1,22 +1,11 @@
 //! Campaigns that are checked, and campaigns that are written at the end.
 
 use super::campaigns::{CAVE, THREE_SEATS};
-use super::{PLAIN, Run, plain_run, played};
-use std::alloc::Global;
-use std::process::Abort;
-use std::test::Fail;
+use super::{PLAIN, Run, WORDS, ends, plain_run, played};
 
 const CHECK: [&str; 2] = ["check", "table.json"];
 
-// Checking it prints this.
-fn check(rt: &impl Abort, alloc: Global, run: &Run<'_>) -> Result<(), Fail> {
-    let (status, output) = played(alloc, &CHECK, run)?;
-    assert_eq!(rt; status, run.status, "{}", run.name);
-    assert_eq!(rt; output.as_str(), run.output, "{}", run.name);
-    Ok(())
-}
-
-const CHECKS: [Run<'static>; 6] = [
+static CHECKS: [Run<'static>; 6] = [
     Run {
         name: "a campaign with nothing but seats",
         campaign: THREE_SEATS,
@@ -61,35 +50,28 @@ const CHECKS: [Run<'static>; 6] = [
 ];
 
 #[test]
-fn checks_campaigns(rt: HostRuntime) -> Result<(), Fail> {
+fn checks_campaigns(rt: HostRuntime) {
     for run in &CHECKS {
-        check(&rt, rt.alloc(), run)?;
+        ends(&rt, rt.alloc(), &CHECK, run, run.status, run.output);
     }
-    Ok(())
 }
 
 // An owner that is no seat of the campaign, both ways in.
 #[test]
-fn a_breach_is_told_with_its_path(rt: HostRuntime) -> Result<(), Fail> {
-    let alloc = rt.alloc();
-    let campaign = CAVE.replace(alloc, r#""owners":[1]"#, r#""owners":[5]"#)?;
-    for words in [["check", "table.json"], ["play", "table.json"]] {
-        let (status, output) = played(alloc, &words, &plain_run(&campaign, ""))?;
-        assert_eq!(rt; status, 3);
-        assert_eq!(rt;
-            output.as_str(),
-            "tabletop: bad campaign at /tokens/0/owners/0: cross\n"
-        );
-    }
-    Ok(())
+fn a_breach_is_told_with_its_path(rt: HostRuntime) {
+    let campaign = CAVE.replace(rt.alloc(), r#""owners":[1]"#, r#""owners":[5]"#);
+    let campaign = campaign.expect(&rt, "memory");
+    let run = plain_run(&campaign, "");
+    let breach = "tabletop: bad campaign at /tokens/0/owners/0: cross\n";
+    ends(&rt, rt.alloc(), &CHECK, &run, 3, breach);
+    ends(&rt, rt.alloc(), &WORDS, &run, 3, breach);
 }
 
 // Where nothing was played, the campaign is written as it came.
 #[test]
-fn a_campaign_is_written_at_the_end(rt: HostRuntime) -> Result<(), Fail> {
+fn a_campaign_is_written_at_the_end(rt: HostRuntime) {
     let words = ["play", "--end", "table.json"];
-    let (status, output) = played(rt.alloc(), &words, &plain_run(THREE_SEATS, ""))?;
-    assert_eq!(rt; status, 0);
+    let (status, output) = played(&rt, rt.alloc(), &words, &plain_run(THREE_SEATS, ""));
+    assert!(rt; status == 0);
     assert_eq!(rt; output.strip_suffix('\n'), Some(THREE_SEATS));
-    Ok(())
 }

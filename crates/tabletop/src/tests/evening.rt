@@ -3,7 +3,7 @@
 
 use super::{PLAIN, Run};
 
-pub(super) const EVENING: Run<'static> = Run {
+pub(super) static EVENING: Run<'static> = Run {
     name: "an evening in the cave",
     campaign: r#"{"format":1,"lights":{},"maps":[{"h":6,"mbl":[[8,8,12,8]],"mode":"day","name":"cave","rows":["....gg","....gg","......","..ww..","..ww..","......"],"shown":true,"vbl":[[4,0,4,8],[4,8,8,8]],"w":6}],"seats":[{"drawn":0,"fog":{},"key":"gamemaster","macros":{},"seed":"5f1d5f1d5f1d5f1d5f1d5f1d5f1d5f1d5f1d5f1d5f1d5f1d5f1d5f1d5f1d5f1d","tags":[]},{"drawn":0,"fog":{},"key":"alice","macros":{},"seed":"a40ea40ea40ea40ea40ea40ea40ea40ea40ea40ea40ea40ea40ea40ea40ea40e","tags":["ann"]},{"drawn":0,"fog":{},"key":"robert","macros":{},"seed":"07c307c307c307c307c307c307c307c307c307c307c307c307c307c307c307c3","tags":["bo"]}],"sights":{"human":[10,0,2],"short":[2,0,1]},"tokens":[{"cell":[0,0],"id":"1:ann","layer":"token","light":null,"map":"cave","name":"Ann","own":[],"owners":[1],"props":[],"secret":[],"sight":"human","size":1,"visible":true},{"cell":[5,5],"id":"2:bo","layer":"token","light":null,"map":"cave","name":"Bo","own":[],"owners":[2],"props":[],"secret":[],"sight":"short","size":1,"visible":true}]}
 "#,

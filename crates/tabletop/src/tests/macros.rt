@@ -3,7 +3,7 @@
 use super::campaigns::{CAVE, THREE_SEATS};
 use super::{PLAIN, Run};
 
-pub(super) const MACROS: [Run<'static>; 3] = [
+pub(super) static MACROS: [Run<'static>; 3] = [
     Run {
         name: "a macro that tells each seat another text, one that runs out of units, and dice that only the first drew",
         campaign: THREE_SEATS,

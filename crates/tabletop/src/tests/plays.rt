@@ -3,7 +3,7 @@
 use super::campaigns::{CAVE, CAVE_WITH_ORC, HALL, THREE_SEATS, TWO_SEATS};
 use super::{PLAIN, Run};
 
-pub(super) const PLAYS: [Run<'static>; 19] = [
+pub(super) static PLAYS: [Run<'static>; 19] = [
     Run {
         name: "an empty script",
         campaign: THREE_SEATS,
@@ -360,7 +360,7 @@ pub(super) const PLAYS: [Run<'static>; 19] = [
 ];
 
 /// A player's roll after hello.
-pub(super) const ROLL_ALONE: Run<'static> = Run {
+pub(super) static ROLL_ALONE: Run<'static> = Run {
     name: "a roll alone",
     campaign: CAVE,
     script: r#"1 {"do":"hello","seat":1,"key":"a"}
@@ -375,7 +375,7 @@ pub(super) const ROLL_ALONE: Run<'static> = Run {
 };
 
 /// The same roll after what the game master did out of the player's sight.
-pub(super) const ROLL_AMONG_OTHERS: Run<'static> = Run {
+pub(super) static ROLL_AMONG_OTHERS: Run<'static> = Run {
     name: "a roll after what the game master did unseen",
     campaign: CAVE,
     script: r#"0 {"do":"hello","seat":0,"key":"g"}

@@ -3,12 +3,12 @@
 //! player's.
 
 use super::campaigns::THREE_SEATS;
-use super::{WORDS, plain_run, played, with_tabs};
+use super::{WORDS, add, plain_run, played, with_tabs};
 use std::alloc::Global;
-use std::test::Fail;
+use std::process::Abort;
 
 // The script's line, and the one line that it sends.
-const REFUSED: [(&str, &str); 49] = [
+static REFUSED: [(&str, &str); 49] = [
     (r#"1 {"#, r#"1 {"n":2,"no":1,"refused":"BadJson"}"#),
     (
         r#"1 {"do":"jump"}"#,
@@ -211,179 +211,167 @@ const HELLOS: &str = r#"0 {"do":"hello","seat":0,"key":"g"}
 
 // So many pieces, numbered from 0 on, with commas between them.
 fn add_numbered(
+    rt: &impl Abort,
     alloc: Global,
     text: &mut String,
     count: u32,
     front: &str,
     back: &str,
-) -> Result<(), Fail> {
+) {
     for number in 0..count {
         let comma = if number == 0 { "" } else { "," };
-        text.push_str(&format!(in alloc; "{comma}{front}{number}{back}")?)?;
+        let piece = format!(in alloc; "{comma}{front}{number}{back}");
+        add(rt, text, &piece.expect(rt, "memory"));
     }
-    Ok(())
 }
 
 // 2,048 different walls on a map of 5 by 5 cells: from the points of its upper half to those of its lower half.
-fn add_walls(alloc: Global, text: &mut String) -> Result<(), Fail> {
+fn add_walls(rt: &impl Abort, alloc: Global, text: &mut String) {
     for number in 0..2048_u32 {
         let comma = if number == 0 { "" } else { "," };
         let (ax, ay) = (number % 11, number / 11 % 5);
         let (bx, by) = (number / 55 % 11, 5 + number / 605);
-        text.push_str(&format!(in alloc; "{comma}[{ax},{ay},{bx},{by}]")?)?;
+        let piece = format!(in alloc; "{comma}[{ax},{ay},{bx},{by}]");
+        add(rt, text, &piece.expect(rt, "memory"));
     }
-    Ok(())
 }
 
-fn add_maps(alloc: Global, text: &mut String) -> Result<(), Fail> {
-    add_numbered(
-        alloc,
+fn add_maps(rt: &impl Abort, alloc: Global, text: &mut String) {
+    let front = r#"{"h":1,"mbl":[],"mode":"day","name":"m"#;
+    let back = r#"","rows":["."],"shown":true,"vbl":[],"w":1}"#;
+    add_numbered(rt, alloc, text, 7, front, back);
+    add(rt, text, r#",{"h":5,"mbl":["#);
+    add_walls(rt, alloc, text);
+    add(
+        rt,
         text,
-        7,
-        r#"{"h":1,"mbl":[],"mode":"day","name":"m"#,
-        r#"","rows":["."],"shown":true,"vbl":[],"w":1}"#,
-    )?;
-    text.push_str(r#",{"h":5,"mbl":["#)?;
-    add_walls(alloc, text)?;
-    text.push_str(
         r#"],"mode":"day","name":"maze","rows":[".....",".....",".....",".....","....."],"shown":true,"vbl":[],"w":5}"#,
-    )?;
-    Ok(())
+    );
 }
 
 // Four macros whose runs are refused, and 28 that say nothing.
-fn macros(alloc: Global) -> Result<String, Fail> {
-    let mut text = String::from_str(
-        alloc,
+fn macros(rt: &impl Abort, alloc: Global) -> String {
+    let mut text = String::new(alloc);
+    add(
+        rt,
+        &mut text,
         r#"{"budget":"[r,count(1000): 1+1+1+1+1+1]","fault":"[r: arg(0)]","full":"[r: setprop(\"1:t0\", \"new\", 0)]","over":"[r: 999999999 * 999999999 * 999999999]","#,
-    )?;
-    add_numbered(alloc, &mut text, 28, r#""m"#, r#"":"""#)?;
-    text.push_str("}")?;
-    Ok(text)
+    );
+    add_numbered(rt, alloc, &mut text, 28, r#""m"#, r#"":"""#);
+    add(rt, &mut text, "}");
+    text
 }
 
 // A seat whose tags are so many numbers behind the letter.
 fn add_seat(
+    rt: &impl Abort,
     alloc: Global,
     text: &mut String,
     key: &str,
     macros: &str,
     count: u32,
     letter: &str,
-) -> Result<(), Fail> {
-    text.push_str(r#"{"drawn":0,"fog":{},"key":""#)?;
-    text.push_str(key)?;
-    text.push_str(r#"","macros":"#)?;
-    text.push_str(macros)?;
-    text.push_str(
-        r#","seed":"0000000000000000000000000000000000000000000000000000000000000000","tags":["#,
-    )?;
-    add_numbered(alloc, text, count, &format!(in alloc; "\"{letter}")?, "\"")?;
-    text.push_str("]}")?;
-    Ok(())
+) {
+    let seed = "0000000000000000000000000000000000000000000000000000000000000000";
+    let front = format!(in alloc;
+        r#"{{"drawn":0,"fog":{{}},"key":"{key}","macros":{macros},"seed":"{seed}","tags":["#
+    );
+    add(rt, text, &front.expect(rt, "memory"));
+    add_numbered(rt, alloc, text, count, letter, "\"");
+    add(rt, text, "]}");
 }
 
-fn add_seats(alloc: Global, text: &mut String) -> Result<(), Fail> {
-    add_seat(alloc, text, "g", "{}", 2048, "g")?;
-    text.push_str(",")?;
-    add_seat(alloc, text, "a", &macros(alloc)?, 16, "t")?;
-    text.push_str(",")?;
-    add_seat(alloc, text, "b", "{}", 0, "t")?;
-    text.push_str(",")?;
-    add_seat(alloc, text, "c", "{}", 0, "t")
-}
-
-fn add_props(alloc: Global, text: &mut String, class: &str) -> Result<(), Fail> {
-    text.push_str(class)?;
-    add_numbered(alloc, text, 64, r#"["p"#, r#"",""]"#)?;
-    text.push_str("]")?;
-    Ok(())
+fn add_seats(rt: &impl Abort, alloc: Global, text: &mut String) {
+    add_seat(rt, alloc, text, "g", "{}", 2048, "\"g");
+    add(rt, text, ",");
+    add_seat(rt, alloc, text, "a", &macros(rt, alloc), 16, "\"t");
+    for key in ["b", "c"] {
+        add(rt, text, ",");
+        add_seat(rt, alloc, text, key, "{}", 0, "");
+    }
 }
 
 // Two tokens of the first player's, one made by the game master and one by the player.
-fn add_tokens(alloc: Global, text: &mut String) -> Result<(), Fail> {
-    text.push_str(
+fn add_tokens(rt: &impl Abort, alloc: Global, text: &mut String) {
+    add(
+        rt,
+        text,
         r#"{"cell":[0,0],"id":"0:g0","layer":"token","light":null,"map":"maze","name":"Ox","own":[],"owners":[1],"props":[],"secret":[],"sight":null,"size":1,"visible":true},"#,
-    )?;
-    text.push_str(
+    );
+    add(
+        rt,
+        text,
         r#"{"cell":[0,0],"id":"1:t0","layer":"token","light":null,"map":"maze","name":"Ann","owners":[1],"sight":null,"size":1,"visible":true"#,
-    )?;
-    add_props(alloc, text, r#","own":["#)?;
-    add_props(alloc, text, r#","props":["#)?;
-    add_props(alloc, text, r#","secret":["#)?;
-    text.push_str("}")?;
-    Ok(())
+    );
+    for class in [r#","own":["#, r#","props":["#, r#","secret":["#] {
+        add(rt, text, class);
+        add_numbered(rt, alloc, text, 64, r#"["p"#, r#"",""]"#);
+        add(rt, text, "]");
+    }
+    add(rt, text, "}");
 }
 
-fn full_campaign(alloc: Global) -> Result<String, Fail> {
+fn full_campaign(rt: &impl Abort, alloc: Global) -> String {
     let mut text = String::new(alloc);
-    text.push_str(r#"{"format":1,"lights":{"#)?;
-    add_numbered(alloc, &mut text, 32, r#""l"#, r#"":1"#)?;
-    text.push_str(r#"},"maps":["#)?;
-    add_maps(alloc, &mut text)?;
-    text.push_str(r#"],"seats":["#)?;
-    add_seats(alloc, &mut text)?;
-    text.push_str(r#"],"sights":{"#)?;
-    add_numbered(alloc, &mut text, 32, r#""s"#, r#"":[1,0,1]"#)?;
-    text.push_str(r#"},"tokens":["#)?;
-    add_tokens(alloc, &mut text)?;
-    text.push_str("]}")?;
-    Ok(text)
+    add(rt, &mut text, r#"{"format":1,"lights":{"#);
+    add_numbered(rt, alloc, &mut text, 32, r#""l"#, r#"":1"#);
+    add(rt, &mut text, r#"},"maps":["#);
+    add_maps(rt, alloc, &mut text);
+    add(rt, &mut text, r#"],"seats":["#);
+    add_seats(rt, alloc, &mut text);
+    add(rt, &mut text, r#"],"sights":{"#);
+    add_numbered(rt, alloc, &mut text, 32, r#""s"#, r#"":[1,0,1]"#);
+    add(rt, &mut text, r#"},"tokens":["#);
+    add_tokens(rt, alloc, &mut text);
+    add(rt, &mut text, "]}");
+    text
 }
 
-// The status of the script in the full campaign, and what was printed.
-fn played_in_full(alloc: Global, script: &str) -> Result<(u8, String), Fail> {
-    let campaign = full_campaign(alloc)?;
-    played(alloc, &WORDS, &plain_run(&campaign, script))
+// What the script prints in the full campaign.
+fn played_in_full(rt: &impl Abort, alloc: Global, script: &str) -> String {
+    let campaign = full_campaign(rt, alloc);
+    let (status, output) = played(rt, alloc, &WORDS, &plain_run(&campaign, script));
+    assert!(rt; status == 0);
+    output
+}
+
+fn add_line(rt: &impl Abort, text: &mut String, line: &str) {
+    add(rt, text, line);
+    add(rt, text, "\n");
 }
 
 #[test]
-fn each_refusal_is_given(rt: HostRuntime) -> Result<(), Fail> {
-    let alloc = rt.alloc();
-    let mut script = String::from_str(alloc, HELLOS)?;
-    let (status, mut wanted) = played_in_full(alloc, HELLOS)?;
-    assert_eq!(rt; status, 0);
+fn each_refusal_is_given(rt: HostRuntime) {
+    let mut script = String::from_str(rt.alloc(), HELLOS).expect(&rt, "memory");
+    let mut wanted = played_in_full(&rt, rt.alloc(), HELLOS);
     for (line, refusal) in &REFUSED {
-        script.push_str(line)?;
-        script.push_str(
-            "
-",
-        )?;
-        wanted.push_str(&with_tabs(alloc, refusal)?)?;
-        wanted.push_str(
-            "
-",
-        )?;
+        add_line(&rt, &mut script, line);
+        add_line(&rt, &mut wanted, &with_tabs(&rt, rt.alloc(), refusal));
     }
-    let (status, output) = played_in_full(alloc, &script)?;
-    assert_eq!(rt; status, 0);
+    let output = played_in_full(&rt, rt.alloc(), &script);
     assert_eq!(rt; output.as_str(), wanted.as_str());
-    Ok(())
 }
 
 // A hello, as many lines as the seat then has left in the run, and one more hello.
-fn spending(alloc: Global) -> Result<String, Fail> {
-    let mut script = String::from_str(alloc, HELLOS)?;
+fn spending(rt: &impl Abort, alloc: Global) -> String {
+    let mut script = String::from_str(alloc, HELLOS).expect(rt, "memory");
     for _ in 0..16_383 {
-        script.push_str("2 \n")?;
+        add(rt, &mut script, "2 \n");
     }
-    script.push_str(
-        r#"2 {"do":"hello","seat":2,"key":"b"}
-"#,
-    )?;
-    Ok(script)
+    add_line(rt, &mut script, r#"2 {"do":"hello","seat":2,"key":"b"}"#);
+    script
 }
 
 #[test]
-fn a_seat_has_so_many_lines_in_a_run(rt: HostRuntime) -> Result<(), Fail> {
-    let alloc = rt.alloc();
-    let script = spending(alloc)?;
-    let (status, output) = played(alloc, &WORDS, &plain_run(THREE_SEATS, &script))?;
-    assert_eq!(rt; status, 0);
+fn a_seat_has_so_many_lines_in_a_run(rt: HostRuntime) {
+    let script = spending(&rt, rt.alloc());
+    let run = plain_run(THREE_SEATS, &script);
+    let (status, output) = played(&rt, rt.alloc(), &WORDS, &run);
+    assert!(rt; status == 0);
     let end = r#"2 {"n":16383,"no":1,"refused":"BadJson"}
 2 {"n":16384,"no":1,"refused":"BadJson"}
 2 {"n":0,"no":26,"refused":"Spent"}
 "#;
-    assert!(rt; output.ends_with(with_tabs(alloc, end)?.as_str()));
-    Ok(())
+    let end = with_tabs(&rt, rt.alloc(), end);
+    assert!(rt; output.ends_with(end.as_str()));
 }

@@ -1,11 +1,11 @@
 //! Runs that stop before the end of their script, and the limits of lines and campaigns.
 
 use super::campaigns::{THREE_SEATS, TWO_SEATS};
-use super::{PLAIN, Run, WORDS, plain_run, played, with_tabs};
+use super::{PLAIN, Run, WORDS, add, ends, plain_run, with_tabs};
 use std::alloc::Global;
-use std::test::Fail;
+use std::process::Abort;
 
-pub(super) const STOPS: [Run<'static>; 9] = [
+pub(super) static STOPS: [Run<'static>; 11] = [
     Run {
         name: "no such seat",
         campaign: THREE_SEATS,
@@ -77,6 +77,27 @@ tabletop: bad script line 2
         ..PLAIN
     },
     Run {
+        name: "an output that takes one byte at once",
+        campaign: THREE_SEATS,
+        script: r#"1 {"do":"hello","seat":1,"key":"a"}
+"#,
+        takes: 1,
+        output: r#"1 {"n":1,"ok":"hello","seat":1,"seats":3}
+1 {"full":{"lights":{},"maps":[],"sights":{},"tokens":[]}}
+"#,
+        ..PLAIN
+    },
+    Run {
+        name: "an output that takes nothing",
+        campaign: THREE_SEATS,
+        script: r#"1 {"do":"hello","seat":1,"key":"a"}
+"#,
+        takes: 0,
+        status: 5,
+        output: "",
+        ..PLAIN
+    },
+    Run {
         name: "an output whose first write fails",
         campaign: THREE_SEATS,
         script: r#"1 {"do":"hello","seat":1,"key":"a"}
@@ -99,79 +120,62 @@ tabletop: bad script line 2
 ];
 
 // A hello, and a command with so many spaces behind it that it has this many bytes.
-fn long_line(alloc: Global, bytes: usize) -> Result<String, Fail> {
+fn long_line(rt: &impl Abort, alloc: Global, bytes: usize) -> String {
+    let hello = r#"1 {"do":"hello","seat":1,"key":"a"}"#;
     let command = r#"{"do":"say","text":"hi"}"#;
-    let mut script = String::from_str(
-        alloc,
-        r#"1 {"do":"hello","seat":1,"key":"a"}
-1 "#,
-    )?;
-    script.push_str(command)?;
-    for _ in command.len()..bytes {
-        script.push(' ')?;
-    }
-    script.push('\n')?;
-    Ok(script)
+    let spaces = bytes.saturating_sub(command.len());
+    format!(in alloc; "{hello}\n1 {command}{:spaces$}\n", "").expect(rt, "memory")
 }
 
-// The status, and what was printed of a script with such a line.
-fn played_long(alloc: Global, bytes: usize) -> Result<(u8, String), Fail> {
-    let script = long_line(alloc, bytes)?;
-    played(alloc, &WORDS, &plain_run(THREE_SEATS, &script))
-}
-
-const JOINED: &str = r#"1 {"n":1,"ok":"hello","seat":1,"seats":3}
+// Behind a hello the line of so many bytes is answered by this.
+fn long_line_ends(rt: &impl Abort, alloc: Global, bytes: usize, status: u8, answer: &str) {
+    let joined = r#"1 {"n":1,"ok":"hello","seat":1,"seats":3}
 1 {"full":{"lights":{},"maps":[],"sights":{},"tokens":[]}}
 "#;
+    let script = long_line(rt, alloc, bytes);
+    let mut wanted = with_tabs(rt, alloc, joined);
+    add(rt, &mut wanted, &with_tabs(rt, alloc, answer));
+    ends(
+        rt,
+        alloc,
+        &WORDS,
+        &plain_run(THREE_SEATS, &script),
+        status,
+        &wanted,
+    );
+}
 
 #[test]
-fn a_line_has_a_limit(rt: HostRuntime) -> Result<(), Fail> {
-    let alloc = rt.alloc();
-    for (bytes, status, last_lines) in [
-        (
-            4096,
-            0,
-            r#"1 {"n":2,"ok":"say"}
+fn a_line_has_a_limit(rt: HostRuntime) {
+    let said = r#"1 {"n":2,"ok":"say"}
 1 {"from":1,"text":"hi","to":"all"}
-"#,
-        ),
-        (4097, 7, "tabletop: bad script line 2\n"),
-        (4111, 8, "tabletop: too large\n"),
-    ] {
-        let (ended, output) = played_long(alloc, bytes)?;
-        assert_eq!(rt; ended, status, "at {bytes}");
-        let wanted = with_tabs(alloc, &format!(in alloc; "{JOINED}{last_lines}")?)?;
-        assert_eq!(rt; output.as_str(), wanted.as_str(), "at {bytes}");
-    }
-    Ok(())
+"#;
+    long_line_ends(&rt, rt.alloc(), 4096, 0, said);
+    long_line_ends(&rt, rt.alloc(), 4097, 7, "tabletop: bad script line 2\n");
+    long_line_ends(&rt, rt.alloc(), 4111, 8, "tabletop: too large\n");
 }
 
 #[test]
-fn a_campaign_has_a_limit(rt: HostRuntime) -> Result<(), Fail> {
-    let alloc = rt.alloc();
-    let campaign = String::from_utf8(vec![in alloc; b' '; 16_777_217]?)?;
-    let (status, output) = played(alloc, &WORDS, &plain_run(&campaign, ""))?;
-    assert_eq!(rt; status, 8);
-    assert_eq!(rt; output.as_str(), "tabletop: too large\n");
-    Ok(())
+fn a_campaign_has_a_limit(rt: HostRuntime) {
+    let spaces = vec![in rt.alloc(); b' '; 16_777_217].expect(&rt, "memory");
+    let campaign = String::from_utf8(spaces).expect(&rt, "UTF-8");
+    let run = plain_run(&campaign, "");
+    ends(&rt, rt.alloc(), &WORDS, &run, 8, "tabletop: too large\n");
 }
 
+static FAULTY_WORDS: [&[&str]; 5] = [
+    &["play"],
+    &["play", "-table.json"],
+    &["check", "table.json", "--end"],
+    &["drill", "7", "25"],
+    &["serve", "table.json", "80", "1"],
+];
+
 #[test]
-fn other_words_are_a_usage_fault(rt: HostRuntime) -> Result<(), Fail> {
-    let alloc = rt.alloc();
+fn other_words_are_a_usage_fault(rt: HostRuntime) {
     let usage =
         "tabletop: usage: play FILE [--end], check FILE, drill N LINES, serve FILE PORT COUNT [--end]\n";
-    let faulty: [&[&str]; 5] = [
-        &["play"],
-        &["play", "-table.json"],
-        &["check", "table.json", "--end"],
-        &["drill", "7", "25"],
-        &["serve", "table.json", "80", "1"],
-    ];
-    for words in faulty {
-        let (status, output) = played(alloc, words, &PLAIN)?;
-        assert_eq!(rt; status, 2);
-        assert_eq!(rt; output.as_str(), usage);
+    for words in &FAULTY_WORDS {
+        ends(&rt, rt.alloc(), words, &PLAIN, 2, usage);
     }
-    Ok(())
 }

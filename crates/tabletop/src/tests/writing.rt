@@ -1,8 +1,10 @@
 //! A campaign with all parts is read, and its text is written.
 
-use crate::write_campaign;
 use campaign_file::read_campaign;
-use std::test::Fail;
+use campaign_writing::write_campaign;
+use names::LineText;
+use std::alloc::Global;
+use std::process::Abort;
 
 // Each member stands in its place, and each list in its order, but for the walls, the runs and the spaces.
 const READ: &str = r#"
@@ -47,17 +49,15 @@ const WRITTEN: &str = concat!(
     r#""sight":"human","size":2,"visible":false}]}"#
 );
 
+fn rewritten(rt: &impl Abort, alloc: Global, text: &[u8]) -> LineText {
+    let world = read_campaign(alloc, text).ok().expect(rt, "a campaign");
+    write_campaign(alloc, &world).expect(rt, "memory")
+}
+
 #[test]
-fn a_campaign_with_all_parts_is_written(rt: HostRuntime) -> Result<(), Fail> {
-    let world = read_campaign(rt.alloc(), READ.as_bytes())
-        .ok()
-        .ok_or("not read")?;
-    let text = write_campaign(rt.alloc(), &world)?;
+fn a_campaign_with_all_parts_is_written(rt: HostRuntime) {
+    let text = rewritten(&rt, rt.alloc(), READ.as_bytes());
     assert_eq!(rt; text.bytes(), WRITTEN.as_bytes());
-    let again = read_campaign(rt.alloc(), text.bytes())
-        .ok()
-        .ok_or("not read again")?;
-    let same = write_campaign(rt.alloc(), &again)?;
-    assert_eq!(rt; same.bytes(), text.bytes());
-    Ok(())
+    let again = rewritten(&rt, rt.alloc(), text.bytes());
+    assert_eq!(rt; again.bytes(), text.bytes());
 }

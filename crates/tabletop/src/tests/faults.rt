@@ -1,0 +1,83 @@
+//! Each read and each write of a run fails once, and the script ends at each byte.
+
+use super::campaigns::TWO_SEATS;
+use super::{Run, WORDS, plain_run, played};
+use std::alloc::Global;
+use std::process::Abort;
+
+const SCRIPT: &str = r#"1 {"do":"hello","seat":1,"key":"a"}
+1 {"do":"say","text":"hi"}
+1 {"do":"look"}
+1 {"do":"bye"}
+"#;
+
+fn printed(rt: &impl Abort, alloc: Global, script: &str) -> (u8, String) {
+    played(rt, alloc, &WORDS, &plain_run(TWO_SEATS, script))
+}
+
+// Whether one text is some whole lines at the front of the other.
+fn is_front(part: &str, whole: &str) -> bool {
+    whole.starts_with(part) && (part.is_empty() || part.ends_with('\n'))
+}
+
+// The read of this number fails.
+fn read_fails(rt: &impl Abort, alloc: Global, number: u64, whole: &str) {
+    let run = Run {
+        script_fails: &[number],
+        ..plain_run(TWO_SEATS, SCRIPT)
+    };
+    let (status, output) = played(rt, alloc, &WORDS, &run);
+    let lines = output.strip_suffix("tabletop: read fault\n");
+    let lines = lines.expect(rt, "a last line");
+    assert!(rt; status == 4 && is_front(lines, whole), "{number}");
+}
+
+#[test]
+fn each_read_fails_once(rt: HostRuntime) {
+    let (_, whole) = printed(&rt, rt.alloc(), SCRIPT);
+    // (the source gives seven bytes at once)
+    for number in 0..=SCRIPT.len() / 7 {
+        read_fails(&rt, rt.alloc(), number as u64, &whole);
+    }
+}
+
+// The write of this number fails, before which so many lines were written.
+fn write_fails(rt: &impl Abort, alloc: Global, number: usize, whole: &str) {
+    let run = Run {
+        out_fails: &[number as u64],
+        ..plain_run(TWO_SEATS, SCRIPT)
+    };
+    let (status, output) = played(rt, alloc, &WORDS, &run);
+    assert!(rt; status == 5 && is_front(&output, whole), "{number}");
+    assert_eq!(rt; output.lines().count(), number);
+}
+
+#[test]
+fn each_write_fails_once(rt: HostRuntime) {
+    let (_, whole) = printed(&rt, rt.alloc(), SCRIPT);
+    for number in 0..whole.lines().count() {
+        write_fails(&rt, rt.alloc(), number, &whole);
+    }
+}
+
+// The script ends at this byte: its whole lines are answered as ever, and what stands behind them as a line of its own.
+fn ends_at(rt: &impl Abort, alloc: Global, bytes: usize, whole: &str) {
+    let script = SCRIPT.get(..bytes).expect(rt, "a front");
+    let (lines, rest) = script.rsplit_once('\n').unwrap_or(("", script));
+    let (_, answered) = printed(rt, alloc, lines);
+    let answer = printed(rt, alloc, script);
+    let line = format!(in alloc; "{script}\n").expect(rt, "memory");
+    assert!(rt; is_front(&answered, whole) && answer.1.starts_with(answered.as_str()));
+    assert!(rt;
+        rest.is_empty() || answer == printed(rt, alloc, &line),
+        "{bytes}"
+    );
+}
+
+#[test]
+fn a_script_ends_at_each_byte(rt: HostRuntime) {
+    let (_, whole) = printed(&rt, rt.alloc(), SCRIPT);
+    for bytes in 0..=SCRIPT.len() {
+        ends_at(&rt, rt.alloc(), bytes, &whole);
+    }
+}
