@@ -59,14 +59,15 @@ class SpentSeats(unittest.TestCase):
         server = subprocess.Popen([PROGRAM, "serve", str(self.file), str(port), "2"], stdin=subprocess.DEVNULL, stdout=subprocess.PIPE)
         self.addCleanup(server.stdout.close)
         self.addCleanup(server.kill)
-        lines = self.sent_to(connected(port).socket, [HELLO, *[SAY] * (MOST - 1)])
+        # The hello's reply and full line, and a reply and a message for each line behind it.
+        lines = self.sent_to(connected(port).socket, [HELLO, *[SAY] * (MOST - 1)], 2 * MOST)
         self.assertEqual(last_two(lines), [{"n": MOST, "ok": "say"}, {"from": 1, "text": "x", "to": "self"}])
-        self.assertEqual([json.loads(line) for line in self.sent_to(connected(port).socket, [HELLO])], [SPENT])
+        self.assertEqual([json.loads(line) for line in self.sent_to(connected(port).socket, [HELLO], 1)], [SPENT])
         self.assertEqual((server.stdout.read().decode().splitlines(), server.wait()), (["1 Spent", "2 Refused Spent"], 0))
 
     @staticmethod
-    def sent_to(connection, lines):
-        """What the connection is sent up to its end, while it sends these lines."""
+    def sent_to(connection, lines, count):
+        """The first so many lines that the connection is sent while it sends these lines."""
 
         def send():
             connection.sendall("".join(f"{json.dumps(line)}\n" for line in lines).encode())
@@ -75,7 +76,7 @@ class SpentSeats(unittest.TestCase):
         sending = threading.Thread(target=send)
         sending.start()
         with connection, socket.socket.makefile(connection, "rb") as answers:
-            found = answers.read().splitlines()
+            found = [answers.readline() for _ in range(count)]
             sending.join()
         return found
 
