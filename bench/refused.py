@@ -1,9 +1,9 @@
 """The runs of bench/refused.sh: PROGRAM plays small evenings and serves one, and one allocation, each in turn, finds no memory.
 
 A play has to print a front, by whole lines, of what it prints with ample memory, then `tabletop: out of memory`, and end with
-status 6; or to print all and end with 0, where the memory was not needed for the answer. A server is served to three connections,
-one after another: each has to get a front, by whole lines, of what it gets with ample memory, and the words that are printed have
-to be those of ample memory but for one: `Memory` for the session whose own growth was refused, or `busy` where it could not begin.
+status 6; or to print all and end with 0, where the memory was not needed for the answer. A server serves three connections side by
+side: each has to get a front, by whole lines, of what it gets with ample memory, and the words that are printed have to be those of
+ample memory but for one: `Memory` for the session whose own growth was refused, or `busy` where it could not begin.
 
     python3 bench/refused.py PROGRAM FOLDER         FOLDER has refuse.so, and is written to
 """
@@ -11,7 +11,6 @@ to be those of ample memory but for one: `Memory` for the session whose own grow
 import contextlib
 import json
 import os
-import re
 import socket
 import subprocess
 import sys
@@ -69,8 +68,8 @@ PLAYS = {
                         (1, {"do": "roll", "dice": "1d20", "to": "self"})]),
 }
 
-# What is served: the lines of each connection, one after another, the last of which leaves or ends its input.
-CONNECTIONS = [[hello(1), {"do": "bye"}], [hello(1, "x")], [hello(1), {"do": "say", "text": "hi", "to": "all"}]]
+# What is served: the lines of each connection, of which none can change what another gets.
+CONNECTIONS = [[hello(1), {"do": "bye"}], [hello(0, "x")], [hello(2), {"do": "say", "text": "hi", "to": "self"}]]
 WORDS = ["1 Left", "2 Refused BadKey", "3 Left"]
 
 
@@ -148,32 +147,35 @@ def connected(port, server):
     return None
 
 
-def got(port, server, lines):
-    """What a connection gets that sends these lines and then nothing more."""
-    connection = connected(port, server)
-    if connection is None:
-        return b""
-    with connection, contextlib.suppress(OSError):
+def sent(connection, lines):
+    """Sends these lines and nothing more."""
+    with contextlib.suppress(OSError):
         connection.sendall(lines_of(lines))
         connection.shutdown(socket.SHUT_WR)
-        with connection.makefile("rb") as answers:
-            return answers.read()
-    return b""
+
+
+def got(connection):
+    """What comes up to the end of the connection."""
+    text = b""
+    with contextlib.suppress(OSError):
+        while piece := connection.recv(65536):
+            text += piece
+    return text
 
 
 def served(number):
     """What each connection got, what the server printed, and its status."""
     port = free_port()
     words = [PROGRAM, "serve", CAMPAIGN, str(port), str(len(CONNECTIONS))]
-    with subprocess.Popen(words, stdin=subprocess.DEVNULL, stdout=subprocess.PIPE, env=refusing(number)) as server:
-        texts = [got(port, server, lines) for lines in CONNECTIONS]
+    with subprocess.Popen(words, stdin=subprocess.DEVNULL, stdout=subprocess.PIPE, env=refusing(number)) as server, contextlib.ExitStack() as open_ones:
+        connections = [connected(port, server) for _ in CONNECTIONS]
+        for connection, lines in zip(connections, CONNECTIONS):
+            if connection:
+                open_ones.enter_context(connection)
+                sent(connection, lines)
+        texts = [got(connection) if connection else b"" for connection in connections]
         out = server.stdout.read()
         return texts, out, server.wait(timeout=60)
-
-
-def without_counts(text):
-    """The lines without how many the seat had before: one session more or less makes it another."""
-    return re.sub(rb'"n":[0-9]+', b'"n":0', text)
 
 
 def is_told(given, whole):
@@ -184,7 +186,7 @@ def is_told(given, whole):
 
 def is_served(given, whole):
     texts, out, status = given
-    if not all(is_front(without_counts(text), without_counts(other)) for text, other in zip(texts, whole[0])):
+    if not all(is_front(text, other) for text, other in zip(texts, whole[0])):
         return False
     if status == 0:
         return is_told(out.decode().splitlines(), WORDS)

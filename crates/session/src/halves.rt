@@ -47,9 +47,12 @@ pub(crate) fn run_halves<R: Threads + Wait + Sync, I: Source + Send, O: Sink + S
     ensures output_count { O.faults_of output.old ≤ O.faults_of output.new }
     ensures write_fault { result.1 ≡ Wrote.WriteFault → CountRose (O.faults_of output.old) (O.faults_of output.new) }
 {
-    join_mut(
+    // Where no second thread can be made, the second one is run first: the lines are read and entered, and then what waits is
+    // written. The other way round it would wait for ever for lines that nobody reads.
+    let (wrote, read) = join_mut(
         rt,
-        &mut || read_half(rt, alloc, hall, reading, hold, lines, input),
         &mut || write_half(rt, hall, writing, hold, output),
-    )
+        &mut || read_half(rt, alloc, hall, reading, hold, lines, input),
+    );
+    (read, wrote)
 }
