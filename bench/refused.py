@@ -21,6 +21,8 @@ CAMPAIGN = os.path.join(WORK, "campaign.json")
 LAST_LINE = b"tabletop: out of memory\n"
 # So many whole runs one after another tell that no allocation is left.
 STILL = 20
+# Seconds after which a connection that gets nothing more, and doesn't end, is held up.
+PATIENCE = 20
 
 
 def seat(key, *tags):
@@ -142,7 +144,7 @@ def connected(port, server):
     """A connection, once the program listens; none where it ended."""
     while server.poll() is None:
         with contextlib.suppress(OSError):
-            return socket.create_connection(("127.0.0.1", port), timeout=60)
+            return socket.create_connection(("127.0.0.1", port), timeout=PATIENCE)
         time.sleep(0.002)
     return None
 
@@ -157,25 +159,35 @@ def sent(connection, lines):
 def got(connection):
     """What comes up to the end of the connection."""
     text = b""
-    with contextlib.suppress(OSError):
+    with contextlib.suppress(ConnectionError):
         while piece := connection.recv(65536):
             text += piece
     return text
 
 
-def served(number):
-    """What each connection got, what the server printed, and its status."""
-    port = free_port()
-    words = [PROGRAM, "serve", CAMPAIGN, str(port), str(len(CONNECTIONS))]
-    with subprocess.Popen(words, stdin=subprocess.DEVNULL, stdout=subprocess.PIPE, env=refusing(number)) as server, contextlib.ExitStack() as open_ones:
+def answers(port, server):
+    """What each connection gets."""
+    with contextlib.ExitStack() as to_close:
         connections = [connected(port, server) for _ in CONNECTIONS]
         for connection, lines in zip(connections, CONNECTIONS):
             if connection:
-                open_ones.enter_context(connection)
+                to_close.enter_context(connection)
                 sent(connection, lines)
-        texts = [got(connection) if connection else b"" for connection in connections]
+        return [got(connection) if connection else b"" for connection in connections]
+
+
+def served(number):
+    """What each connection got, what the server printed, and its status; nothing where a connection was held up."""
+    port = free_port()
+    words = [PROGRAM, "serve", CAMPAIGN, str(port), str(len(CONNECTIONS))]
+    with subprocess.Popen(words, stdin=subprocess.DEVNULL, stdout=subprocess.PIPE, env=refusing(number)) as server:
+        try:
+            texts = answers(port, server)
+        except TimeoutError:
+            server.kill()
+            return None
         out = server.stdout.read()
-        return texts, out, server.wait(timeout=60)
+        return texts, out, server.wait(timeout=PATIENCE)
 
 
 def is_told(given, whole):
@@ -185,6 +197,8 @@ def is_told(given, whole):
 
 
 def is_served(given, whole):
+    if given is None:
+        return False
     texts, out, status = given
     if not all(is_front(text, other) for text, other in zip(texts, whole[0])):
         return False

@@ -8,7 +8,6 @@ mod faults;
 mod macros;
 mod plays;
 mod refusals;
-mod serves;
 mod stops;
 mod writing;
 

@@ -1,0 +1,115 @@
+"""Connections that are served in one hall over TCP: what each is sent, what is printed, and the status. Without the built program this
+is skipped.
+
+    python3 -m unittest examples/test_serve.py
+"""
+
+import json
+import os
+import pathlib
+import socket
+import subprocess
+import sys
+import tempfile
+import unittest
+
+HERE = pathlib.Path(__file__).resolve().parent
+PROGRAM = os.environ.get("TABLETOP", str(HERE.parent / "crates" / "tabletop" / "out" / "tabletop"))
+sys.path.insert(0, str(HERE))
+
+from test_table import connected, free_port  # noqa: E402
+
+USAGE = "tabletop: usage: play FILE [--end], check FILE, drill N LINES, serve FILE PORT COUNT [--end]\n"
+FULL = b'{"full":{"lights":{},"maps":[],"sights":{},"tokens":[]}}\n'
+
+
+def seat(key):
+    return {"drawn": 0, "fog": {}, "key": key, "macros": {}, "seed": "0" * 64, "tags": []}
+
+
+# In the order of a campaign that the program writes.
+CAMPAIGN = {"format": 1, "lights": {}, "maps": [], "seats": [seat("g"), seat("a"), seat("b")], "sights": {}, "tokens": []}
+TEXT = json.dumps(CAMPAIGN, separators=(",", ":"))
+
+
+def hello(key):
+    return {"do": "hello", "key": key, "seat": 1}
+
+
+# What each connection sends, and the lines that it is sent. The number of the last shows that all share one hall.
+CONNECTIONS = [
+    ([hello("a"), {"do": "bye"}], [b'{"n":1,"ok":"hello","seat":1,"seats":3}\n', FULL, b'{"n":2,"ok":"bye"}\n']),
+    ([hello("x")], [b'{"n":0,"no":24,"refused":"BadKey"}\n']),
+    ([hello("a")], [b'{"n":3,"ok":"hello","seat":1,"seats":3}\n', FULL]),
+]
+
+
+@unittest.skipUnless(os.access(PROGRAM, os.X_OK), "the program isn't built")
+class Connections(unittest.TestCase):
+    def setUp(self):
+        folder = tempfile.TemporaryDirectory()
+        self.addCleanup(folder.cleanup)
+        self.file = pathlib.Path(folder.name) / "table.json"
+        self.file.write_text(TEXT, encoding="utf-8")
+
+    def test_three_connections_one_after_another(self):
+        for words, ending in ((), ""), (("--end",), TEXT + "\n"):
+            with self.subTest(words=words):
+                server, port = self.started("3", *words)
+                for lines, wanted in CONNECTIONS:
+                    self.assertEqual(self.sat(port, lines, len(wanted)), wanted)
+                self.assertEqual(self.ended(server), ("1 Left\n2 Refused BadKey\n3 Left\n" + ending, 0))
+
+    def test_words_that_are_none(self):
+        for count in "0", "1025", "03":
+            with self.subTest(count=count):
+                server, _ = self.started(count)
+                self.assertEqual(self.ended(server), (USAGE, 2))
+
+    def test_a_campaign_that_is_none(self):
+        self.file.write_text(TEXT.replace('"format":1', '"format":3'), encoding="utf-8")
+        server, _ = self.started("3")
+        self.assertEqual(self.ended(server), ("tabletop: bad campaign at /format: range\n", 3))
+
+    def test_a_file_that_is_not_there(self):
+        self.file.unlink()
+        server, _ = self.started("3")
+        self.assertEqual(self.ended(server), ("tabletop: read fault\n", 4))
+
+    def test_a_port_that_is_taken(self):
+        with socket.create_server(("127.0.0.1", 0)) as door:
+            server = self.started_at(door.getsockname()[1], "3")
+            self.assertEqual(self.ended(server), ("tabletop: door fault\n", 9))
+
+    def test_an_output_that_takes_nothing(self):
+        port = free_port()
+        with open("/dev/full", "wb") as full:
+            server = subprocess.Popen([PROGRAM, "serve", str(self.file), str(port), "1"], stdin=subprocess.DEVNULL, stdout=full)
+            self.addCleanup(server.kill)
+            self.sat(port, [hello("a")], 2)
+            self.assertEqual(server.wait(timeout=60), 5)
+
+    def started(self, *words):
+        port = free_port()
+        return self.started_at(port, *words), port
+
+    def started_at(self, port, *words):
+        server = subprocess.Popen([PROGRAM, "serve", str(self.file), str(port), *words], stdin=subprocess.DEVNULL, stdout=subprocess.PIPE)
+        self.addCleanup(server.stdout.close)
+        self.addCleanup(server.kill)
+        return server
+
+    @staticmethod
+    def ended(server):
+        return server.stdout.read().decode(), server.wait(timeout=60)
+
+    @staticmethod
+    def sat(port, lines, count):
+        """The first so many lines that a connection is sent which sends these lines, and then goes."""
+        with connected(port).socket as connection, connection.makefile("rb") as answers:
+            connection.sendall("".join(f"{json.dumps(line)}\n" for line in lines).encode())
+            return [answers.readline() for _ in range(count)]
+
+
+if __name__ == "__main__":
+    unittest.main()
