@@ -37,7 +37,8 @@ import client  # noqa: E402
 CONNECTIONS = int(os.environ.get("CONNECTIONS", "1024"))
 PLAYERS, SILENT = 32, 8
 READERS = PLAYERS - SILENT
-SAYS = int(os.environ.get("SAYS", "5000"))
+# The kernel takes some millions of bytes for a connection that nobody reads before anything waits.
+SAYS = int(os.environ.get("SAYS", "12000"))
 LIMIT = 600
 # Bytes that may wait for a session, and what a session may take beside them while they are written.
 WAITING, COPIES = 4_194_304, 2
@@ -136,8 +137,9 @@ class Budget:
 
     def take(self):
         with self.lock:
-            self.left -= self.left > 0
-            return self.left > 0
+            is_left = self.left > 0
+            self.left -= is_left
+            return is_left
 
 
 def play(session, rng):
