@@ -150,8 +150,9 @@ fn summary_line(alloc: Global, summary: &Summary) -> Result<String, Memory>
         sent,
         bytes,
     } = tally;
-    match format!(in alloc; "drill {number}: lines {lines}, refused {refused}, sent {sent}, bytes {bytes}, seen {seen}, looks {looks}, tested {tested}\n")
-    {
+    match format!(in alloc;
+        "drill {number}: lines {lines}, refused {refused}, sent {sent}, bytes {bytes}, seen {seen}, looks {looks}, tested {tested}\n"
+    ) {
         Ok(line) => Ok(line),
         Err(_) => Err(Memory),
     }
