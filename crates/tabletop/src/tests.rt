@@ -3,6 +3,7 @@
 
 mod campaigns;
 mod checks;
+mod drills;
 mod evening;
 mod macros;
 mod plays;

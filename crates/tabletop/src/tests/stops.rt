@@ -165,7 +165,7 @@ fn other_words_are_a_usage_fault(rt: HostRuntime) -> Result<(), Fail> {
         &["play"],
         &["play", "-table.json"],
         &["check", "table.json", "--end"],
-        &["drill", "7", "25"],
+        &["drill", "7", "4"],
         &["serve", "table.json", "80", "1"],
     ];
     for words in faulty {

@@ -1,0 +1,62 @@
+-- What `drill` plays and prints.
+use Rattle.std.specs.Prelude.{◌≡◌, ◌≤◌, ℕ, ◌+◌, List, [], ◌∷◌, ◌++◌, codes, decimal, length, Option}
+use Rattle.campaign_writing.specs.Canonical.{reopened}
+use Rattle.campaign_law.specs.declared.entry.Entry.{Entry}
+use Rattle.campaign_law.specs.World.{World, replay}
+use Rattle.campaign_law.specs.Worlds.{opening_world}
+use Rattle.campaign_law.specs.Law.{bytes_of}
+use Rattle.campaign_core.specs.Totals.{seen_total}
+use Rattle.command_looks.specs.Touched.{looks_of_opening}
+use Rattle.script_play.specs.Script.{Script, done, bad_line, too_large, script_of}
+use Rattle.script_play.specs.Counting.{lines_in, lines_sent, looks_in, refused_in}
+use Rattle.drill.specs.Campaign.{drill_world}
+use Rattle.drill.specs.Script.{drill_script}
+use Rattle.tabletop.specs.declared.drilling.Summary.{Summary}
+use Rattle.tabletop.specs.declared.endings.Ended.{Ended}
+use Rattle.tabletop.specs.declared.endings.Ended.TheVariants.{Done, WriteFault, Memory, BadLine, TooLarge}
+use Rattle.tabletop.specs.Printing.{PrintsLine}
+
+-- the world that the campaign of the drill of number n opens with
+unfoldable pub drill_origin : ℕ → World
+drill_origin n = opening_world (reopened (drill_world n))
+
+-- the entries of its script of so many lines, and how it ends
+unfoldable pub drill_played : ℕ → ℕ → Script
+drill_played n lines = script_of (drill_origin n) (drill_script n lines)
+
+abbrev pub summary_line : Summary → List ℕ
+summary_line s =
+    codes "drill " ++ (decimal s.number ++ (codes ": lines " ++ (decimal s.tally.lines ++ (codes ", refused " ++ (decimal s.tally.refused ++ (codes ", sent " ++ (decimal s.tally.sent ++ (codes ", bytes " ++ (decimal s.tally.bytes
+    ++ (codes ", seen " ++ (decimal s.seen ++ (codes ", looks " ++ (decimal s.looks ++ (codes ", tested " ++ (decimal s.tested ++ 10 ∷ [])))))))))))))))
+
+-- the script was played to its end with these entries: how many of them are lines, and lines that were refused; how many lines they
+-- sent, and how many bytes with each line's LF; how many cells the players see at the end; and at most how many looks were made.
+-- How many pairs of a wall and a cell the eye compared is its own count
+pub record Drills (n count : ℕ) (s : Summary) : Type 0 where
+  pub entries : List Entry
+  pub played : drill_played n count ≡ record { entries = entries; ending = done }
+  pub number : s.number ≡ n
+  pub lines : s.tally.lines ≡ lines_in entries
+  pub refused : s.tally.refused ≡ refused_in (drill_origin n) entries
+  pub sent : s.tally.sent ≡ length (lines_sent (drill_origin n) entries)
+  pub bytes : s.tally.bytes ≡ length (bytes_of (lines_sent (drill_origin n) entries))
+  pub seen : s.seen ≡ seen_total (replay (drill_origin n) entries).scene
+  pub looks : s.looks ≤ looks_of_opening (drill_origin n).scene + looks_in (drill_origin n) entries
+
+-- a drill that wasn't played to its end
+abbrev pub HasStopped : Ended → ℕ → ℕ → Type 0
+HasStopped Memory n lines = Unit {0}
+HasStopped (BadLine number) n lines = (drill_played n lines).ending ≡ bad_line number
+HasStopped TooLarge n lines = (drill_played n lines).ending ≡ too_large
+HasStopped ended n lines = ⊥
+
+-- what was counted was to be printed
+pub record PrintsSummary (ended : Ended) (n lines : ℕ) (out after : Option (List ℕ)) : Type 0 where
+  pub summary : Summary
+  pub drills : Drills n lines summary
+  pub printed : PrintsLine ended (summary_line summary) out after
+
+abbrev pub DrillEnds : Ended → ℕ → ℕ → (out after : Option (List ℕ)) → Type 0
+DrillEnds Done n lines out after = PrintsSummary Done n lines out after
+DrillEnds WriteFault n lines out after = PrintsSummary WriteFault n lines out after
+DrillEnds ended n lines out after = HasStopped ended n lines × (after ≡ out)
