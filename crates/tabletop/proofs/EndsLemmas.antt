@@ -34,7 +34,8 @@ use Rattle.tabletop.specs.declared.endings.Ended.TheVariants.{Done, Usage, BadCa
 use Rattle.tabletop.specs.Endings.{status_of, last_line, HasOwnLine}
 use Rattle.tabletop.specs.Ends.{PlaysOn, ScriptEnds, EndsByLine, end_line, PlayEnds, FollowsPlay, CheckEnds, NotFetched, FileEnds, JobEnds, HasEnded, IsToldAs, ended_by, unfetched, campaign_limit}
 use Rattle.tabletop.specs.Printing.{PrintsLine}
-use Rattle.tabletop.specs.Drilled.{DrillEnds, drill_played}
+use Rattle.drill.specs.Script.{drill_script}
+use Rattle.tabletop.specs.Drilled.{DrillEnds, drill_origin}
 
 -- ---- a campaign that opens
 
@@ -444,7 +445,7 @@ check_completes status job texts script left out after D S OutFailed file campai
     (subst (λ j. JobEnds D S h.ended j texts script left out h.before_line) j h.ends))
 
 -- a drill whose script ends as done
-drill_done : (ended : Ended) (n lines : ℕ) (out after : Option (List ℕ)) → (drill_played n lines).ending ≡ done → ¬ (status_of ended ≡ 5) → DrillEnds ended n lines out after → DoneOrMemory (status_of ended)
+drill_done : (ended : Ended) (n lines : ℕ) (out after : Option (List ℕ)) → (script_of (drill_origin n) (drill_script n lines)).ending ≡ done → ¬ (status_of ended ≡ 5) → DrillEnds ended n lines out after → DoneOrMemory (status_of ended)
 drill_done Done n lines out after script no_write h = inl refl
 drill_done Memory n lines out after script no_write h = inr refl
 drill_done WriteFault n lines out after script no_write h = absurd (no_write refl)
@@ -455,7 +456,7 @@ drill_done (BadCampaign breach) n lines out after script no_write h = absurd h.0
 drill_done ReadFault n lines out after script no_write h = absurd h.0
 drill_done DoorFault n lines out after script no_write h = absurd h.0
 
-pub drill_completes : (status : ℕ) (job : Option Asked) (texts : List ℕ → Option (List ℕ)) (script left out after : Option (List ℕ)) (D S OutFailed : Type 0) (number lines : ℕ) → HasEnded status job texts script left out after D S OutFailed → job ≡ Some (Drill number lines) → (drill_played number lines).ending ≡ done → ¬ (status ≡ 5) → DoneOrMemory status
+pub drill_completes : (status : ℕ) (job : Option Asked) (texts : List ℕ → Option (List ℕ)) (script left out after : Option (List ℕ)) (D S OutFailed : Type 0) (number lines : ℕ) → HasEnded status job texts script left out after D S OutFailed → job ≡ Some (Drill number lines) → (script_of (drill_origin number) (drill_script number lines)).ending ≡ done → ¬ (status ≡ 5) → DoneOrMemory status
 drill_completes status job texts script left out after D S OutFailed number lines h j ends no_write =
     subst DoneOrMemory (sym h.status_is)
     (drill_done h.ended number lines out h.before_line ends (λ e. no_write (h.status_is ∙ e))

@@ -1,12 +1,14 @@
 //! `drill N LINES`: a drill is made and played, and what came of it is counted.
-ghost use Rattle.std.specs.Prelude.{◌≡◌, ◌≤◌, [], ℕ, string_bytes, IfOk, IfErr};
-ghost use Rattle.command_looks.specs.Touched.{looks_of_opening};
+ghost use Rattle.std.specs.Prelude.{◌≡◌, ◌≤◌, string_bytes, IfOk, IfErr};
 ghost use Rattle.campaign_core.specs.Totals.{seen_total};
-ghost use Rattle.campaign_law.specs.Law.{IsOpening, world_of};
+ghost use Rattle.campaign_law.specs.Law.{world_of};
 ghost use Rattle.drill.specs.Script.{drill_script};
 ghost use Rattle.line_io.specs.Counts.{CountRose};
+ghost use Rattle.script_play.specs.Counting.{Adds, no_tally};
+ghost use Rattle.script_play.specs.Played.{GoesOn, HasEntered, entries_since};
+ghost use Rattle.script_play.specs.Script.{NothingWaits, script_of};
 ghost use Rattle.tabletop.specs.Printing.{PrintsLine};
-ghost use Rattle.tabletop.specs.Drilled.{DrillEnds, Drills, HasStopped, drill_origin, summary_line as summary_line_lem};
+ghost use Rattle.tabletop.specs.Drilled.{Counts, DrillEnds, Drills, HasStopped, Opens, drill_origin, counts_found as counts_found_lem, counts_sent as counts_sent_lem, summary_line as summary_line_lem};
 
 use crate::endings::Ended;
 use crate::printing::print_line;
@@ -61,42 +63,73 @@ pub(crate) fn summary_of<E: Eye + Drop>(
     requires most { lines ≤ 10000 }
     requires eye { E.looks_made eye ≡ 0 }
     ensures drills { IfOk result (λ summary. Drills number lines summary) }
-    ensures stopped { IfErr result (λ stop. HasStopped stop number lines) }
+    ensures stopped { IfErr result (λ stop. HasStopped stop (drill_origin number) (drill_script number lines)) }
 {
-    let Ok((text, script)) = make_drill(alloc, number, lines) else {
-        return Err(Ended::Memory);
-    };
-    match Campaign::open(alloc, text.bytes(), eye) {
-        Ok(campaign) => play_drill(alloc, number, campaign, script),
-        Err(OpenFault::Bad(_)) => unreachable!(),
-        Err(OpenFault::Memory) => Err(Ended::Memory),
+    match open_drill(alloc, number, lines, eye) {
+        Ok((mut campaign, script)) => play_drill(alloc, number, &mut campaign, script),
+        Err(_) => Err(Ended::Memory),
     }
 }
 
-// Plays the script of a drill on its campaign, which has no entries yet.
+// The campaign that the drill opens, and its script.
+fn open_drill<E: Eye + Drop>(
+    alloc: Global,
+    number: u32,
+    lines: u32,
+    eye: E,
+) -> Result<(Campaign<E>, LineText), Memory>
+    requires least { 5 ≤ lines }
+    requires most { lines ≤ 10000 }
+    requires eye { E.looks_made eye ≡ 0 }
+    ensures campaign { IfOk result (λ drill. Opens (drill_origin number) drill.0) }
+    ensures script { IfOk result (λ drill. drill.1 ≡ drill_script number lines) }
+{
+    let (text, script) = make_drill(alloc, number, lines)?;
+    match Campaign::open(alloc, text.bytes(), eye) {
+        Ok(campaign) => Ok((campaign, script)),
+        Err(OpenFault::Bad(_)) => unreachable!(),
+        Err(OpenFault::Memory) => Err(Memory),
+    }
+}
+
+// Plays a script on a campaign that was just opened, and counts what came of it.
 fn play_drill<E: Eye + Drop>(
     alloc: Global,
     number: u32,
-    mut campaign: Campaign<E>,
+    campaign: &mut Campaign<E>,
     script: LineText,
 ) -> Result<Summary, Ended>
-    requires origin { campaign.origin ≡ drill_origin number }
-    requires opening { IsOpening campaign.origin }
-    requires history { campaign.history ≡ [] }
-    requires looks { campaign.looks ≤ looks_of_opening campaign.origin.scene }
-    ensures drills { (lines : ℕ) → script ≡ drill_script number lines → IfOk result (λ summary. Drills number lines summary) }
-    ensures stopped { (lines : ℕ) → script ≡ drill_script number lines → IfErr result (λ stop. HasStopped stop number lines) }
+    requires { Opens campaign.old.origin campaign.old }
+    ensures number { IfOk result (λ summary. summary.number ≡ number) }
+    ensures counts { IfOk result (λ summary. Counts campaign.old.origin script summary) }
+    ensures stopped { IfErr result (λ stop. HasStopped stop campaign.old.origin script) }
 {
-    let mut script = ScriptText::new(script);
-    let mut out = NoOutput;
-    let (played, tally) = play_counted(alloc, &mut campaign, &mut script, &mut out);
+    let (played, tally) = play_script(alloc, campaign, script);
     match played {
-        Played::Done => counted(number, &campaign, tally),
+        Played::Done => counted(number, campaign, tally),
         Played::BadLine(line) => Err(Ended::BadLine(line)),
         Played::TooLarge => Err(Ended::TooLarge),
         Played::Memory => Err(Ended::Memory),
         Played::ReadFault | Played::WriteFault => unreachable!(),
     }
+}
+
+// Plays a script that is in memory, and keeps none of what is sent, so that neither fails.
+fn play_script<E: Eye + Drop>(
+    alloc: Global,
+    campaign: &mut Campaign<E>,
+    script: LineText,
+) -> (Played, Tally)
+    requires { NothingWaits (world_of campaign.old) }
+    ensures campaign { GoesOn campaign.old campaign.new }
+    ensures entered { HasEntered result.0 (script_of (world_of campaign.old) script) (entries_since campaign.old campaign.new) }
+    ensures counted { result.0 ≡ Played.Done → Adds no_tally result.1 campaign.old campaign.new }
+    ensures no_read_fault { result.0 ≡ Played.ReadFault → ⊥ }
+    ensures no_write_fault { result.0 ≡ Played.WriteFault → ⊥ }
+{
+    let mut text = ScriptText::new(script);
+    let mut out = NoOutput;
+    play_counted(alloc, campaign, &mut text, &mut out)
 }
 
 fn counted<E: Eye + Drop>(
@@ -137,23 +170,44 @@ fn print_summary<O: Sink>(alloc: Global, summary: &Summary, out: &mut O) -> Ende
 fn summary_line(alloc: Global, summary: &Summary) -> Result<String, Memory>
     ensures { IfOk result (λ line. string_bytes line ≡ summary_line_lem summary.now) }
 {
-    let Summary {
-        number,
-        tally,
-        seen,
-        looks,
-        tested,
-    } = *summary;
+    let sent = counts_sent(alloc, summary)?;
+    let found = counts_found(alloc, summary)?;
+    match format!(in alloc; "{sent}{found}\n") {
+        Ok(line) => Ok(line),
+        Err(_) => Err(Memory),
+    }
+}
+
+// The line's front: the drill, its lines and what they sent.
+fn counts_sent(alloc: Global, summary: &Summary) -> Result<String, Memory>
+    ensures { IfOk result (λ text. string_bytes text ≡ counts_sent_lem summary.now) }
+{
+    let number = summary.number;
     let Tally {
         lines,
         refused,
         sent,
-        bytes,
-    } = tally;
-    match format!(in alloc;
-        "drill {number}: lines {lines}, refused {refused}, sent {sent}, bytes {bytes}, seen {seen}, looks {looks}, tested {tested}\n"
-    ) {
-        Ok(line) => Ok(line),
+        ..
+    } = summary.tally;
+    match format!(in alloc; "drill {number}: lines {lines}, refused {refused}, sent {sent}") {
+        Ok(text) => Ok(text),
+        Err(_) => Err(Memory),
+    }
+}
+
+// The rest of it: the bytes, and what players see, how it was found.
+fn counts_found(alloc: Global, summary: &Summary) -> Result<String, Memory>
+    ensures { IfOk result (λ text. string_bytes text ≡ counts_found_lem summary.now) }
+{
+    let Summary {
+        tally: Tally { bytes, .. },
+        seen,
+        looks,
+        tested,
+        ..
+    } = *summary;
+    match format!(in alloc; ", bytes {bytes}, seen {seen}, looks {looks}, tested {tested}") {
+        Ok(text) => Ok(text),
         Err(_) => Err(Memory),
     }
 }
