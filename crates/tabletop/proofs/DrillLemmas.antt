@@ -1,5 +1,5 @@
 -- What a drill that was played comes to.
-use Rattle.std.proofs.Common.{◌≡◌, ℕ, ◌+◌, ◌≤◌, List, [], ◌++◌, Some, refl, sym, ◌∙◌, ap, subst, arith}
+use Rattle.std.proofs.Common.{◌≡◌, ℕ, ◌+◌, ◌≤◌, List, [], Some, refl, sym, ◌∙◌, ap, subst, arith}
 use Rattle.std.specs.Prelude.{Option, unwrap_or, Result, Ok, Err, IfOk, IfErr, length}
 use Rattle.campaign_json.specs.declared.faults.BadCampaign.{BadCampaign as Breach}
 use Rattle.world.specs.World.{World as Opened}
@@ -15,9 +15,9 @@ use Rattle.command_looks.specs.Touched.{looks_of_opening}
 use Rattle.script_play.specs.declared.run.Played.{Played}
 use Rattle.script_play.specs.declared.run.Played.TheVariants as played
 use Rattle.script_play.specs.declared.tally.Tally.{Tally}
-use Rattle.script_play.specs.Script.{Script, NothingWaits, done, bad_line, too_large, script_of}
+use Rattle.script_play.specs.Script.{Script, NothingWaits, bad_line, too_large, script_of}
 use Rattle.script_play.specs.Played.{GoesOn, HasEntered, entries_since}
-use Rattle.script_play.specs.Counting.{Adds, lines_in, lines_sent, looks_in, no_tally, refused_in}
+use Rattle.script_play.specs.Counting.{Adds, lines_sent, looks_in, no_tally, refused_in}
 use Rattle.script_play.proofs.LineRuns.{world_on}
 use Rattle.drill.specs.Campaign.{drill_world}
 use Rattle.drill.specs.Script.{drill_script}

@@ -1,6 +1,5 @@
 use Rattle.std.proofs.Common.{ap, sym, ◌∙◌}
 use Rattle.campaign_core.specs.Opening.{world_of_text}
-use Rattle.campaign_file.specs.Campaign.{campaign_of}
 use Rattle.tabletop.proofs.DrillLemmas.{drill_opens}
 use Rattle.tabletop.proofs.drilling.open_drill.Goals as goal
 
