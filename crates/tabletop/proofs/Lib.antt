@@ -1,3 +1,4 @@
 pub mod EndsLemmas
 mod Services
 mod ServeLemmas
+pub mod DrillLemmas

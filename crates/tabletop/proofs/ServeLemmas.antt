@@ -1,11 +1,10 @@
 -- How a run of `serve` ends, from what its parts did.
 use Rattle.std.proofs.Common.{◌≡◌, ℕ, ◌≤◌, ◌<◌, List, length, Some, None, refl, sym, ◌∙◌, ap, subst, arith, ◌⊎◌, inl, inr}
-use Rattle.std.specs.Prelude.{Bool, Option, unwrap_or, IfSome, Err}
+use Rattle.std.specs.Prelude.{Bool, Option, IfSome}
 use Rattle.std.specs.Io.KnownBytes.{append_known}
 use Rattle.line_io.specs.Counts.{CountRose}
 use Rattle.line_io.specs.declared.desks.DeskFault.{DeskFault}
 use Rattle.line_io.specs.declared.desks.DeskFault.TheVariants as desk
-use Rattle.campaign_file.specs.Campaign.{campaign_of}
 use Rattle.campaign_law.specs.World.{World}
 use Rattle.campaign_core.specs.Opening.{world_of_text}
 use Rattle.script_play.specs.Sending.{WroteFront}
@@ -18,7 +17,7 @@ use Rattle.serving.specs.Hosted.{Hosts, NothingServed}
 use Rattle.tabletop.specs.declared.endings.Ended.{Ended}
 use Rattle.tabletop.specs.declared.endings.Ended.TheVariants.{Done, Usage, BadCampaign, ReadFault, WriteFault, Memory, BadLine, TooLarge, DoorFault}
 use Rattle.tabletop.specs.Endings.{status_of, last_line, HasOwnLine}
-use Rattle.tabletop.specs.Ends.{Fetched, NotFetched, IsToldAs, unfetched, campaign_limit}
+use Rattle.tabletop.specs.Ends.{NotFetched, IsToldAs, unfetched, campaign_limit}
 use Rattle.tabletop.specs.ServeEnds.{Service, hosted_as, TextServes, FileServes, JobServes, HasEndedServing}
 use Rattle.tabletop.proofs.EndsLemmas.{DoneOrMemory, count_after, two_is_usage, not_fetched_done, breach_world}
 

@@ -1,5 +1,5 @@
--- The number of connections that words ask for is in its range.
-use Rattle.std.proofs.Common.{◌≡◌, ◌≤◌, ℕ, Bool, true, false, List, [], ◌∷◌, Some, None, refl, sym, subst, ap, ◌∙◌}
+-- The numbers of connections and of lines that words ask for are in their ranges.
+use Rattle.std.proofs.Common.{◌≡◌, ◌≤◌, ℕ, Bool, true, false, List, [], ◌∷◌, Some, None, refl, subst, ap, ◌∙◌}
 use Rattle.std.specs.Prelude.{Option, ◌&&◌, nat_le, if◌then◌else◌, codes, option_and_then}
 use Rattle.std.proofs.lemmas.Bool.{leb-true}
 use Rattle.std.specs.Str.{bytes_eq}
@@ -7,12 +7,12 @@ use Rattle.std.specs.Str.Parse.{digits_value}
 use Rattle.command_words.specs.Words.{Text, Asked, Play, Check, Drill, Serve, is_file, is_whole, is_in, is_end, play, check, drill, serve, play_words, check_words, drill_words, serve_words, job_of}
 use Rattle.tabletop.specs.ServeEnds.{Service, served_here, service_in}
 
--- so many may be served, where any are asked for
+-- so many may be served, or made
 abbrev IsServable : Option Asked → Type 0
 IsServable None = Unit {0}
 IsServable (Some (Play file end)) = Unit {0}
 IsServable (Some (Check file)) = Unit {0}
-IsServable (Some (Drill number lines)) = Unit {0}
+IsServable (Some (Drill number lines)) = (5 ≤ lines) × (lines ≤ 10000)
 IsServable (Some (Serve file port count end)) = (1 ≤ count) × (count ≤ 1024)
 
 by_if : (b : Bool) (x y : Option Asked) → (b ≡ true → IsServable x) → IsServable y → IsServable (if b then x else y)
@@ -27,15 +27,15 @@ first_of : (a b : Bool) → a && b ≡ true → a ≡ true
 first_of true b both = refl
 first_of false b both = absurd cc
 
-count_in : (text : Text) → is_in 1 1024 text ≡ true → (1 ≤ digits_value 10 text) × (digits_value 10 text ≤ 1024)
-count_in text is =
-    let both = last_of (is_whole text) (nat_le 1 (digits_value 10 text) && nat_le (digits_value 10 text) 1024) is in
-    (leb-true 1 (digits_value 10 text) (first_of (nat_le 1 (digits_value 10 text)) (nat_le (digits_value 10 text) 1024) both), leb-true (digits_value 10 text) 1024 (last_of (nat_le 1 (digits_value 10 text)) (nat_le (digits_value 10 text) 1024) both))
+value_in : (least most : ℕ) (text : Text) → is_in least most text ≡ true → (least ≤ digits_value 10 text) × (digits_value 10 text ≤ most)
+value_in least most text is =
+    let both = last_of (is_whole text) (nat_le least (digits_value 10 text) && nat_le (digits_value 10 text) most) is in
+    (leb-true least (digits_value 10 text) (first_of (nat_le least (digits_value 10 text)) (nat_le (digits_value 10 text) most) both), leb-true (digits_value 10 text) most (last_of (nat_le least (digits_value 10 text)) (nat_le (digits_value 10 text) most) both))
 
 serve_servable : (file port count : Text) (end : Bool) → IsServable (serve file port count end)
 serve_servable file port count end =
     by_if (is_file file && (is_in 1 65535 port && is_in 1 1024 count)) (Some (Serve file (digits_value 10 port) (digits_value 10 count) end)) None
-    (λ is. count_in count (last_of (is_in 1 65535 port) (is_in 1 1024 count) (last_of (is_file file) (is_in 1 65535 port && is_in 1 1024 count) is))) tt
+    (λ is. value_in 1 1024 count (last_of (is_in 1 65535 port) (is_in 1 1024 count) (last_of (is_file file) (is_in 1 65535 port && is_in 1 1024 count) is))) tt
 
 play_servable : (file : Text) (end : Bool) → IsServable (play file end)
 play_servable file end = by_if (is_file file) (Some (Play file end)) None (λ is. tt) tt
@@ -44,7 +44,7 @@ check_servable : (file : Text) → IsServable (check file)
 check_servable file = by_if (is_file file) (Some (Check file)) None (λ is. tt) tt
 
 drill_servable : (n lines : Text) → IsServable (drill n lines)
-drill_servable n lines = by_if (is_in 0 4294967295 n && is_in 5 10000 lines) (Some (Drill (digits_value 10 n) (digits_value 10 lines))) None (λ is. tt) tt
+drill_servable n lines = by_if (is_in 0 4294967295 n && is_in 5 10000 lines) (Some (Drill (digits_value 10 n) (digits_value 10 lines))) None (λ is. value_in 5 10000 lines (last_of (is_in 0 4294967295 n) (is_in 5 10000 lines) is)) tt
 
 plays_servable : (words : List Text) → IsServable (play_words words)
 plays_servable [] = tt
@@ -89,6 +89,10 @@ all_servable (command ∷ words) =
 -- so many are from 1 to 1,024
 pub count_is : (words : List Text) (file : Text) (port count : ℕ) (end : Bool) → job_of words ≡ Some (Serve file port count end) → (1 ≤ count) × (count ≤ 1024)
 count_is words file port count end is = subst IsServable is (all_servable words)
+
+-- so many lines are from 5 to 10,000
+pub lines_are : (words : List Text) (number lines : ℕ) → job_of words ≡ Some (Drill number lines) → (5 ≤ lines) × (lines ≤ 10000)
+lines_are words number lines is = subst IsServable is (all_servable words)
 
 -- what the words ask to be served, by their job
 pub service_of : (words : List Text) (asked : Asked) (service : Option Service) → job_of words ≡ Some asked → served_here asked ≡ service → service_in words ≡ service

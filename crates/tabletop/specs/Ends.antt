@@ -1,5 +1,5 @@
 -- What a run of the program did, by how it ended.
-use Rattle.std.specs.Prelude.{◌≡◌, ◌≤◌, ◌<◌, ◌⊎◌, ℕ, List, [], ◌∷◌, ◌++◌, length, IfSome, Bool, true, false, Option, Some, None, Result, Ok, Err}
+use Rattle.std.specs.Prelude.{◌≡◌, ◌≤◌, ◌<◌, ◌⊎◌, ℕ, List, [], ◌∷◌, ◌++◌, length, IfSome, Bool, true, false, Option, Some, None, Ok, Err}
 use Rattle.std.specs.Io.KnownBytes.{append_known}
 use Rattle.line_io.specs.Told.{WhereTold}
 use Rattle.line_io.specs.declared.desks.DeskFault.{DeskFault}
@@ -23,6 +23,8 @@ use Rattle.tabletop.specs.declared.endings.Ended.{Ended}
 use Rattle.tabletop.specs.declared.endings.Ended.TheVariants.{Done, Usage, BadCampaign, ReadFault, WriteFault, Memory, BadLine, TooLarge, DoorFault}
 use Rattle.tabletop.specs.Endings.{status_of, last_line, HasOwnLine}
 use Rattle.tabletop.specs.Counts.{count_line}
+use Rattle.tabletop.specs.Printing.{PrintsLine}
+use Rattle.tabletop.specs.Drilled.{DrillEnds}
 use Rattle.command_words.specs.Words.{Asked, Play, Check, Drill, Serve}
 
 -- how a played script ends the run
@@ -79,13 +81,6 @@ ScriptEnds ScriptFailed Memory text script left out after = (after ≡ out) ⊎ 
 ScriptEnds ScriptFailed (BadLine number) text script left out after = PlaysOn (played.BadLine number) (world_of_text text) script left out after
 ScriptEnds ScriptFailed TooLarge text script left out after = PlaysOn played.TooLarge (world_of_text text) script left out after
 ScriptEnds ScriptFailed DoorFault text script left out after = ⊥
-
--- a line was to be printed; after a write fault a front of it was
-abbrev pub PrintsLine : Ended → List ℕ → (out after : Option (List ℕ)) → Type 0
-PrintsLine Done line out after = after ≡ append_known out line
-PrintsLine WriteFault line out after = WroteFront out line after
-PrintsLine Memory line out after = after ≡ out
-PrintsLine ended line out after = ⊥
 
 -- the line with the campaign text of the world after these entries
 abbrev pub end_line : World → List Entry → List ℕ
@@ -145,7 +140,7 @@ JobEnds DeskFailed ScriptFailed ended None texts script left out after = ((ended
 JobEnds DeskFailed ScriptFailed ended (Some (Play file end)) texts script left out after =
     FileEnds DeskFailed (λ text. PlayEnds ScriptFailed end ended text script left out after) ended (texts file) out after
 JobEnds DeskFailed ScriptFailed ended (Some (Check file)) texts script left out after = FileEnds DeskFailed (λ text. CheckEnds ended text out after) ended (texts file) out after
-JobEnds DeskFailed ScriptFailed ended (Some (Drill number lines)) texts script left out after = ⊥
+JobEnds DeskFailed ScriptFailed ended (Some (Drill number lines)) texts script left out after = DrillEnds ended number lines out after
 JobEnds DeskFailed ScriptFailed ended (Some (Serve file port count end)) texts script left out after = ⊥
 
 -- the whole run: how it ended, by its status, and the last line printed, of which a fault leaves a front

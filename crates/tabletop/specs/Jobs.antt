@@ -2,11 +2,11 @@
 use Rattle.std.specs.Prelude.{ℕ, List, Option, Some, None, option_and_then}
 use Rattle.command_words.specs.Words.{Asked, Play, Check, Drill, Serve, job_of}
 
--- a script is played and a campaign checked. For now no drill is made; connections are served by another call
+-- a script is played, a campaign checked, a drill made and played; connections are served by another call
 abbrev pub done_here : Asked → Option Asked
 done_here (Play file end) = Some (Play file end)
 done_here (Check file) = Some (Check file)
-done_here (Drill number lines) = None
+done_here (Drill number lines) = Some (Drill number lines)
 done_here (Serve file port count end) = None
 
 -- the job of the words; none, where they are no form, or not one of these

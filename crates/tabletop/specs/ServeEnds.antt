@@ -1,5 +1,5 @@
 -- What a run of `serve` did, by how it ended.
-use Rattle.std.specs.Prelude.{◌≡◌, ◌⊎◌, ℕ, List, IfSome, Bool, Option, Some, None, option_and_then}
+use Rattle.std.specs.Prelude.{◌≡◌, ◌⊎◌, ℕ, List, Bool, Option, Some, None, option_and_then}
 use Rattle.std.specs.Io.KnownBytes.{append_known}
 use Rattle.script_play.specs.Sending.{WroteFront}
 use Rattle.session.specs.declared.service.Sat.{Sat}
@@ -10,7 +10,7 @@ use Rattle.serving.specs.declared.hosting.Hosted.TheVariants as hosted
 use Rattle.serving.specs.Hosted.{Hosts, NothingServed}
 use Rattle.command_words.specs.Words.{Asked, Play, Check, Drill, Serve, job_of}
 use Rattle.tabletop.specs.declared.endings.Ended.{Ended}
-use Rattle.tabletop.specs.declared.endings.Ended.TheVariants.{Done, Usage, BadCampaign, ReadFault, WriteFault, Memory, BadLine, TooLarge, DoorFault}
+use Rattle.tabletop.specs.declared.endings.Ended.TheVariants.{Done, Usage, BadCampaign, WriteFault, Memory, DoorFault}
 use Rattle.tabletop.specs.Endings.{status_of, last_line}
 use Rattle.tabletop.specs.Ends.{Fetched, NotFetched}
 

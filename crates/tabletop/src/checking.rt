@@ -1,7 +1,8 @@
 //! `check FILE`: what the campaign of the file has, or its first breach.
 ghost use Rattle.std.specs.Prelude.{◌≡◌, ◌≤◌, string_bytes, IfOk};
 ghost use Rattle.line_io.specs.Counts.{CountRose};
-ghost use Rattle.tabletop.specs.Ends.{CheckEnds, FileEnds, PrintsLine};
+ghost use Rattle.tabletop.specs.Ends.{CheckEnds, FileEnds};
+ghost use Rattle.tabletop.specs.Printing.{PrintsLine};
 ghost use Rattle.tabletop.specs.Counts.{count_line as count_line_lem};
 
 use crate::endings::Ended;

@@ -4,6 +4,7 @@
 ghost use Rattle.std.specs.Prelude.{◌≡◌, IfOk};
 
 mod checking;
+mod drilling;
 mod endings;
 mod files;
 mod last_line;
@@ -11,6 +12,7 @@ mod last_line;
 mod look_tests;
 mod playing;
 mod printing;
+mod quiet;
 mod serve;
 #[cfg(test)]
 mod tests;

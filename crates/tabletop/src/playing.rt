@@ -4,7 +4,8 @@ ghost use Rattle.campaign_writing.specs.Canonical.{canonical};
 ghost use Rattle.campaign_law.specs.Law.{world_of};
 ghost use Rattle.campaign_law.specs.Worlds.{opened_of};
 ghost use Rattle.line_io.specs.Counts.{CountRose};
-ghost use Rattle.tabletop.specs.Ends.{FileEnds, FollowsPlay, PlayEnds, PrintsLine};
+ghost use Rattle.tabletop.specs.Ends.{FileEnds, FollowsPlay, PlayEnds};
+ghost use Rattle.tabletop.specs.Printing.{PrintsLine};
 
 use crate::endings::Ended;
 use crate::files::not_fetched;

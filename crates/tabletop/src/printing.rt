@@ -1,7 +1,7 @@
 //! A line that a job prints.
 ghost use Rattle.std.specs.Prelude.{◌≡◌, ◌≤◌};
 ghost use Rattle.line_io.specs.Counts.{CountRose};
-ghost use Rattle.tabletop.specs.Ends.{PrintsLine};
+ghost use Rattle.tabletop.specs.Printing.{PrintsLine};
 
 use crate::endings::Ended;
 use line_io::{Sink, write_whole};

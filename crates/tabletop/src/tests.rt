@@ -3,6 +3,7 @@
 
 mod campaigns;
 mod checks;
+mod drills;
 mod evening;
 mod faults;
 mod macros;

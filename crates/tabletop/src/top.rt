@@ -6,11 +6,14 @@ ghost use Rattle.campaign_law.specs.World.{World};
 ghost use Rattle.world.specs.World.{World as Opened};
 ghost use Rattle.campaign_core.specs.Opening.{world_of_text};
 ghost use Rattle.script_play.specs.Script.{script_of, done};
-ghost use Rattle.command_words.specs.Words.{Play, Check, job_of};
+ghost use Rattle.command_words.specs.Words.{Play, Check, Drill, job_of};
 ghost use Rattle.tabletop.specs.Jobs.{job_in};
+ghost use Rattle.drill.specs.Script.{drill_script};
+ghost use Rattle.tabletop.specs.Drilled.{drill_origin};
 ghost use Rattle.tabletop.specs.Ends.{HasEnded, JobEnds, campaign_limit};
 
 use crate::checking::check_file;
+use crate::drilling::drill;
 use crate::endings::{Ended, status_of};
 use crate::last_line::print_last_line;
 use crate::playing::play_file;
@@ -19,7 +22,8 @@ use line_io::{Desk, Sink, Source};
 use std::alloc::Global;
 
 /// Does what the words ask for and gives the program's status. `play FILE` plays the script on the
-/// campaign of that file and writes the lines that it sends, and with `--end` then the campaign text of the last world; `check FILE` tells how many seats, maps and tokens the campaign has.
+/// campaign of that file and writes the lines that it sends, and with `--end` then the campaign text of the last world; `check FILE` tells how many seats, maps and tokens the campaign has;
+/// `drill N LINES` makes and plays a drill and prints what came of it.
 /// After a stop the last line says why. A fault while it is printed doesn't change the status. Where an outside object doesn't
 /// tell its bytes, the clauses on them say nothing.
 pub fn tabletop<D: Desk, S: Source, O: Sink>(
@@ -48,6 +52,9 @@ pub fn tabletop<D: Desk, S: Source, O: Sink>(
     ensures checked { (file campaign : List ℕ) (world : Opened) → job_in (map string_bytes words.now) ≡ Some (Check file) → D.text_of desk.old file ≡ Some campaign
         → length campaign ≤ campaign_limit → campaign_of campaign ≡ Ok world
         → ¬ CountRose (D.faults_of desk.old) (D.faults_of desk.new) → ¬ CountRose (S.faults_of script.old) (S.faults_of script.new) → ¬ CountRose (O.faults_of out.old) (O.faults_of out.new)
+        → (result ≡ 0) ⊎ (result ≡ 6) }
+    ensures drilled { (number lines : ℕ) → job_in (map string_bytes words.now) ≡ Some (Drill number lines) → (script_of (drill_origin number) (drill_script number lines)).ending ≡ done
+        → ¬ CountRose (O.faults_of out.old) (O.faults_of out.new)
         → (result ≡ 0) ⊎ (result ≡ 6) }
 {
     let ended = job(alloc, words, desk, script, out);
@@ -79,7 +86,8 @@ fn job<D: Desk, S: Source, O: Sink>(
     match read_words(alloc, words) {
         Ok(Job::Play { file, end }) => play_file(alloc, file, end, desk, script, out),
         Ok(Job::Check { file }) => check_file(alloc, file, desk, out),
-        Ok(Job::Drill { .. } | Job::Serve { .. }) | Err(WordsFault::Usage) => Ended::Usage,
+        Ok(Job::Drill { number, lines }) => drill(alloc, number, lines, out),
+        Ok(Job::Serve { .. }) | Err(WordsFault::Usage) => Ended::Usage,
         Err(WordsFault::Memory) => Ended::Memory,
     }
 }

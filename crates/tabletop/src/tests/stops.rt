@@ -167,7 +167,7 @@ static FAULTY_WORDS: [&[&str]; 5] = [
     &["play"],
     &["play", "-table.json"],
     &["check", "table.json", "--end"],
-    &["drill", "7", "25"],
+    &["drill", "7", "4"],
     &["serve", "table.json", "80", "1"],
 ];
 

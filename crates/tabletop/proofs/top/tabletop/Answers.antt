@@ -1,5 +1,5 @@
 use Rattle.std.proofs.Common.{inl, inr}
-use Rattle.tabletop.proofs.EndsLemmas.{run_ended, usage_if, no_job_only, told_usage, read_fault_of, write_fault_of, count_before, play_completes, check_completes}
+use Rattle.tabletop.proofs.EndsLemmas.{run_ended, usage_if, no_job_only, told_usage, read_fault_of, write_fault_of, count_before, play_completes, check_completes, drill_completes}
 use Rattle.tabletop.proofs.top.tabletop.Goals as goal
 
 pub returns-clause-ends : goal.returns-clause-ends
@@ -38,4 +38,11 @@ returns-clause-checked g c =
     λ file campaign world job told small is no_desk no_script no_out.
     check_completes c.status_of.result _ (g.D.Desk.text_of c.args.desk.now) _ _ _ _ _ _ _ file campaign world h job told small is
     (λ e. elim (c.job-ended.ensures.read_fault (read_fault_of c.status_of.result c.job-ended.result c.print_last_line.result c.status_of.ensures c.print_last_line.ensures.ended e)) [ inl desk ↦ no_desk desk | inr script ↦ no_script script ])
+    (λ e. no_out (count_before _ _ _ c.print_last_line.ensures.count (c.job-ended.ensures.write_fault (write_fault_of c.status_of.result c.job-ended.result c.print_last_line.result c.status_of.ensures c.print_last_line.ensures.ended e))))
+
+pub returns-clause-drilled : goal.returns-clause-drilled
+returns-clause-drilled g c =
+    let h = run_ended _ _ c.status_of.result c.job-ended.result c.print_last_line.result _ _ _ _ _ _ _ _ _ _ c.status_of.ensures c.print_last_line.ensures.ended c.job-ended.ensures.ends c.job-ended.ensures.out_count c.print_last_line.ensures.line in
+    λ number lines job ends no_out.
+    drill_completes c.status_of.result _ (g.D.Desk.text_of c.args.desk.now) _ _ _ _ _ _ _ number lines h job ends
     (λ e. no_out (count_before _ _ _ c.print_last_line.ensures.count (c.job-ended.ensures.write_fault (write_fault_of c.status_of.result c.job-ended.result c.print_last_line.result c.status_of.ensures c.print_last_line.ensures.ended e))))
