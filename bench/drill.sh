@@ -4,7 +4,7 @@
 #   YARDSTICK=/path/to/limit bench/drill.sh [PROGRAM]
 # PROGRAM is crates/tabletop/out/tabletop unless given. YARDSTICK is the unverified program (`limit drill SEED LINES`).
 #
-# And whether both make the same drills, byte for byte: the campaigns and scripts of the numbers 0 to 9, with 200 lines.
+# And whether both make the same drills, by the SHA-256 digests of their campaigns and scripts: the numbers 0 to 49, with 200 lines.
 #   YARDSTICK=/path/to/limit bench/drill.sh --texts
 # No form of the program's words prints them: a throw-away crate of drill.txt is made beside copies of the crates, and run
 # (by `rt try`, so without proofs); the unverified program writes its own (`limit make SEED LINES FOLDER`).
@@ -22,20 +22,18 @@ if [ "${1:-}" = --texts ]; then
     mkdir -p "$crate/src" "$crate/specs" "$crate/proofs"
     tar -C "$here/crates" --exclude=out --exclude=must-fail -cf - . | tar -C "$work/repo/crates" -xf -
     cp "$here/crates.txt" "$work/repo/crates.txt"
-    echo 'bench_drill: names drill' >>"$work/repo/crates.txt"
+    echo 'bench_drill: names drill sha2 hex' >>"$work/repo/crates.txt"
     : >"$crate/specs/Lib.antt"
     : >"$crate/proofs/Lib.antt"
     cp "$here/bench/drill.txt" "$crate/src/main.rt"
-    (cd "$crate" && rt try -- 10 200) >"$work/ours" 2>"$work/log" || { cat "$work/log" >&2; exit 1; }
-    for number in $(seq 0 9); do
+    (cd "$crate" && rt try --seconds 500 -- 50 200) >"$work/ours" 2>"$work/log" || { cat "$work/log" >&2; exit 1; }
+    for number in $(seq 0 49); do
         mkdir "$work/$number"
         "$YARDSTICK" make "$number" 200 "$work/$number"
-        cat "$work/$number/campaign.json"
-        echo
-        cat "$work/$number/script.txt"
+        { cat "$work/$number/campaign.json"; echo; cat "$work/$number/script.txt"; } | sha256sum | cut -d ' ' -f 1
     done >"$work/theirs"
     cmp "$work/ours" "$work/theirs"
-    echo "the same $(wc -c <"$work/ours") bytes: 10 campaigns and scripts of 200 lines"
+    echo "the same $(wc -l <"$work/ours") campaigns and scripts of 200 lines"
     exit 0
 fi
 
