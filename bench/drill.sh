@@ -2,7 +2,8 @@
 # What a drill costs: user time and peak memory of the program at 2,000 and 10,000 lines, seeds 7, 1 and 2, beside an unverified
 # program in the same run, and the ratios.
 #   YARDSTICK=/path/to/limit bench/drill.sh [PROGRAM]
-# PROGRAM is crates/tabletop/out/tabletop unless given. YARDSTICK is the unverified program (`limit drill SEED LINES`).
+# PROGRAM is crates/tabletop/out/tabletop unless given. YARDSTICK is the unverified program (`limit drill SEED LINES`). It needs
+# Python 3 and GNU time (/usr/bin/time).
 #
 # And whether both make the same drills, by the SHA-256 digests of their campaigns and scripts: the numbers 0 to 49, with 200 lines.
 #   YARDSTICK=/path/to/limit bench/drill.sh --texts
@@ -44,14 +45,22 @@ if [ ! -x "$program" ]; then
 fi
 exec python3 - "$program" "$YARDSTICK" <<'PYTHON'
 import os
+import subprocess
 import sys
 
 PROGRAM, YARDSTICK = sys.argv[1:3]
 ROUNDS = 3
 
 
+def peak(program, seed, lines):
+    """The peak memory of one run, in MiB. (What a process has before it begins a program counts too, so a small one begins it.)"""
+    words = ["/usr/bin/time", "-f", "%M", program, "drill", str(seed), str(lines)]
+    ran = subprocess.run(words, stdout=subprocess.DEVNULL, stderr=subprocess.PIPE, check=True)
+    return int(ran.stderr.split()[-1]) / 1024
+
+
 def run(program, seed, lines):
-    """The seconds of user time and the peak memory in MiB of one run, and what it printed."""
+    """The seconds of user time of one run, and what it printed."""
     read, write = os.pipe()
     child = os.fork()
     if child == 0:
@@ -64,15 +73,15 @@ def run(program, seed, lines):
     _, status, used = os.wait4(child, 0)
     if status != 0:
         sys.exit(f"{program} drill {seed} {lines}: status {status}: {text}")
-    return used.ru_utime, used.ru_maxrss / 1024, text
+    return used.ru_utime, text
 
 
 def best(program, seed, lines):
-    """The least time and memory of a few runs, and what all of them printed."""
+    """The least time of a few runs, the peak memory of one, and what all of them printed."""
     runs = [run(program, seed, lines) for _ in range(ROUNDS)]
-    if len({text for _, _, text in runs}) != 1:
+    if len({text for _, text in runs}) != 1:
         sys.exit(f"{program} drill {seed} {lines} prints two things")
-    return min(time for time, _, _ in runs), min(memory for _, memory, _ in runs), runs[0][2]
+    return min(time for time, _ in runs), peak(program, seed, lines), runs[0][1]
 
 
 print(f"{'seed':>4} {'lines':>6} {'user s':>8} {'theirs':>8} {'ratio':>6} {'MiB':>7} {'theirs':>7} {'ratio':>6}")
