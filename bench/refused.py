@@ -1,9 +1,11 @@
-"""The runs of bench/refused.sh: PROGRAM plays small evenings and serves one, and one allocation, each in turn, finds no memory.
+"""The runs of bench/refused.sh: PROGRAM plays small evenings and serves one, and one allocation, each in turn, finds no memory; and
+while it serves, one receive or one send, each in turn, fails.
 
 A play has to print a front, by whole lines, of what it prints with ample memory, then `tabletop: out of memory`, and end with
 status 6; or to print all and end with 0, where the memory was not needed for the answer. A server serves three connections side by
-side: each has to get a front, by whole lines, of what it gets with ample memory, and the words that are printed have to be those of
-ample memory but for one: `Memory` for the session whose own growth was refused, or `busy` where it could not begin.
+side: each has to get a front of what it gets without a fault, by whole lines unless a send failed, and the words that are printed
+have to be those of a run without a fault but for one: `Memory` for the session whose own growth was refused, or `busy` where it could
+not begin; `ReadFault` or `WriteFault` for the one whose receive or send failed. Where each send takes one byte, nothing changes.
 
     python3 bench/refused.py PROGRAM FOLDER         FOLDER has refuse.so, and is written to
 """
@@ -75,9 +77,9 @@ CONNECTIONS = [[hello(1), {"do": "bye"}], [hello(0, "x")], [hello(2), {"do": "sa
 WORDS = ["1 Left", "2 Refused BadKey", "3 Left"]
 
 
-def refusing(number):
-    """The environment in which the allocation of that number finds no memory; 0 for none."""
-    return {**os.environ, "LD_PRELOAD": os.path.join(WORK, "refuse.so"), "REFUSE": str(number)}
+def faulty(**faults):
+    """The environment with these faults, as refuse.c has them: by their names the number of the call that fails, 0 for none."""
+    return {**os.environ, "LD_PRELOAD": os.path.join(WORK, "refuse.so"), **{name: str(number) for name, number in faults.items()}}
 
 
 def lines_of(lines):
@@ -93,21 +95,18 @@ def is_front(text, whole):
     return whole.startswith(text) and (text == b"" or text.endswith(b"\n"))
 
 
-def in_turn(name, run, is_whole, is_right):
-    """Runs with each allocation refused in turn, up to runs that ask no more; stops at one that isn't right."""
-    whole = run(0)
-    if not is_whole(whole):
-        raise SystemExit(f"{name}: {whole!r} with ample memory")
+def in_turn(name, what, run, whole, is_right):
+    """Runs with each of these calls failing in turn, up to runs that ask no more; stops at one that isn't right."""
     number, told, still = 0, 0, 0
     while still < STILL:
         number += 1
         given = run(number)
         if not is_right(given, whole):
-            raise SystemExit(f"{name}: where allocation {number} finds no memory: {given!r}")
-        # Past the last allocation every run is whole; some allocations before it may not be needed either.
+            raise SystemExit(f"{name}: where {what} {number} fails: {given!r}")
+        # Past the last call every run is whole; some calls before it may not be needed either.
         still = still + 1 if given == whole else 0
         told += given != whole
-    print(f"{name}: each of {number - still} allocations refused in turn; {told} runs said so, and each was right", flush=True)
+    print(f"{name}: each {what} of {number - still} failed in turn; {told} runs said so, and each was right", flush=True)
 
 
 # ---- play
@@ -115,7 +114,7 @@ def in_turn(name, run, is_whole, is_right):
 
 def played(script, number):
     """What the program prints, and its status."""
-    ran = subprocess.run([PROGRAM, "play", CAMPAIGN], input=script, capture_output=True, env=refusing(number), timeout=60)
+    ran = subprocess.run([PROGRAM, "play", CAMPAIGN], input=script, capture_output=True, env=faulty(REFUSE=number), timeout=60)
     return ran.stdout, ran.returncode
 
 
@@ -129,7 +128,10 @@ def is_play(given, whole):
 def play_in_turn(name, world, lines):
     keep_campaign(world)
     script = b"".join(b"%d %s" % (number, lines_of([line])) for number, line in lines)
-    in_turn(name, lambda number: played(script, number), lambda whole: whole[1] == 0, is_play)
+    whole = played(script, 0)
+    if whole[1] != 0:
+        raise SystemExit(f"{name}: {whole!r} with ample memory")
+    in_turn(name, "allocation", lambda number: played(script, number), whole, is_play)
 
 
 # ---- serve
@@ -176,11 +178,11 @@ def answers(port, server):
         return [got(connection) if connection else b"" for connection in connections]
 
 
-def served(number):
+def served(**faults):
     """What each connection got, what the server printed, and its status; nothing where a connection was held up."""
     port = free_port()
     words = [PROGRAM, "serve", CAMPAIGN, str(port), str(len(CONNECTIONS))]
-    with subprocess.Popen(words, stdin=subprocess.DEVNULL, stdout=subprocess.PIPE, env=refusing(number)) as server:
+    with subprocess.Popen(words, stdin=subprocess.DEVNULL, stdout=subprocess.PIPE, env=faulty(**faults)) as server:
         try:
             texts = answers(port, server)
         except TimeoutError:
@@ -190,26 +192,42 @@ def served(number):
         return texts, out, server.wait(timeout=PATIENCE)
 
 
-def is_told(given, whole):
-    """Whether the words are those of ample memory but for at most one session that says what it lacked."""
-    others = [(one, other) for one, other in zip(given, whole) if one != other]
-    return len(given) == len(whole) and all(one.split(" ")[1:] in (["Memory"], ["busy"]) for one, _ in others) and len(others) <= 1
+def is_told(given, whole, words):
+    """Whether the lines are those without a fault but for at most one session that says what it met, in one of these words."""
+    others = [one for one, other in zip(given, whole) if one != other]
+    return len(given) == len(whole) and len(others) <= 1 and all(one.split(" ", 1)[1] in words for one in others)
 
 
-def is_served(given, whole):
+def is_first_part(text, whole, words):
+    """Whether a connection got a front; by whole lines, unless a send failed."""
+    return whole.startswith(text) if "WriteFault" in words else is_front(text, whole)
+
+
+def is_served(given, whole, words):
     if given is None:
         return False
     texts, out, status = given
-    if not all(is_front(text, other) for text, other in zip(texts, whole[0])):
+    if not all(is_first_part(text, other, words) for text, other in zip(texts, whole[0])):
         return False
     if status == 0:
-        return is_told(out.decode().splitlines(), WORDS)
-    return status == 6 and out.endswith(LAST_LINE) and is_front(out[: -len(LAST_LINE)], whole[1])
+        return is_told(out.decode().splitlines(), WORDS, words)
+    return status == 6 and "Memory" in words and out.endswith(LAST_LINE) and is_front(out[: -len(LAST_LINE)], whole[1])
+
+
+# The calls that fail in turn while connections are served, and the words for a session that meets one.
+FAULTS = {"allocation": ("REFUSE", ["Memory", "busy"]), "receive": ("FAIL_RECEIVE", ["ReadFault"]), "send": ("FAIL_SEND", ["WriteFault"])}
 
 
 def serve_in_turn():
     keep_campaign(EMPTY)
-    in_turn("a server", served, lambda whole: (whole[1].decode().splitlines(), whole[2]) == (WORDS, 0), is_served)
+    whole = served()
+    if whole is None or (whole[1].decode().splitlines(), whole[2]) != (WORDS, 0):
+        raise SystemExit(f"a server: {whole!r} without a fault")
+    for what, (name, words) in FAULTS.items():
+        in_turn("a server", what, lambda number: served(**{name: number}), whole, lambda given, whole: is_served(given, whole, words))
+    if served(SHORT_SEND=1) != whole:
+        raise SystemExit("a server: something changes where each send takes one byte")
+    print("a server: nothing changes where each send takes one byte")
 
 
 for title, (world, lines) in PLAYS.items():

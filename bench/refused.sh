@@ -1,6 +1,7 @@
 #!/usr/bin/env bash
 # Refuses the program memory: plays small evenings, and serves one, over and over, and in the k-th run the k-th allocation finds none, for
-# each k up to a run that asks no more. What has to hold of each run stands in bench/refused.py.
+# each k up to a run that asks no more. In the same way each receive and each send of a server fails. What has to hold of each run stands in
+# bench/refused.py.
 #   bench/refused.sh [PROGRAM]
 # PROGRAM is crates/tabletop/out/tabletop unless given. It needs a C compiler (CC, else cc) and Python 3.
 set -eu
