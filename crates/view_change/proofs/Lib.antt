@@ -8,5 +8,6 @@ pub mod FitLemmas
 pub mod PutLemmas
 pub mod FillLemmas
 pub mod NewsLemmas
+pub mod KeptLetters
 pub mod GoneLemmas
 pub mod ApplyLemmas

@@ -1,5 +1,5 @@
 //! The change from one view to another.
-ghost use Rattle.std.specs.Prelude.{◌≡◌, map, ◌↔◌, ◌++◌, [], None, Some, IfOk, OnOk, IsTrue, All, cond};
+ghost use Rattle.std.specs.Prelude.{◌≡◌, map, ◌↔◌, ◌++◌, [], None, Some, IfOk, OnOk, IsTrue, All, cond, true};
 ghost use Rattle.std.specs.List.{cons_option, list_all};
 ghost use Rattle.std.specs.Str.{bytes_eq};
 ghost use Rattle.names.specs.TokenId.{id_eq};
@@ -7,7 +7,7 @@ ghost use Rattle.names.specs.Tag.{tag_cmp};
 ghost use Rattle.views.specs.Keys.{map_name, change_name, token_id};
 ghost use Rattle.view_change.specs.Keyed.{has_key, gone_from, news as news_list, puts_from, delta_from, deltas};
 ghost use Rattle.views.specs.Same.{same_light, same_bytes, same_letter, same_map as same_map_test, same_token as same_token_test};
-ghost use Rattle.views.specs.Views.{at_name};
+ghost use Rattle.views.specs.Views.{at_name, KeepLetters, KeepsLetters};
 ghost use Rattle.view_change.specs.Views.{fits_test, HaveOneSize, FitsAmong};
 ghost use Rattle.view_change.specs.Change.{minus as minus_cells, mode_change as mode_change_of, shown_change as shown_change_of, map_change as map_change_of, difference as difference_of, change_of as change_between};
 
@@ -17,7 +17,7 @@ use names::{Memory, Mode, Tag, TokenId};
 use std::alloc::Global;
 use views::{
     Change, Letters, LightTexts, MapChange, MapChanges, MapView, MapViews, SightTexts, Tags,
-    TokenIds, TokenView, TokenViews, View, same_map, same_mode, same_shown, same_view,
+    TokenIds, TokenView, TokenViews, View, same_map_by, same_mode, same_shown, same_view_by,
 };
 
 fn new_lights(alloc: Global, before: &LightTexts, after: &LightTexts) -> Result<LightTexts, Memory>
@@ -36,12 +36,31 @@ fn new_sights(alloc: Global, before: &SightTexts, after: &SightTexts) -> Result<
     })
 }
 
-fn new_letters(alloc: Global, before: &Letters, after: &Letters) -> Result<Letters, Memory>
+fn other_letters(alloc: Global, before: &Letters, after: &Letters) -> Result<Letters, Memory>
     ensures { IfOk result (λ letters. letters ≡ puts_from same_letter before.now after.now) }
 {
     Ok(Letters {
         list: news(alloc, before.items(), after.items())?,
     })
+}
+
+#[tactic(auto, using(crate::proofs::KeptLetters::none_where_kept))]
+fn new_letters(
+    alloc: Global,
+    before: &MapView,
+    after: &MapView,
+    by_exposed: bool,
+) -> Result<Letters, Memory>
+    requires sizes { HaveOneSize before.now after.now }
+    requires letters { by_exposed ≡ true → before.now.exposed ≡ after.now.exposed → before.now.letters ≡ after.now.letters }
+    ensures { IfOk result (λ letters. letters ≡ puts_from same_letter before.now.letters after.now.letters) }
+{
+    if by_exposed && before.exposed.equals(&after.exposed) {
+        return Ok(Letters {
+            list: Vec::new(alloc),
+        });
+    }
+    other_letters(alloc, &before.letters, &after.letters)
 }
 
 fn new_tokens(alloc: Global, before: &TokenViews, after: &TokenViews) -> Result<TokenViews, Memory>
@@ -134,8 +153,14 @@ fn new_shown(before: Option<bool>, after: Option<bool>) -> Option<bool>
     }
 }
 
-fn map_change(alloc: Global, before: &MapView, after: &MapView) -> Result<MapChange, Memory>
-    requires { HaveOneSize before.now after.now }
+fn map_change(
+    alloc: Global,
+    before: &MapView,
+    after: &MapView,
+    by_exposed: bool,
+) -> Result<MapChange, Memory>
+    requires sizes { HaveOneSize before.now after.now }
+    requires letters { by_exposed ≡ true → before.now.exposed ≡ after.now.exposed → before.now.letters ≡ after.now.letters }
     ensures { IfOk result (λ change. change ≡ map_change_of before.now after.now) }
 {
     Ok(MapChange {
@@ -143,7 +168,7 @@ fn map_change(alloc: Global, before: &MapView, after: &MapView) -> Result<MapCha
         mode: new_mode(before.mode, after.mode),
         shown: new_shown(before.shown, after.shown),
         dark: minus(&before.seen, &after.seen)?,
-        letters: new_letters(alloc, &before.letters, &after.letters)?,
+        letters: new_letters(alloc, before, after, by_exposed)?,
         hidden: minus(&before.exposed, &after.exposed)?,
         lit: minus(&after.seen, &before.seen)?,
     })
@@ -153,24 +178,33 @@ fn changed_map(
     alloc: Global,
     before: &MapView,
     after: &MapView,
+    by_exposed: bool,
 ) -> Result<Option<MapChange>, Memory>
-    requires { HaveOneSize before.now after.now }
+    requires sizes { HaveOneSize before.now after.now }
+    requires name { before.now.name ≡ after.now.name }
+    requires letters { by_exposed ≡ true → KeepsLetters before.now after.now }
     ensures { IfOk result (λ change. change ≡ cond (same_map_test before.now after.now) None (Some (map_change_of before.now after.now))) }
 {
-    if same_map(before, after) {
+    if same_map_by(before, after, by_exposed) {
         return Ok(None);
     }
-    Ok(Some(map_change(alloc, before, after)?))
+    Ok(Some(map_change(alloc, before, after, by_exposed)?))
 }
 
 /// How the map differs from the one with its name.
-fn map_delta(alloc: Global, before: &[MapView], map: &MapView) -> Result<Option<MapChange>, Memory>
-    requires { FitsAmong before.now map.now }
+fn map_delta(
+    alloc: Global,
+    before: &[MapView],
+    map: &MapView,
+    by_exposed: bool,
+) -> Result<Option<MapChange>, Memory>
+    requires fits { FitsAmong before.now map.now }
+    requires letters { by_exposed ≡ true → All (λ old. KeepsLetters old map.now) before.now }
     ensures { IfOk result (λ change. change ≡ delta_from tag_cmp map_name change_name same_map_test map_change_of (at_name map_name map.now.name before.now) map.now) }
 {
     for old in before {
         if map.name == old.name {
-            return changed_map(alloc, old, map);
+            return changed_map(alloc, old, map, by_exposed);
         }
     }
     Ok(None)
@@ -188,24 +222,36 @@ fn add_delta(list: &mut Vec<MapChange>, change: Option<MapChange>) -> Result<(),
     }
 }
 
-fn changed_maps(alloc: Global, before: &[MapView], after: &[MapView]) -> Result<MapChanges, Memory>
-    requires { All (FitsAmong before.now) after.now }
+fn changed_maps(
+    alloc: Global,
+    before: &[MapView],
+    after: &[MapView],
+    by_exposed: bool,
+) -> Result<MapChanges, Memory>
+    requires fit { All (FitsAmong before.now) after.now }
+    requires letters { by_exposed ≡ true → KeepLetters before.now after.now }
     ensures { IfOk result (λ changes. changes ≡ deltas tag_cmp map_name change_name same_map_test map_change_of before.now after.now) }
 {
     let mut list = Vec::new(alloc);
     for map in after {
-        add_delta(&mut list, map_delta(alloc, before, map)?)?;
+        add_delta(&mut list, map_delta(alloc, before, map, by_exposed)?)?;
     }
     Ok(MapChanges { list })
 }
 
 #[tactic(auto, unfolding(crate::specs::Change::difference))]
-fn difference(alloc: Global, before: &View, after: &View) -> Result<Change, Memory>
-    requires { All (FitsAmong before.now.maps) after.now.maps }
+fn difference(
+    alloc: Global,
+    before: &View,
+    after: &View,
+    by_exposed: bool,
+) -> Result<Change, Memory>
+    requires fit { All (FitsAmong before.now.maps) after.now.maps }
+    requires letters { by_exposed ≡ true → KeepLetters before.now.maps after.now.maps }
     ensures { IfOk result (λ change. change ≡ difference_of before.now after.now) }
 {
     Ok(Change {
-        changed: changed_maps(alloc, before.maps.items(), after.maps.items())?,
+        changed: changed_maps(alloc, before.maps.items(), after.maps.items(), by_exposed)?,
         gone: gone_tokens(alloc, &before.tokens, &after.tokens)?,
         lights: new_lights(alloc, &before.lights, &after.lights)?,
         maps: new_maps(alloc, &before.maps, &after.maps)?,
@@ -218,16 +264,32 @@ fn difference(alloc: Global, before: &View, after: &View) -> Result<Change, Memo
 /// The change from one view to another; `None` exactly where the views are equal.
 ///
 /// The sets of a map that is in both views have one size.
-#[tactic(auto, using(crate::proofs::ChangeShape::none_where_same, crate::proofs::ChangeShape::change_where_other))]
 pub fn change_of(alloc: Global, before: &View, after: &View) -> Result<Option<Change>, Memory>
     requires { All (FitsAmong before.now.maps) after.now.maps }
     ensures value { IfOk result (λ change. change ≡ change_between before.now after.now) }
     ensures none { IfOk result (λ change. change ≡ None ↔ (before.now ≡ after.now)) }
 {
-    if same_view(before, after) {
+    change_by(alloc, before, after, false)
+}
+
+/// The same, where it is known of the two views, with `by_exposed`, that the letters of a map follow from what is exposed
+/// of it: then letters are compared only of maps of which other cells are exposed.
+#[tactic(auto, using(crate::proofs::ChangeShape::none_where_same, crate::proofs::ChangeShape::change_where_other))]
+pub fn change_by(
+    alloc: Global,
+    before: &View,
+    after: &View,
+    by_exposed: bool,
+) -> Result<Option<Change>, Memory>
+    requires fit { All (FitsAmong before.now.maps) after.now.maps }
+    requires letters { by_exposed ≡ true → KeepLetters before.now.maps after.now.maps }
+    ensures value { IfOk result (λ change. change ≡ change_between before.now after.now) }
+    ensures none { IfOk result (λ change. change ≡ None ↔ (before.now ≡ after.now)) }
+{
+    if same_view_by(before, after, by_exposed) {
         return Ok(None);
     }
-    Ok(Some(difference(alloc, before, after)?))
+    Ok(Some(difference(alloc, before, after, by_exposed)?))
 }
 
 fn has_one_size(before: &MapView, after: &MapView) -> bool

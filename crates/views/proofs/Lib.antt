@@ -1,5 +1,6 @@
 pub mod SameLemmas
 pub mod SameLoops
+mod KeptLetters
 pub mod Told
 pub mod LetteredLemmas
 pub mod Orders

@@ -59,3 +59,11 @@ pub record FollowsView (a b : View) : Type 0 where
   pub sizes : All (λ m. All (λ n. m.name ≡ n.name → m.size ≡ n.size) b.maps) a.maps
   pub lights : (name : List ℕ) → is_some (at_name name_of name a.lights) ≡ true → is_some (at_name name_of name b.lights) ≡ true
   pub sights : (name : List ℕ) → is_some (at_name name_of name a.sights) ≡ true → is_some (at_name name_of name b.sights) ≡ true
+
+-- where two views of a map expose the same cells, they have the same letters
+abbrev pub KeepsLetters : MapView → MapView → Type 0
+KeepsLetters a b = a.name ≡ b.name → a.exposed ≡ b.exposed → a.letters ≡ b.letters
+
+-- each map that is in both lists does so
+abbrev pub KeepLetters : List MapView → List MapView → Type 0
+KeepLetters before after = All (λ b. All (λ a. KeepsLetters a b) before) after

@@ -1,10 +1,11 @@
 //! Whether two views, or two parts of views, are equal.
-ghost use Rattle.std.specs.Prelude.{◌≡◌, ◌↔◌, IsTrue};
+ghost use Rattle.std.specs.Prelude.{◌≡◌, ◌↔◌, IsTrue, true};
 ghost use Rattle.std.specs.Option.{option_eq};
 ghost use Rattle.std.specs.Str.{bytes_eq};
 ghost use Rattle.std.specs.Cmp.Lexicographic.{pointwise};
 ghost use Rattle.cells.specs.Cells.{cells_eq};
 ghost use Rattle.views.specs.Same as same;
+ghost use Rattle.views.specs.Views.{KeepLetters, KeepsLetters};
 
 use crate::lists::{Letters, LightTexts, SightTexts};
 use crate::view::{GmPart, MapView, OwnedPart, TokenView, View};
@@ -162,7 +163,19 @@ pub fn same_token(a: &TokenView, b: &TokenView) -> bool
     same_token_parts(a, b)
 }
 
-fn same_map_parts(a: &MapView, b: &MapView) -> bool
+/// Whether two views of a map that expose the same cells have the same letters.
+#[tactic(auto, using(crate::proofs::KeptLetters::kept_letters))]
+fn same_exposed_letters(a: &MapView, b: &MapView, by_exposed: bool) -> bool
+    requires letters { by_exposed ≡ true → KeepsLetters a.now b.now }
+    requires name { bytes_eq a.now.name b.now.name ≡ true }
+    requires exposed { cells_eq a.now.exposed b.now.exposed ≡ true }
+    ensures { result ≡ pointwise same.same_letter a.now.letters b.now.letters }
+{
+    by_exposed || same_letters(&a.letters, &b.letters)
+}
+
+fn same_map_parts(a: &MapView, b: &MapView, by_exposed: bool) -> bool
+    requires letters { by_exposed ≡ true → KeepsLetters a.now b.now }
     ensures { result ≡ same.same_map a.now b.now }
 {
     a.name == b.name
@@ -171,7 +184,7 @@ fn same_map_parts(a: &MapView, b: &MapView) -> bool
         && same_shown(a.shown, b.shown)
         && same_cells(&a.seen, &b.seen)
         && same_cells(&a.exposed, &b.exposed)
-        && same_letters(&a.letters, &b.letters)
+        && same_exposed_letters(a, b, by_exposed)
 }
 
 /// Whether the two maps are equal.
@@ -179,18 +192,29 @@ pub fn same_map(a: &MapView, b: &MapView) -> bool
     ensures test { result ≡ same.same_map a.now b.now }
     ensures tells { IsTrue result ↔ (a.now ≡ b.now) }
 {
-    same_map_parts(a, b)
+    same_map_parts(a, b, false)
+}
+
+/// The same, where it is known of the two, with `by_exposed`, that their letters follow from what they expose: then no
+/// letter is compared.
+pub fn same_map_by(a: &MapView, b: &MapView, by_exposed: bool) -> bool
+    requires letters { by_exposed ≡ true → KeepsLetters a.now b.now }
+    ensures test { result ≡ same.same_map a.now b.now }
+    ensures tells { IsTrue result ↔ (a.now ≡ b.now) }
+{
+    same_map_parts(a, b, by_exposed)
 }
 
 #[tactic(auto, using(crate::proofs::SameLoops::same_length, crate::proofs::SameLoops::same_next, crate::proofs::SameLoops::same_end))]
-fn same_maps(a: &[MapView], b: &[MapView]) -> bool
+fn same_maps(a: &[MapView], b: &[MapView], by_exposed: bool) -> bool
+    requires letters { by_exposed ≡ true → KeepLetters a.now b.now }
     ensures { result ≡ pointwise same.same_map a.now b.now }
 {
     if a.len() != b.len() {
         return false;
     }
     for i in 0..a.len() {
-        if !same_map_parts(&a[i], &b[i]) {
+        if !same_map_parts(&a[i], &b[i], by_exposed) {
             return false;
         }
     }
@@ -213,7 +237,8 @@ fn same_tokens(a: &[TokenView], b: &[TokenView]) -> bool
 }
 
 #[tactic(auto, unfolding(crate::specs::Same::same_view))]
-fn same_view_parts(a: &View, b: &View) -> bool
+fn same_view_parts(a: &View, b: &View, by_exposed: bool) -> bool
+    requires letters { by_exposed ≡ true → KeepLetters a.now.maps b.now.maps }
     ensures { result ≡ same.same_view a.now b.now }
 {
     a.gm == b.gm
@@ -221,7 +246,7 @@ fn same_view_parts(a: &View, b: &View) -> bool
         && same_sights(&a.sights, &b.sights)
         // A token that moved differs soon, and maps with many letters take long.
         && same_tokens(a.tokens.items(), b.tokens.items())
-        && same_maps(a.maps.items(), b.maps.items())
+        && same_maps(a.maps.items(), b.maps.items(), by_exposed)
 }
 
 /// Whether the two views are equal.
@@ -229,5 +254,15 @@ pub fn same_view(a: &View, b: &View) -> bool
     ensures test { result ≡ same.same_view a.now b.now }
     ensures tells { IsTrue result ↔ (a.now ≡ b.now) }
 {
-    same_view_parts(a, b)
+    same_view_parts(a, b, false)
+}
+
+/// The same, where it is known of the two, with `by_exposed`, that the letters of a map follow from what is exposed of it:
+/// then no letter is compared.
+pub fn same_view_by(a: &View, b: &View, by_exposed: bool) -> bool
+    requires letters { by_exposed ≡ true → KeepLetters a.now.maps b.now.maps }
+    ensures test { result ≡ same.same_view a.now b.now }
+    ensures tells { IsTrue result ↔ (a.now ≡ b.now) }
+{
+    same_view_parts(a, b, by_exposed)
 }
