@@ -8,6 +8,7 @@ pub mod KeepLemmas
 pub mod ToldLemmas
 pub mod LetterOrder
 pub mod LetterRuns
+pub mod OlderLetters
 pub mod ViewIs
 pub mod FollowLemmas
 pub mod ReadTables

@@ -2,6 +2,7 @@ pub mod Sight
 pub mod Shown
 pub mod Relations
 pub mod View
+pub mod Lettered
 pub mod Asked
 pub mod Fields
 pub mod Walk

@@ -1,9 +1,11 @@
 //! The maps of a seat's view.
-ghost use Rattle.std.specs.Prelude.{◌≡◌, ◌<◌, ◌≤◌, ◌+◌, ◌++◌, ◌∷◌, [], Some, None, true, IfOk, OnOk, map, take, slice_get, length, if◌then◌else◌};
-ghost use Rattle.std.specs.List.{filter};
+ghost use Rattle.std.specs.Prelude.{◌≡◌, ◌<◌, ◌≤◌, ◌+◌, ◌++◌, ◌∷◌, [], Some, None, true, IfOk, IfSome, OnOk, map, option_copied, take, slice_get, length, if◌then◌else◌};
+ghost use Rattle.std.specs.List.{filter, find};
+ghost use Rattle.std.specs.Str.{bytes_eq};
 ghost use Rattle.cells.specs.Cells.{has};
 ghost use Rattle.maps.specs.Maps.{map_of};
 ghost use Rattle.player_view.specs.Fields.{HasFields};
+ghost use Rattle.player_view.specs.Lettered.{HaveLetters};
 ghost use Rattle.player_view.specs.Shown.{exposed};
 ghost use Rattle.player_view.specs.Sight.{visible};
 ghost use Rattle.player_view.specs.View.{all_cells, exposed_to, has_map, letters_in, map_view, seen_by};
@@ -13,7 +15,7 @@ use crate::looks::look_over;
 use crate::reads::{has_map, is_gm};
 use cells::{Cell, CellSet, Run};
 use maps::GridMap;
-use names::{Memory, SeatNo};
+use names::{Memory, SeatNo, Tag};
 use std::alloc::Global;
 use views::{Letters, MapView, MapViews};
 use vision::Fields;
@@ -150,6 +152,42 @@ fn letters_in(alloc: Global, map: &GridMap, cells: &CellSet) -> Result<Letters, 
     Ok(Letters { list })
 }
 
+/// The view of the map of that name, if there is one.
+pub(crate) fn find_view(views: &[MapView], name: Tag) -> Option<&MapView>
+    ensures { option_copied result ≡ find (λ view. bytes_eq view.name name) views.now }
+{
+    views.iter().find(|view| view.name == name)
+}
+
+/// The older view of the map, if there is one.
+fn older_of<'a>(scene: &Scene, older: &'a [MapView], map: &GridMap) -> Option<&'a MapView>
+    requires there { map_of map.now.name scene.now.maps ≡ Some map.now }
+    requires older { HaveLetters scene.now.maps older.now }
+    ensures { IfSome (option_copied result) (λ v. v.letters ≡ letters_in map.now v.exposed) }
+{
+    let _scene = scene;
+    find_view(older, map.name())
+}
+
+/// The letters of the set's cells: those of the older view, where it exposes the same cells.
+fn letters_like(
+    alloc: Global,
+    map: &GridMap,
+    cells: &CellSet,
+    older: Option<&MapView>,
+) -> Result<Letters, Memory>
+    requires cells { cells.now.extent ≡ map.now.walls.extent }
+    requires older { IfSome (option_copied older) (λ v. v.letters ≡ letters_in map.now v.exposed) }
+    ensures { IfOk result (λ letters. letters ≡ letters_in map.now cells.now) }
+{
+    if let Some(older) = older {
+        if older.exposed.size() == cells.size() && older.exposed.equals(cells) {
+            return older.letters.copy();
+        }
+    }
+    letters_in(alloc, map, cells)
+}
+
 fn shown_if(gm: bool, shown: bool) -> Option<bool>
     ensures { result ≡ (if gm then Some shown else None) }
 {
@@ -163,15 +201,17 @@ fn map_view(
     seat: SeatNo,
     map: &GridMap,
     fields: &Fields,
+    older: &[MapView],
 ) -> Result<MapView, Memory>
     requires there { map_of map.now.name scene.now.maps ≡ Some map.now }
+    requires older { HaveLetters scene.now.maps older.now }
     requires seat { seat ≤ scene.now.fog.players }
     requires fields { HasFields scene.now fields.now }
     ensures { IfOk result (λ view. view ≡ map_view scene.now seat map.now) }
 {
     let seen = seen_by(alloc, scene, seat, map, fields)?;
     let exposed = exposed_to(alloc, scene, seat, map)?;
-    let letters = letters_in(alloc, map, &exposed)?;
+    let letters = letters_like(alloc, map, &exposed, older_of(scene, older, map))?;
     Ok(MapView {
         name: map.name(),
         size: map.size(),
@@ -201,8 +241,10 @@ fn add_map(
     seat: SeatNo,
     place: usize,
     fields: &Fields,
+    older: &[MapView],
     list: &mut Vec<MapView>,
 ) -> Result<(), Memory>
+    requires older { HaveLetters scene.now.maps older.now }
     requires place { place < length scene.now.maps }
     requires seat { seat ≤ scene.now.fog.players }
     requires fields { HasFields scene.now fields.now }
@@ -213,7 +255,7 @@ fn add_map(
     if !has_map(seat, map) {
         return Ok(());
     }
-    let view = map_view(alloc, scene, seat, map, fields)?;
+    let view = map_view(alloc, scene, seat, map, fields, older)?;
     push_map(list, view)?;
     Ok(())
 }
@@ -227,20 +269,22 @@ fn push_map(list: &mut Vec<MapView>, view: MapView) -> Result<(), Memory>
     }
 }
 
-/// The maps that the seat is shown.
+/// The maps that the seat is shown; letters are taken from older views of maps with the same letters, where they serve.
 pub(crate) fn map_views(
     alloc: Global,
     scene: &Scene,
     seat: SeatNo,
     fields: &Fields,
+    older: &[MapView],
 ) -> Result<MapViews, Memory>
+    requires older { HaveLetters scene.now.maps older.now }
     requires seat { seat ≤ scene.now.fog.players }
     requires fields { HasFields scene.now fields.now }
     ensures { IfOk result (λ views. views ≡ map (map_view scene.now seat) (filter (has_map seat) scene.now.maps)) }
 {
     let mut list = Vec::new(alloc);
     for place in 0..scene.maps().len() {
-        add_map(alloc, scene, seat, place, fields, &mut list)?;
+        add_map(alloc, scene, seat, place, fields, older, &mut list)?;
     }
     Ok(MapViews { list })
 }

@@ -1,6 +1,7 @@
 //! What a seat sees of a scene.
 ghost use Rattle.std.specs.Prelude.{◌≡◌, ◌<◌, ◌≤◌, ◌+◌, ◌++◌, ◌∷◌, [], IfOk, OnOk, map, take, length};
 ghost use Rattle.player_view.specs.Fields.{HasFields};
+ghost use Rattle.player_view.specs.Lettered.{HaveLetters, LettersStay};
 ghost use Rattle.player_view.specs.Follows.{Follows, ViewsFollow};
 ghost use Rattle.views.specs.Views.{IsView};
 ghost use Rattle.player_view.specs.Tables.{HasTables};
@@ -12,7 +13,7 @@ use crate::reads::is_gm;
 use crate::token_views::token_views;
 use names::{Memory, SeatNo, Tag};
 use std::alloc::Global;
-use views::{LightTexts, SightTexts, View};
+use views::{LightTexts, MapView, SightTexts, View};
 use vision::Fields;
 use world::Scene;
 
@@ -91,14 +92,21 @@ fn open_tables(scene: &Scene)
 }
 
 #[tactic(auto, unfolding(crate::specs::View::view_of))]
-fn seat_view(alloc: Global, scene: &Scene, seat: SeatNo, fields: &Fields) -> Result<View, Memory>
+fn seat_view(
+    alloc: Global,
+    scene: &Scene,
+    seat: SeatNo,
+    fields: &Fields,
+    older: &[MapView],
+) -> Result<View, Memory>
+    requires older { HaveLetters scene.now.maps older.now }
     requires seat { seat ≤ scene.now.fog.players }
     requires fields { HasFields scene.now fields.now }
     ensures { IfOk result (λ view. view ≡ view_of scene.now seat) }
 {
     let lights = light_texts(alloc, scene)?;
     let sights = sight_texts(alloc, scene)?;
-    let maps = map_views(alloc, scene, seat, fields)?;
+    let maps = map_views(alloc, scene, seat, fields, older)?;
     let tokens = token_views(alloc, scene, seat, &maps)?;
     Ok(View {
         gm: is_gm(seat),
@@ -122,7 +130,41 @@ pub fn view_of(alloc: Global, scene: &Scene, seat: SeatNo, fields: &Fields) -> R
     ensures told { 1 ≤ seat → IfOk result (IsTold scene.now seat) }
 {
     open_tables(scene);
-    seat_view(alloc, scene, seat, fields)
+    seat_view(alloc, scene, seat, fields, &[])
+}
+
+/// The same, by an older view of the seat, of maps with the same letters: of a map of which the same cells are exposed they
+/// are taken from there.
+pub fn view_after(
+    alloc: Global,
+    scene: &Scene,
+    seat: SeatNo,
+    fields: &Fields,
+    older: &View,
+) -> Result<View, Memory>
+    requires older { HaveLetters scene.now.maps older.now.maps }
+    requires seat { seat ≤ scene.now.fog.players }
+    requires fields { HasFields scene.now fields.now }
+    ensures value { IfOk result (λ view. view ≡ view_of scene.now seat) }
+
+    // It is a view: in order, with nothing repeated, and each part fits the others.
+    ensures is_view { IfOk result IsView }
+
+    // A player's view has just what the relations say.
+    ensures told { 1 ≤ seat → IfOk result (IsTold scene.now seat) }
+{
+    open_tables(scene);
+    seat_view(alloc, scene, seat, fields, older.maps.items())
+}
+
+/// Opens the tables of both scenes: where they have the same maps, what each seat saw of the first has the letters of the
+/// second.
+pub fn letters_stay(before: &Scene, after: &Scene)
+    requires { after.now.maps ≡ before.now.maps }
+    ensures { LettersStay before.now after.now }
+{
+    open_tables(before);
+    open_tables(after);
 }
 
 /// Opens the tables of both scenes: where the second follows the first, so does what each seat sees.

@@ -9,6 +9,7 @@ ghost use Rattle.player_view.specs.Sight.{owns};
 ghost use Rattle.player_view.specs.View.{gm_part, has_map, has_token, map_view, owned_part, token_view};
 ghost use Rattle.player_view.specs.Walk.{is_open_by, is_open_in};
 
+use crate::map_views::find_view;
 use crate::reads::{acts_on, is_gm, owns, token_at};
 use cells::{Cell, CellSet};
 use names::{Layer, Memory, SeatNo, Tag, Text};
@@ -193,12 +194,6 @@ fn is_open_by(token: &Token, view: &MapView) -> bool
         Layer::Object => touches(token, &view.exposed),
         Layer::Background => touches(token, &view.exposed),
     }
-}
-
-fn find_view(views: &[MapView], name: Tag) -> Option<&MapView>
-    ensures { option_copied result ≡ find (λ view. bytes_eq view.name name) views.now }
-{
-    views.iter().find(|view| view.name == name)
 }
 
 fn is_open_in(token: &Token, views: &MapViews) -> bool

@@ -17,7 +17,5 @@ pub use lists::{
     Letters, LightTexts, MapChanges, MapViews, PropTexts, SeatNos, SightTexts, Tags, TokenIds,
     TokenViews,
 };
-pub use same::{
-    same_map, same_map_by, same_mode, same_shown, same_token, same_view, same_view_by,
-};
+pub use same::{same_map, same_map_by, same_mode, same_shown, same_token, same_view, same_view_by};
 pub use view::{GmPart, MapView, OwnedPart, TokenView, View};
