@@ -51,17 +51,17 @@ keeps : (maps : List Grid) (a b : MapView) (m : Grid) → map_of b.name maps ≡
 keeps maps a b m there first second name exposed =
     first m (ap (λ n. map_of n maps) name ∙ there) ∙ ap (letters_in m) exposed ∙ sym (second m there)
 
-keep_letters : (t : Scene) (q : ℕ) (older : List MapView) → HasTables t → HaveLetters t.maps older → KeepLetters older (view_of t q).maps
+keep_letters : (t : Scene) (q : ℕ) (older : List MapView) → All (λ m. map_of m.name t.maps ≡ Some m) t.maps → HaveLetters t.maps older → KeepLetters older (view_of t q).maps
 unfolding view_of
-keep_letters t q older are had =
+keep_letters t q older there had =
     All-map (λ (b : MapView). All (λ (a : MapView). KeepsLetters a b) older) (map_view t q) (filter (has_map q) t.maps)
     (All-filter (has_map q) (λ m. All (λ (a : MapView). KeepsLetters a (map_view t q m)) older) t.maps
     (λ k d h.
     let m : Grid = get_or t.maps k d in
-    let there : map_of m.name t.maps ≡ Some m = each_map_there t are k d h in
-    λ j e i. keeps t.maps (get_or older j e) (map_view t q m) m there (had j e i) (map_has t q m there)))
+    λ j e i. keeps t.maps (get_or older j e) (map_view t q m) m (there k d h) (had j e i) (map_has t q m (there k d h))))
 
-pub letters_stay : (s t : Scene) → HasTables s → HasTables t → t.maps ≡ s.maps → LettersStay s t
-letters_stay s t before after same =
-    let had : (q : ℕ) → HaveLetters t.maps (view_of s q).maps = λ q. subst (λ maps. HaveLetters maps (view_of s q).maps) (sym same) (have_letters s q before) in
-    record { had = had; kept = λ q. keep_letters t q (view_of s q).maps after (had q) }
+pub letters_stay : (s t : Scene) → HasTables s → t.maps ≡ s.maps → LettersStay s t
+letters_stay s t are same =
+    let had : (q : ℕ) → HaveLetters t.maps (view_of s q).maps = λ q. subst (λ maps. HaveLetters maps (view_of s q).maps) (sym same) (have_letters s q are) in
+    let there : All (λ m. map_of m.name t.maps ≡ Some m) t.maps = subst (λ maps. All (λ m. map_of m.name maps ≡ Some m) maps) (sym same) (each_map_there s are) in
+    record { had = had; kept = λ q. keep_letters t q (view_of s q).maps there (had q) }

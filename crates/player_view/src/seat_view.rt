@@ -1,7 +1,7 @@
 //! What a seat sees of a scene.
 ghost use Rattle.std.specs.Prelude.{◌≡◌, ◌<◌, ◌≤◌, ◌+◌, ◌++◌, ◌∷◌, [], IfOk, OnOk, map, take, length};
 ghost use Rattle.player_view.specs.Fields.{HasFields};
-ghost use Rattle.player_view.specs.Lettered.{HaveLetters, LettersStay};
+ghost use Rattle.player_view.specs.Lettered.{HaveLetters};
 ghost use Rattle.player_view.specs.Follows.{Follows, ViewsFollow};
 ghost use Rattle.views.specs.Views.{IsView};
 ghost use Rattle.player_view.specs.Tables.{HasTables};
@@ -155,16 +155,6 @@ pub fn view_after(
 {
     open_tables(scene);
     seat_view(alloc, scene, seat, fields, older.maps.items())
-}
-
-/// Opens the tables of both scenes: where they have the same maps, what each seat saw of the first has the letters of the
-/// second.
-pub fn letters_stay(before: &Scene, after: &Scene)
-    requires { after.now.maps ≡ before.now.maps }
-    ensures { LettersStay before.now after.now }
-{
-    open_tables(before);
-    open_tables(after);
 }
 
 /// Opens the tables of both scenes: where the second follows the first, so does what each seat sees.
