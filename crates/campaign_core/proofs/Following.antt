@@ -6,7 +6,9 @@ use Rattle.view_change.proofs.FitLemmas.{follows_fits}
 use Rattle.view_keep.specs.declared.keep.KeptView.{KeptView}
 use Rattle.view_keep.specs.Kept.{put_at, unless_stale, view_at}
 use Rattle.views.specs.declared.view.View.{View}
+use Rattle.views.specs.Views.{KeepLetters}
 use Rattle.player_view.specs.Follows.{Follows}
+use Rattle.player_view.specs.Lettered.{HaveLetters, LettersStay}
 use Rattle.player_view.specs.Tables.{HasTables}
 use Rattle.player_view.specs.View.{view_of}
 use Rattle.player_view.proofs.FollowLemmas.{views_follow}
@@ -75,3 +77,15 @@ pub pair_fits : (before after : Scene) (seat : ℕ) (views : List KeptView) (sta
 pair_fits before after seat views stays kept v fit within shown put made =
     subst (λ (a : View). All (FitsAmong a.maps) v.maps) (sym (kept_is seat views (view_of before seat) kept shown put))
     (subst (λ (b : View). All (FitsAmong (view_of before seat).maps) b.maps) (sym (made_is_new stays after seat v made)) (fit seat within))
+
+pub pair_keeps : (before after : Scene) (seat : ℕ) (views : List KeptView) (stays : Bool) (kept v : View) → LettersStay before after → view_at seat views ≡ Some (view_of before seat)
+    → put_at seat views ≡ Some kept → new_view stays after seat ≡ Some v → KeepLetters kept.maps v.maps
+pair_keeps before after seat views stays kept v letters shown put made =
+    subst (λ (a : View). KeepLetters a.maps v.maps) (sym (kept_is seat views (view_of before seat) kept shown put))
+    (subst (λ (b : View). KeepLetters (view_of before seat).maps b.maps) (sym (made_is_new stays after seat v made)) (letters.kept seat))
+
+-- what a seat was shown has the letters of maps that stay
+pub older_has : (before after : Scene) (seat : ℕ) (views : List KeptView) (kept : View) → LettersStay before after → view_at seat views ≡ Some (view_of before seat)
+    → put_at seat views ≡ Some kept → HaveLetters after.maps kept.maps
+older_has before after seat views kept letters shown put =
+    subst (λ (a : View). HaveLetters after.maps a.maps) (sym (kept_is seat views (view_of before seat) kept shown put)) (letters.had seat)
