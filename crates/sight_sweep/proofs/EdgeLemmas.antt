@@ -20,10 +20,10 @@ scaled_below whole gap scale n x some more low high small = (
     | inr ge ↦ absurd (omega (arith, (quotient_below whole (n * scale) x more).0 h, mul-le-mul_left scale ge, mul-le-mul_left x low))
   ],
   λ h. (quotient_below whole (n * scale) x more).1 (
-    elim (cases_lt (n * scale) (whole * x)) [
-      | inl lt ↦ lt
-      | inr ge ↦ absurd (over h ge)
-    ]),
+      elim (cases_lt (n * scale) (whole * x)) [
+        | inl lt ↦ lt
+        | inr ge ↦ absurd (over h ge)
+      ]),
 )
   where
     by : (p p' q r r' m : ℕ) → p ≡ p' → r ≡ r' → p + n ≤ q + m → m < whole → q + whole ≤ r' → r ≤ p' → ⊥
@@ -80,7 +80,7 @@ pub lower_turns : (ax ay bx by gap scale x y : ℕ) → ax ≤ 192 → ay ≤ 19
 lower_turns ax ay bx by gap scale x y hax hay hbx hy lt e is =
     same_le _ _ _ _
     (let same = from_bound gap scale (ax * by + ay + bx * (2 * y + 1)) (ay * bx + by + ax * (2 * y + 1)) _ x (omega arith) is (omega arith)
-        (small_product _ gap (omega (arith, mul-le-mul hay hbx, mul-le-mul hax row)) (omega arith)) in
+    (small_product _ gap (omega (arith, mul-le-mul hay hbx, mul-le-mul hax row)) (omega arith)) in
     let rise : gap + 2 * by ≡ 2 * ay = omega arith in
     (λ h. (let k = same.0 h in omega (arith, k, ap (λ n. n * x) rise)), λ h. same.1 (omega (arith, ap (λ n. n * x) rise))))
   where
@@ -93,7 +93,7 @@ pub upper_turns : (ax ay bx by gap scale x y : ℕ) → ax ≤ 192 → by ≤ 19
 upper_turns ax ay bx by gap scale x y hax hby hbx hy lt e is =
     same_lt _ _ _ _
     (let same = past_bound gap scale (ax * by + ay + bx * (2 * y + 1)) (ay * bx + by + ax * (2 * y + 1)) _ x (omega arith) is (omega arith)
-        (small_product _ gap (omega (arith, mul-le-mul hax hby, mul-le-mul hbx row)) (omega arith)) in
+    (small_product _ gap (omega (arith, mul-le-mul hax hby, mul-le-mul hbx row)) (omega arith)) in
     let rise : gap + 2 * ay ≡ 2 * by = omega arith in
     (λ h. (let k = same.0 h in omega (arith, k, ap (λ n. n * x) rise)), λ h. same.1 (omega (arith, ap (λ n. n * x) rise))))
   where
