@@ -1,23 +1,28 @@
-use Rattle.std.specs.Prelude.{◌≡◌, ℕ, ◌+◌, ◌-◌, ◌*◌, ◌/◌, ◌^◌, ◌<◌, ◌≤◌, Bool, cond, nat_le, nat_lt}
+use Rattle.std.specs.Prelude.{◌≡◌, ℕ, ◌+◌, ◌-◌, ◌*◌, ◌/◌, ◌<◌, ◌≤◌, Bool, cond, nat_le, nat_lt, ◌&&◌}
 use Rattle.lattice.specs.Coordinates.{Coordinates}
 use Rattle.sight_sweep.specs.Spans.{not_right}
+use Rattle.sight_sweep.specs.declared.edge.Columns.{Columns}
 use Rattle.sight_sweep.specs.declared.edge.Edge.{Edge}
+
+-- column x of the map is one of these
+abbrev pub is_between : Columns → ℕ → Bool
+is_between columns x = nat_le columns.first (20000 + x) && nat_lt (20000 + x) columns.past
 
 -- by which number the edge's row is cut
 abbrev pub bound_in : Edge → ℕ → ℕ
-bound_in e y = ((e.more + e.more_step * (2 * y + 1)) - (e.less + e.less_step * (2 * y + 1))) * e.scale / 4294967296
+bound_in e y = (e.base + e.up * (2 * y + 1) - e.down * (2 * y + 1)) * e.scale / 4294967296
 
 -- the column is left of the row
 abbrev pub is_kept : Edge → ℕ → ℕ → Bool
-is_kept e x y = cond e.from (nat_le (bound_in e y) x) (nat_lt x (bound_in e y))
+is_kept e x y = cond e.from (nat_le (bound_in e y) (20000 + x)) (nat_lt (20000 + x) (bound_in e y))
 
--- the numbers are so small that none overflows
+-- the numbers are so small that nothing overflows
 pub record IsSmall (e : Edge) : Type 0 where
-  pub more : e.more ≤ 4000000
-  pub more_step : e.more_step ≤ 20000
-  pub less : e.less ≤ 4000000
-  pub less_step : e.less_step ≤ 20000
+  pub base : e.base ≤ 10000000
+  pub up : e.up ≤ 192
+  pub down : e.down ≤ 192
   pub scale : e.scale ≤ 4294967296
+  pub above : (y : ℕ) → y < 96 → e.down * (2 * y + 1) ≤ e.base + e.up * (2 * y + 1)
 
 -- the columns that are left are those to whose centre the path from a over b doesn't turn right
 abbrev pub TellsTurns : Coordinates → Coordinates → Edge → Type 0

@@ -1,25 +1,32 @@
 // The line of two points, as it cuts rows: of each row it leaves the columns on one side of it.
+//
+// Columns are counted from `LEFT` columns before the map's first, so that no line's bound within the map's rows is negative.
 
-ghost use Rattle.std.specs.Prelude.{◌≡◌, ℕ, ◌<◌, ◌≤◌, ◌^◌, ◌*◌, ◌+◌, ◌&&◌};
-ghost use Rattle.sight_sweep.specs.Edges.{IsScale, IsSmall, TellsTurns, bound_in, is_kept};
-ghost use Rattle.sight_sweep.specs.Spans.{is_in_span};
+ghost use Rattle.std.specs.Prelude.{◌≡◌, ℕ, ◌+◌, ◌*◌, ◌<◌, ◌≤◌, ◌&&◌, nat_le, nat_lt};
+ghost use Rattle.sight_sweep.specs.Edges.{IsScale, IsSmall, TellsTurns, bound_in, is_between, is_kept};
 
 use crate::field::{across, down};
-use crate::paint::Span;
 use lattice::Point;
 
-// A line whose bound in a row is a quotient: what `more` and its steps are more than `less` and its steps, by `gap`. The
-// columns from the bound on are left, or those before it.
-//
-// The steps are as many as the row's middle is half cells from the top. To divide by `gap` is to multiply by `scale` and
-// to leave 32 bits out, so a row takes no division.
+/// How many columns before the map's first one columns are counted from.
+pub(crate) const LEFT: u64 = 20_000;
+
+// The columns from the first number to the second, which is left out, counted from `LEFT` before the map.
+#[derive(Clone, Copy)]
+pub(crate) struct Columns {
+    pub(crate) first: u64,
+    pub(crate) past: u64,
+}
+
+// A line whose bound in a row is a quotient. The dividend is `base`, and in each half cell from the top `up` more and `down`
+// less. To divide is to multiply by `scale` and to leave 32 bits out, so a row takes no division. The line leaves the
+// columns from the bound on, or those before it.
 #[derive(Clone, Copy)]
 pub(crate) struct Edge {
     from: bool,
-    more: u32,
-    more_step: u32,
-    less: u32,
-    less_step: u32,
+    base: u64,
+    up: u64,
+    down: u64,
     scale: u64,
 }
 
@@ -29,57 +36,66 @@ impl Edge {
         ensures small { IsSmall result }
         ensures turns { TellsTurns a b result }
     {
-        let (ax, ay) = (across(a) as u32, down(a) as u32);
-        let (bx, by) = (across(b) as u32, down(b) as u32);
+        let (ax, ay) = (across(a) as u64, down(a) as u64);
+        let (bx, by) = (across(b) as u64, down(b) as u64);
         if by < ay {
             let gap = 2 * (ay - by);
             Edge {
                 from: true,
-                more: ay * bx + by + gap - 1,
-                more_step: ax,
-                less: ax * by + ay,
-                less_step: bx,
-                scale: scale_of(gap),
+                base: LEFT * gap + ay * bx + by + gap - 1 - (ax * by + ay),
+                up: ax,
+                down: bx,
+                scale: scale_of(gap as u32),
             }
         } else if ay < by {
             let gap = 2 * (by - ay);
             Edge {
                 from: false,
-                more: ax * by + ay + gap,
-                more_step: bx,
-                less: ay * bx + by,
-                less_step: ax,
-                scale: scale_of(gap),
+                base: LEFT * gap + ax * by + ay + gap - (ay * bx + by),
+                up: bx,
+                down: ax,
+                scale: scale_of(gap as u32),
             }
         } else {
-            // All columns of a row are left, or none.
-            Edge {
-                from: false,
-                more: 96 * (ax * by + ay) + 96,
-                more_step: 96 * bx,
-                less: 96 * (ay * bx + by),
-                less_step: 96 * ax,
-                scale: 1 << 32,
-            }
+            Edge::level(ax, ay, bx)
         }
     }
 
-    // Of the columns of the span, those that are left of row `y`.
-    pub(crate) fn cut(&self, span: Span, y: u8) -> Span
+    // The line from column `ax` to column `bx` at the height `y`: it leaves all columns of a row, or none.
+    fn level(ax: u64, y: u64, bx: u64) -> Edge
+        requires { y ≤ 192 }
+        ensures small { IsSmall result }
+        ensures turns { (x v : ℕ) → x < 96 → v < 96 → is_kept result x v ≡ nat_le (y * bx + (2 * v + 1) * ax) (ax * y + bx * (2 * v + 1)) }
+    {
+        let up = if ax < bx { 96 } else { 0 };
+        let down = if bx < ax { 96 } else { 0 };
+        Edge {
+            from: false,
+            base: LEFT + 96 + down * y - up * y,
+            up,
+            down,
+            scale: 1 << 32,
+        }
+    }
+
+    // Of these columns those that are left of row `y`.
+    pub(crate) fn cut(&self, columns: Columns, y: u8) -> Columns
         requires row { y < 96 }
         requires small { IsSmall self.now }
-        ensures { (x : ℕ) → is_in_span result x ≡ (is_in_span span x && is_kept self.now x y) }
+        ensures left { (x : ℕ) → is_between result x ≡ (is_between columns x && is_kept self.now x y) }
+        ensures first { columns.first ≤ result.first }
+        ensures past { result.past ≤ columns.past }
     {
         let bound = self.bound(y);
         if self.from {
-            Span {
-                first: bound.max(span.first as u64).min(span.past as u64) as u8,
-                past: span.past,
+            Columns {
+                first: bound.max(columns.first),
+                past: columns.past,
             }
         } else {
-            Span {
-                first: span.first,
-                past: bound.min(span.past as u64) as u8,
+            Columns {
+                first: columns.first,
+                past: bound.min(columns.past),
             }
         }
     }
@@ -89,10 +105,8 @@ impl Edge {
         requires small { IsSmall self.now }
         ensures { result ≡ bound_in self.now y }
     {
-        let row = 2 * y as u32 + 1;
-        let more = self.more + self.more_step * row;
-        let less = self.less + self.less_step * row;
-        more.saturating_sub(less) as u64 * self.scale >> 32
+        let row = 2 * y as u64 + 1;
+        (self.base + self.up * row - self.down * row) * self.scale >> 32
     }
 }
 
