@@ -99,7 +99,7 @@ upper_above ax ay bx by gap row hax hay hby hbx hr lt e =
     omega (arith, crossed bx ax ay row hbx hax hay hr, mul-le-mul_left ax (let le : ay ≤ by = omega arith in le))
 
 pub lower_turns : (ax ay bx by gap scale x y : ℕ) → ax ≤ 192 → ay ≤ 192 → bx ≤ 192 → y < 96 → by < ay → gap ≡ 2 * (ay - by) → IsScale gap scale
-    → nat_le ((20000 * gap + ay * bx + by + gap - 1 - (ax * by + ay) + ax * (2 * y + 1) - bx * (2 * y + 1)) * scale / 4294967296) (20000 + x)
+    → nat_le ((20000 * gap + gap + (ay * bx + by) - (ax * by + ay + 1) + ax * (2 * y + 1) - bx * (2 * y + 1)) * scale / 4294967296) (20000 + x)
     ≡ nat_le (ay * bx + by * (2 * x + 1) + (2 * y + 1) * ax) (ax * by + bx * (2 * y + 1) + (2 * x + 1) * ay)
 lower_turns ax ay bx by gap scale x y hax hay hbx hy lt e is =
     same_le _ _ _ _
@@ -111,13 +111,13 @@ lower_turns ax ay bx by gap scale x y hax hay hbx hy lt e is =
     row : 2 * y + 1 ≤ 192
     row = omega arith
 
-    dividend : 20000 * gap + ay * bx + by + gap - 1 - (ax * by + ay) + ax * (2 * y + 1) - bx * (2 * y + 1) + (ax * by + ay + bx * (2 * y + 1)) + 1
+    dividend : 20000 * gap + gap + (ay * bx + by) - (ax * by + ay + 1) + ax * (2 * y + 1) - bx * (2 * y + 1) + (ax * by + ay + bx * (2 * y + 1)) + 1
         ≡ 20000 * gap + (ay * bx + by + ax * (2 * y + 1)) + gap
     dividend = omega (arith, lower_above ax ay bx by gap (2 * y + 1) hax hay hbx row lt e, lower_above ax ay bx by gap 0 hax hay hbx (omega arith) lt e)
 
 pub upper_turns : (ax ay bx by gap scale x y : ℕ) → ax ≤ 192 → ay ≤ 192 → by ≤ 192 → bx ≤ 192 → y < 96 → ay < by → gap ≡ 2 * (by - ay)
     → IsScale gap scale
-    → nat_lt (20000 + x) ((20000 * gap + ax * by + ay + gap - (ay * bx + by) + bx * (2 * y + 1) - ax * (2 * y + 1)) * scale / 4294967296)
+    → nat_lt (20000 + x) ((20000 * gap + gap + (ax * by + ay) - (ay * bx + by) + bx * (2 * y + 1) - ax * (2 * y + 1)) * scale / 4294967296)
     ≡ nat_le (ay * bx + by * (2 * x + 1) + (2 * y + 1) * ax) (ax * by + bx * (2 * y + 1) + (2 * x + 1) * ay)
 upper_turns ax ay bx by gap scale x y hax hay hby hbx hy lt e is =
     same_lt _ _ _ _
@@ -129,7 +129,7 @@ upper_turns ax ay bx by gap scale x y hax hay hby hbx hy lt e is =
     row : 2 * y + 1 ≤ 192
     row = omega arith
 
-    dividend : 20000 * gap + ax * by + ay + gap - (ay * bx + by) + bx * (2 * y + 1) - ax * (2 * y + 1) + (ay * bx + by + ax * (2 * y + 1))
+    dividend : 20000 * gap + gap + (ax * by + ay) - (ay * bx + by) + bx * (2 * y + 1) - ax * (2 * y + 1) + (ay * bx + by + ax * (2 * y + 1))
         ≡ 20000 * gap + (ax * by + ay + bx * (2 * y + 1)) + gap
     dividend =
         omega (arith, upper_above ax ay bx by gap (2 * y + 1) hax hay hby hbx row lt e, upper_above ax ay bx by gap 0 hax hay hby hbx (omega arith) lt e)
@@ -141,7 +141,7 @@ scale_small gap scale some is =
     elim (cases_lt 4294967296 scale) [ inl lt ↦ absurd (omega (arith, is.high, mul-le-mul_left gap (let le : 4294967297 ≤ scale = omega arith in le))) | inr ge ↦ ge ]
 
 pub lower_small : (ax ay bx by gap scale : ℕ) → ax ≤ 192 → ay ≤ 192 → bx ≤ 192 → by < ay → gap ≡ 2 * (ay - by) → IsScale gap scale
-    → IsSmall (record { from = true; base = 20000 * gap + ay * bx + by + gap - 1 - (ax * by + ay); up = ax; down = bx; scale = scale })
+    → IsSmall (record { from = true; base = 20000 * gap + gap + (ay * bx + by) - (ax * by + ay + 1); up = ax; down = bx; scale = scale })
 lower_small ax ay bx by gap scale hax hay hbx lt e is = record {
   base = omega (arith, mul-le-mul hay hbx);
   up = hax;
@@ -150,11 +150,11 @@ lower_small ax ay bx by gap scale hax hay hbx lt e is = record {
   above = λ y hy. above (2 * y + 1) (omega arith);
 }
   where
-    above : (row : ℕ) → row ≤ 192 → bx * row ≤ 20000 * gap + ay * bx + by + gap - 1 - (ax * by + ay) + ax * row
+    above : (row : ℕ) → row ≤ 192 → bx * row ≤ 20000 * gap + gap + (ay * bx + by) - (ax * by + ay + 1) + ax * row
     above row hr = omega (arith, lower_above ax ay bx by gap row hax hay hbx hr lt e)
 
 pub upper_small : (ax ay bx by gap scale : ℕ) → ax ≤ 192 → ay ≤ 192 → by ≤ 192 → bx ≤ 192 → ay < by → gap ≡ 2 * (by - ay) → IsScale gap scale
-    → IsSmall (record { from = false; base = 20000 * gap + ax * by + ay + gap - (ay * bx + by); up = bx; down = ax; scale = scale })
+    → IsSmall (record { from = false; base = 20000 * gap + gap + (ax * by + ay) - (ay * bx + by); up = bx; down = ax; scale = scale })
 upper_small ax ay bx by gap scale hax hay hby hbx lt e is = record {
   base = omega (arith, mul-le-mul hax hby);
   up = hbx;
@@ -163,7 +163,7 @@ upper_small ax ay bx by gap scale hax hay hby hbx lt e is = record {
   above = λ y hy. above (2 * y + 1) (omega arith);
 }
   where
-    above : (row : ℕ) → row ≤ 192 → ax * row ≤ 20000 * gap + ax * by + ay + gap - (ay * bx + by) + bx * row
+    above : (row : ℕ) → row ≤ 192 → ax * row ≤ 20000 * gap + gap + (ax * by + ay) - (ay * bx + by) + bx * row
     above row hr = omega (arith, upper_above ax ay bx by gap row hax hay hby hbx hr lt e)
 
 -- ---- level lines

@@ -38,26 +38,23 @@ impl Edge {
     {
         let (ax, ay) = (across(a) as u64, down(a) as u64);
         let (bx, by) = (across(b) as u64, down(b) as u64);
-        if by < ay {
-            let gap = 2 * (ay - by);
-            Edge {
-                from: true,
-                base: LEFT * gap + ay * bx + by + gap - 1 - (ax * by + ay),
-                up: ax,
-                down: bx,
-                scale: scale_of(gap as u32),
-            }
-        } else if ay < by {
-            let gap = 2 * (by - ay);
-            Edge {
-                from: false,
-                base: LEFT * gap + ax * by + ay + gap - (ay * bx + by),
-                up: bx,
-                down: ax,
-                scale: scale_of(gap as u32),
-            }
+        if ay == by {
+            return Edge::level(ax, ay, bx);
+        }
+        let gap = 2 * ay.abs_diff(by);
+        let from = by < ay;
+        let (left, right) = (ax * by + ay, ay * bx + by);
+        let (more, less, up, down) = if from {
+            (right, left + 1, ax, bx)
         } else {
-            Edge::level(ax, ay, bx)
+            (left, right, bx, ax)
+        };
+        Edge {
+            from,
+            base: LEFT * gap + gap + more - less,
+            up,
+            down,
+            scale: scale_of(gap as u32),
         }
     }
 
