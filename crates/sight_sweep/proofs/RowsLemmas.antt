@@ -7,7 +7,7 @@ use Rattle.lattice.specs.Turning.{are_apart, left_sum, right_sum, shadow_test}
 use Rattle.lattice.proofs.SideLemmas.{meet_is_shadow}
 use Rattle.topology.specs.Sight.{reach_test}
 use Rattle.sight_sweep.proofs.FarLemmas.{near_squares}
-use Rattle.sight_sweep.proofs.SpanLemmas.{quotient_below}
+use Rattle.sight_sweep.proofs.EdgeLemmas.{quotient_below}
 
 two_products : (a b : ℕ) → 2 * (a * b) ≤ a * a + b * b
 two_products a b = elim (cases_lt a b) [ inl lt ↦ by a b (b - a) (omega arith) | inr ge ↦ (let other = by b a (a - b) (omega arith) in omega (arith, other)) ]

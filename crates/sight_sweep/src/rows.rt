@@ -4,7 +4,7 @@ ghost use Rattle.std.specs.Prelude.{◌≡◌, ℕ, ◌+◌, ◌-◌, ◌*◌, �
 ghost use Rattle.lattice.specs.Coordinates.{centre_of, difference};
 ghost use Rattle.lattice.specs.Turning.{left_sum, right_sum, shadow_test};
 ghost use Rattle.topology.specs.Sight.{reach_test};
-ghost use Rattle.sight_sweep.specs.Spans.{IsAbove, IsBelow, IsRowOf};
+ghost use Rattle.sight_sweep.specs.Spans.{IsRowOf};
 
 use crate::field::{REACH, across, down};
 use crate::paint::Span;
@@ -31,24 +31,6 @@ pub(crate) fn shadow_rows(eye: Point, a: Point, b: Point, rows: u8) -> Span
         }
     } else {
         near
-    }
-}
-
-// Of these rows those that aren't beyond both ends of the wall from `a` to `b`: they stand together, below those that are
-// above the ends, and above those that are below.
-pub(crate) fn rows_beside(eye: Point, a: Point, b: Point, rows: Span) -> Span
-    ensures above { (y : ℕ) → rows.first ≤ y → y < result.first → IsAbove eye a b y }
-    ensures below { (y : ℕ) → result.past ≤ y → y < rows.past → IsBelow eye a b y }
-    ensures first { result.first ≤ rows.past }
-    ensures past { result.past ≤ rows.past }
-{
-    let top = down(eye).saturating_sub(1).min(down(a)).min(down(b)) as u16;
-    let low = (down(eye) as u16 + 1).max(down(a).max(down(b)) as u16);
-    let first = ((top + 1) / 2) as u8;
-    let past = (low / 2) as u8;
-    Span {
-        first: first.max(rows.first).min(rows.past),
-        past: past.max(rows.first).min(rows.past),
     }
 }
 
