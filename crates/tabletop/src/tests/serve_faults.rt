@@ -236,52 +236,39 @@ static ROWS: [Row<'static>; 20] = [
 // Outputs that take one byte at once, or nothing.
 static SLOW: [Evening<'static>; 4] = [
     Evening {
-        callers: [
-            Caller { takes: 1, ..FIRST },
-            Caller { takes: 1, ..SECOND },
-            Caller { takes: 1, ..THIRD },
-        ],
+        first: Caller { takes: 1, ..FIRST },
+        second: Caller { takes: 1, ..SECOND },
+        third: Caller { takes: 1, ..THIRD },
         out_takes: 1,
         ..PLAIN
     },
     Evening {
-        callers: [
-            Caller {
-                takes: 0,
-                gets: &[""],
-                ..FIRST
-            },
-            SECOND,
-            Caller {
-                gets: &[JOINED_AT_2, JOINED_AT_3],
-                ..THIRD
-            },
-        ],
+        first: Caller {
+            takes: 0,
+            gets: &[""],
+            ..FIRST
+        },
+        third: Caller {
+            gets: &[JOINED_AT_2, JOINED_AT_3],
+            ..THIRD
+        },
         output: "1 WriteFault\n2 Refused BadKey\n3 Left\n",
         ..PLAIN
     },
     Evening {
-        callers: [
-            FIRST,
-            Caller {
-                takes: 0,
-                gets: &[""],
-                ..SECOND
-            },
-            THIRD,
-        ],
+        second: Caller {
+            takes: 0,
+            gets: &[""],
+            ..SECOND
+        },
         ..PLAIN
     },
     Evening {
-        callers: [
-            FIRST,
-            SECOND,
-            Caller {
-                takes: 0,
-                gets: &[""],
-                ..THIRD
-            },
-        ],
+        third: Caller {
+            takes: 0,
+            gets: &[""],
+            ..THIRD
+        },
         output: "1 Left\n2 Refused BadKey\n3 WriteFault\n",
         ..PLAIN
     },
@@ -316,15 +303,24 @@ fn evening_of<'a>(rt: &impl Abort, row: &Row<'a>, number: usize) -> Evening<'a> 
         gets: row.third_gets,
         ..THIRD
     };
-    let callers = match row.caller {
-        1 => [befallen(rt, FIRST, row, number), SECOND, third],
-        2 => [FIRST, befallen(rt, SECOND, row, number), third],
-        _ => [FIRST, SECOND, befallen(rt, THIRD, row, number)],
-    };
-    Evening {
-        callers,
+    let evening = Evening {
+        third,
         output: row.output,
         ..PLAIN
+    };
+    match row.caller {
+        1 => Evening {
+            first: befallen(rt, FIRST, row, number),
+            ..evening
+        },
+        2 => Evening {
+            second: befallen(rt, SECOND, row, number),
+            ..evening
+        },
+        _ => Evening {
+            third: befallen(rt, THIRD, row, number),
+            ..evening
+        },
     }
 }
 

@@ -32,7 +32,9 @@ pub(super) struct Caller<'a> {
 #[derive(Clone, Copy)]
 pub(super) struct Evening<'a> {
     pub(super) words: &'a [&'a str],
-    pub(super) callers: [Caller<'a>; 3],
+    pub(super) first: Caller<'a>,
+    pub(super) second: Caller<'a>,
+    pub(super) third: Caller<'a>,
     pub(super) desk_fails: u64,
     pub(super) door_fails: u64,
     pub(super) start_fails: u64,
@@ -99,7 +101,9 @@ const UNSERVED: Caller<'static> = Caller {
 
 pub(super) const PLAIN: Evening<'static> = Evening {
     words: &["serve", "table.json", "7000", "3"],
-    callers: [FIRST, SECOND, THIRD],
+    first: FIRST,
+    second: SECOND,
+    third: THIRD,
     desk_fails: NONE,
     door_fails: NONE,
     start_fails: NONE,
@@ -112,7 +116,9 @@ pub(super) const PLAIN: Evening<'static> = Evening {
 };
 
 const UNOPENED: Evening<'static> = Evening {
-    callers: [UNSERVED, UNSERVED, UNSERVED],
+    first: UNSERVED,
+    second: UNSERVED,
+    third: UNSERVED,
     ..PLAIN
 };
 
@@ -127,7 +133,7 @@ static EVENINGS: [Evening<'static>; 8] = [
     // Up to the door's end.
     Evening {
         words: &["serve", "table.json", "7000", "1024"],
-        callers: [FIRST, UNSERVED, THIRD],
+        second: UNSERVED,
         start_fails: 1,
         output: "1 Left\n2 busy\n3 Left\n",
         ..PLAIN
@@ -158,13 +164,18 @@ static EVENINGS: [Evening<'static>; 8] = [
     },
     // The connections so far are told.
     Evening {
-        callers: [FIRST, UNSERVED, UNSERVED],
+        second: UNSERVED,
+        third: UNSERVED,
         door_fails: 2,
         status: 9,
         output: "1 Left\ntabletop: door fault\n",
         ..PLAIN
     },
 ];
+
+fn callers<'a>(evening: &Evening<'a>) -> [Caller<'a>; 3] {
+    [evening.first, evening.second, evening.third]
+}
 
 fn ends_of(rt: &impl Abort, alloc: Global, caller: &Caller<'_>) -> (MemSource, MemSink) {
     let text = text_of(rt, alloc, caller.sends);
@@ -175,8 +186,8 @@ fn ends_of(rt: &impl Abort, alloc: Global, caller: &Caller<'_>) -> (MemSource, M
 
 fn door_of(rt: &impl Abort, alloc: Global, evening: &Evening<'_>) -> MemDoor {
     let mut ends = Vec::new(alloc);
-    for caller in &evening.callers {
-        ends.push(ends_of(rt, alloc, caller)).expect(rt, "memory");
+    for caller in callers(evening) {
+        ends.push(ends_of(rt, alloc, &caller)).expect(rt, "memory");
     }
     MemDoor::new(alloc, ends, calls(rt, alloc, &[evening.door_fails]))
 }
@@ -199,10 +210,10 @@ fn is_sent(caller: &Caller<'_>, bytes: &[u8]) -> bool {
 // The connections that were served got what they are to get, in order.
 fn has_sent(rt: &impl Abort, door: &MemDoor, evening: &Evening<'_>) {
     let mut ended = door.ended().iter();
-    for caller in &evening.callers {
+    for caller in callers(evening) {
         if !caller.gets.is_empty() {
             let (_, output) = ended.next().expect(rt, "a session");
-            assert!(rt; is_sent(caller, output.bytes()), "{}", evening.output);
+            assert!(rt; is_sent(&caller, output.bytes()), "{}", evening.output);
         }
     }
     assert!(rt; ended.next().is_none(), "{}", evening.output);
