@@ -12,8 +12,8 @@ use std::thread::Threads;
 
 pub(super) type MemSitting<R> = Sitting<R, MemSource, MemSink>;
 
-/// What a session gave. The kit can't follow a call whose task names the trait of its work, as `ListSpawner`'s does, so this
-/// one names the session.
+/// What a session gave. The prover can't follow a task whose type names the trait of its work, as that of `ListSpawner`, so this
+/// one names what a session does.
 #[derive(Drop)]
 pub(super) struct Ran<R> {
     done: ((MemSource, MemSink), Sat),
