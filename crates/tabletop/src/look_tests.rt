@@ -10,20 +10,26 @@ use std::process::Abort;
 const CAVE: &[u8] =
     br#"{"format":1,"lights":{},"maps":[{"h":3,"mbl":[],"mode":"day","name":"cave","rows":["...","...","..."],"shown":true,"vbl":[[2,0,2,4]],"w":3}],"seats":[{"drawn":0,"fog":{},"key":"g","macros":{},"seed":"0000000000000000000000000000000000000000000000000000000000000000","tags":[]},{"drawn":0,"fog":{},"key":"a","macros":{},"seed":"0000000000000000000000000000000000000000000000000000000000000000","tags":["ann"]}],"sights":{"human":[10,0,2]},"tokens":[{"cell":[0,0],"id":"1:ann","layer":"token","light":null,"map":"cave","name":"Ann","own":[],"owners":[1],"props":[],"secret":[],"sight":"human","size":1,"visible":true}]}"#;
 
-fn seat(rt: &impl Abort, number: u8) -> SeatNo {
+pub(crate) fn seat(rt: &impl Abort, number: u8) -> SeatNo {
     SeatNo::new(number).expect(rt, "a seat")
 }
 
-fn opened(rt: &impl Abort, alloc: Global) -> Campaign<SweepEye> {
-    let campaign = Campaign::open(alloc, CAVE, SweepEye::new(alloc));
+pub(crate) fn opened(rt: &impl Abort, alloc: Global, text: &[u8]) -> Campaign<SweepEye> {
+    let campaign = Campaign::open(alloc, text, SweepEye::new(alloc));
     campaign.ok().expect(rt, "a campaign")
 }
 
-fn step(rt: &impl Abort, campaign: &mut Campaign<SweepEye>, entry: Entry) -> Answer {
+pub(crate) fn step(rt: &impl Abort, campaign: &mut Campaign<SweepEye>, entry: Entry) -> Answer {
     campaign.step(entry).ok().expect(rt, "memory")
 }
 
-fn join(rt: &impl Abort, alloc: Global, campaign: &mut Campaign<SweepEye>, number: u8, key: &[u8]) {
+pub(crate) fn join(
+    rt: &impl Abort,
+    alloc: Global,
+    campaign: &mut Campaign<SweepEye>,
+    number: u8,
+    key: &[u8],
+) {
     let entry = Entry::Join {
         seat: seat(rt, number),
         key: LineText::copy(alloc, key).expect(rt, "memory"),
@@ -114,7 +120,7 @@ fn join_both(rt: &impl Abort, alloc: Global, campaign: &mut Campaign<SweepEye>) 
 
 #[test]
 fn looks(rt: HostRuntime) {
-    let mut campaign = opened(&rt, rt.alloc());
+    let mut campaign = opened(&rt, rt.alloc(), CAVE);
     join_both(&rt, rt.alloc(), &mut campaign);
     for asked in &LINES {
         ask(&rt, rt.alloc(), &mut campaign, asked);

@@ -1,14 +1,18 @@
 //! Whole runs of the program over memory: what is printed, and the status. With ample memory none ends
 //! for want of it.
 
+mod at_once;
 mod campaigns;
 mod checks;
+mod cuts;
 mod drills;
 mod evening;
 mod faults;
 mod macros;
 mod plays;
 mod refusals;
+mod serve_faults;
+mod serves;
 mod stops;
 mod writing;
 
