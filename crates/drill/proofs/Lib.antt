@@ -4,3 +4,5 @@ pub mod Tokens
 pub mod Lines
 pub mod Walls
 pub mod Written
+pub mod Sizes
+pub mod Playable

@@ -19,6 +19,7 @@ ghost use Rattle.campaign_file.specs.Campaign.{campaign_of};
 ghost use Rattle.campaign_writing.specs.Canonical.{canonical, reopened};
 ghost use Rattle.drill.specs.Campaign.{drill_world};
 ghost use Rattle.drill.specs.Script.{drill_script};
+ghost use Rattle.drill.specs.Playable.{IsOfLines};
 
 use campaign::draw_world;
 use campaign_writing::write_campaign;
@@ -29,7 +30,7 @@ use script::script;
 use std::alloc::Global;
 
 /// The campaign text of the drill of a number, in one line without its end, and its script of so many lines, 5 to 10,000.
-/// A campaign opens with the text. `Memory` is want of memory.
+/// A campaign opens with the text, and each line of the script is of one of its seats. `Memory` is want of memory.
 #[tactic(auto, using(crate::proofs::Written::drill_is_written))]
 pub fn make_drill(alloc: Global, number: u32, lines: u32) -> Result<(LineText, LineText), Memory>
     requires least { 5 ≤ lines }
@@ -37,6 +38,7 @@ pub fn make_drill(alloc: Global, number: u32, lines: u32) -> Result<(LineText, L
     ensures campaign { IfOk result (λ drill. drill.0 ≡ canonical (drill_world number)) }
     ensures opens { IfOk result (λ drill. campaign_of drill.0 ≡ Ok (reopened (drill_world number))) }
     ensures script { IfOk result (λ drill. drill.1 ≡ drill_script number lines) }
+    ensures playable { IfOk result (λ drill. IsOfLines lines drill.1) }
 {
     let mut draws = Draws::new(number);
     let (world, cells) = draw_world(alloc, &mut draws)?;

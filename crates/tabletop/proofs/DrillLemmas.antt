@@ -1,6 +1,7 @@
 -- What a drill that was played comes to.
 use Rattle.std.proofs.Common.{◌≡◌, ℕ, ◌+◌, ◌≤◌, List, [], Some, refl, sym, ◌∙◌, ap, subst, arith}
-use Rattle.std.specs.Prelude.{Option, unwrap_or, Result, Ok, Err, IfOk, IfErr, length}
+use Rattle.std.specs.Prelude.{Option, unwrap_or, Result, Ok, Err, IfOk, length}
+use Rattle.names.specs.declared.memory.Memory.{Memory as WantOfMemory}
 use Rattle.campaign_json.specs.declared.faults.BadCampaign.{BadCampaign as Breach}
 use Rattle.world.specs.World.{World as Opened}
 use Rattle.campaign_file.specs.Campaign.{campaign_of}
@@ -15,16 +16,14 @@ use Rattle.command_looks.specs.Touched.{looks_of_opening}
 use Rattle.script_play.specs.declared.run.Played.{Played}
 use Rattle.script_play.specs.declared.run.Played.TheVariants as played
 use Rattle.script_play.specs.declared.tally.Tally.{Tally}
-use Rattle.script_play.specs.Script.{Script, NothingWaits, bad_line, too_large, script_of}
+use Rattle.script_play.specs.Script.{Script, NothingWaits, bad_line, done, too_large, script_of}
 use Rattle.script_play.specs.Played.{GoesOn, HasEntered, entries_since}
 use Rattle.script_play.specs.Counting.{Adds, lines_sent, looks_in, no_tally, refused_in}
 use Rattle.script_play.proofs.LineRuns.{world_on}
 use Rattle.drill.specs.Campaign.{drill_world}
 use Rattle.drill.specs.Script.{drill_script}
 use Rattle.tabletop.specs.declared.drilling.Summary.{Summary}
-use Rattle.tabletop.specs.declared.endings.Ended.{Ended}
-use Rattle.tabletop.specs.declared.endings.Ended.TheVariants.{Memory}
-use Rattle.tabletop.specs.Drilled.{Counts, Drills, HasStopped, Opens, drill_origin}
+use Rattle.tabletop.specs.Drilled.{Counts, Drills, Opens, drill_origin}
 use Rattle.tabletop.proofs.EndsLemmas.{opening_world_of, nothing_waits}
 
 -- ---- its campaign
@@ -93,24 +92,28 @@ module _ (script : List ℕ) (c new : Course) (opens : Opens c.origin c) where
   }
 
   -- its counts, unless memory ran out
-  pub counts_script : (answer : Played) (tally : Tally) (r : Result Summary Ended) → answer ≡ played.Done → GoesOn c new → HasEntered answer (script_of (world_of c) script) es → (answer ≡ played.Done → Adds no_tally tally c new)
+  pub counts_script : (answer : Played) (tally : Tally) (r : Result Summary WantOfMemory) → answer ≡ played.Done → GoesOn c new → HasEntered answer (script_of (world_of c) script) es → (answer ≡ played.Done → Adds no_tally tally c new)
       → IfOk r (λ s. s.tally ≡ tally) → IfOk r (λ s. s.seen ≡ seen_total (world_of new).scene) → IfOk r (λ s. s.looks ≡ new.looks) → IfOk r (λ s. Counts c.origin script s)
   counts_script answer tally (Ok s) is goes entered adds counted seen looks = has_counted tally s goes (subst (λ a. HasEntered a (script_of (world_of c) script) es) is entered) (adds is) counted seen looks
-  counts_script answer tally (Err stop) is goes entered adds counted seen looks = tt
+  counts_script answer tally (Err want) is goes entered adds counted seen looks = tt
 
-  pub bad_line_stops : (answer : Played) (number : ℕ) → answer ≡ played.BadLine number → HasEntered answer (script_of (world_of c) script) es → (script_of c.origin script).ending ≡ bad_line number
-  bad_line_stops answer number is entered =
-      let stopped : HasEntered (played.BadLine number) (script_of (world_of c) script) es = subst (λ a. HasEntered a (script_of (world_of c) script) es) is entered in
-      ap (λ (s : Script). s.ending) (sym as_played ∙ stopped)
+  pub done_there : (script_of c.origin script).ending ≡ done → (script_of (world_of c) script).ending ≡ done
+  done_there end = ap (λ (s : Script). s.ending) as_played ∙ end
 
-  pub too_large_stops : (answer : Played) → answer ≡ played.TooLarge → HasEntered answer (script_of (world_of c) script) es → (script_of c.origin script).ending ≡ too_large
-  too_large_stops answer is entered =
-      let stopped : HasEntered played.TooLarge (script_of (world_of c) script) es = subst (λ a. HasEntered a (script_of (world_of c) script) es) is entered in
-      ap (λ (s : Script). s.ending) (sym as_played ∙ stopped)
+-- ---- a script that ends as done
 
-pub memory_stops : (origin : World) (script : List ℕ) (r : Result Summary Ended) → IfErr r (λ stop. stop ≡ Memory) → IfErr r (λ stop. HasStopped stop origin script)
-memory_stops origin script (Ok s) h = tt
-memory_stops origin script (Err stop) h = subst (λ e. HasStopped e origin script) (sym h) tt
+module _ (script : Script) (entries : List Entry) (end : script.ending ≡ done) where
+  pub no_bad_line : (answer : Played) (number : ℕ) → HasEntered answer script entries → answer ≡ played.BadLine number → ⊥
+  no_bad_line answer number entered is =
+      let stopped : HasEntered (played.BadLine number) script entries = subst (λ a. HasEntered a script entries) is entered in
+      let e : done ≡ bad_line number = sym end ∙ ap (λ (s : Script). s.ending) stopped in
+      cc
+
+  pub no_too_large : (answer : Played) → HasEntered answer script entries → answer ≡ played.TooLarge → ⊥
+  no_too_large answer entered is =
+      let stopped : HasEntered played.TooLarge script entries = subst (λ a. HasEntered a script entries) is entered in
+      let e : done ≡ too_large = sym end ∙ ap (λ (s : Script). s.ending) stopped in
+      cc
 
 -- ---- the drill
 
@@ -119,10 +122,9 @@ module _ (n lines : ℕ) (c : Course) (script : List ℕ) (opens : Opens (drill_
   pub ready_drill : Opens c.origin c
   ready_drill = record { origin = refl; opening = opens.opening; history = opens.history; looks = opens.looks }
 
-  pub drills : (r : Result Summary Ended) → IfOk r (λ s. s.number ≡ n) → IfOk r (λ s. Counts c.origin script s) → IfOk r (λ s. Drills n lines s)
+  pub drills : (r : Result Summary WantOfMemory) → IfOk r (λ s. s.number ≡ n) → IfOk r (λ s. Counts c.origin script s) → IfOk r (λ s. Drills n lines s)
   drills (Ok s) number counts = record { number = number; counts = subst (λ t. Counts (drill_origin n) t s) is (subst (λ w. Counts w script s) opens.origin counts) }
-  drills (Err stop) number counts = tt
+  drills (Err want) number counts = tt
 
-  pub drill_stops : (r : Result Summary Ended) → IfErr r (λ stop. HasStopped stop c.origin script) → IfErr r (λ stop. HasStopped stop (drill_origin n) (drill_script n lines))
-  drill_stops (Ok s) stopped = tt
-  drill_stops (Err stop) stopped = subst (λ t. HasStopped stop (drill_origin n) t) is (subst (λ w. HasStopped stop w script) opens.origin stopped)
+  pub drill_is_done : (script_of (drill_origin n) script).ending ≡ done → (script_of c.origin script).ending ≡ done
+  drill_is_done end = ap (λ w. (script_of w script).ending) opens.origin ∙ end

@@ -34,8 +34,7 @@ use Rattle.tabletop.specs.declared.endings.Ended.TheVariants.{Done, Usage, BadCa
 use Rattle.tabletop.specs.Endings.{status_of, last_line, HasOwnLine}
 use Rattle.tabletop.specs.Ends.{PlaysOn, ScriptEnds, EndsByLine, end_line, PlayEnds, FollowsPlay, CheckEnds, NotFetched, FileEnds, JobEnds, HasEnded, IsToldAs, ended_by, unfetched, campaign_limit}
 use Rattle.tabletop.specs.Printing.{PrintsLine}
-use Rattle.drill.specs.Script.{drill_script}
-use Rattle.tabletop.specs.Drilled.{DrillEnds, drill_origin}
+use Rattle.tabletop.specs.Drilled.{DrillEnds}
 
 -- ---- a campaign that opens
 
@@ -230,8 +229,8 @@ check_less TooLarge text out after own p = absurd own
 check_less DoorFault text out after own p = absurd own
 
 drill_less : (ended : Ended) (n lines : ℕ) (out after : Option (List ℕ)) → HasOwnLine ended → DrillEnds ended n lines out after → DrillEnds Memory n lines out after
-drill_less (BadCampaign breach) n lines out after own h = absurd h.0
-drill_less (BadLine number) n lines out after own h = (tt, h.1)
+drill_less (BadCampaign breach) n lines out after own h = absurd h
+drill_less (BadLine number) n lines out after own h = absurd h
 drill_less Done n lines out after own h = absurd own
 drill_less Usage n lines out after own h = absurd own
 drill_less ReadFault n lines out after own h = absurd own
@@ -296,7 +295,7 @@ used_job : (D S : Type 0) (job : Option Asked) (texts : List ℕ → Option (Lis
 used_job D S None texts script left out after h = refl
 used_job D S (Some (Play file end)) texts script left out after h = absurd (used_file D (λ text. PlayEnds S end Usage text script left out after) (texts file) out after (λ text. used_play S end text script left out after) h)
 used_job D S (Some (Check file)) texts script left out after h = absurd (used_file D (λ text. CheckEnds Usage text out after) (texts file) out after (λ text p. p.2) h)
-used_job D S (Some (Drill number lines)) texts script left out after h = absurd h.0
+used_job D S (Some (Drill number lines)) texts script left out after h = absurd h
 used_job D S (Some (Serve file port count end)) texts script left out after h = absurd h
 
 pub usage_if : (status : ℕ) (job : Option Asked) (texts : List ℕ → Option (List ℕ)) (script left out after : Option (List ℕ)) (D S OutFailed : Type 0) → HasEnded status job texts script left out after D S OutFailed → status ≡ 2 → job ≡ None
@@ -444,20 +443,20 @@ check_completes status job texts script left out after D S OutFailed file campai
     (check_done h.ended campaign world out h.before_line is (λ e. no_read (h.status_is ∙ e)) (λ e. no_write (h.status_is ∙ e)))
     (subst (λ j. JobEnds D S h.ended j texts script left out h.before_line) j h.ends))
 
--- a drill whose script ends as done
-drill_done : (ended : Ended) (n lines : ℕ) (out after : Option (List ℕ)) → (script_of (drill_origin n) (drill_script n lines)).ending ≡ done → ¬ (status_of ended ≡ 5) → DrillEnds ended n lines out after → DoneOrMemory (status_of ended)
-drill_done Done n lines out after script no_write h = inl refl
-drill_done Memory n lines out after script no_write h = inr refl
-drill_done WriteFault n lines out after script no_write h = absurd (no_write refl)
-drill_done (BadLine number) n lines out after script no_write h = let z : done ≡ bad_line number = sym script ∙ h.0 in cc
-drill_done TooLarge n lines out after script no_write h = let z : done ≡ too_large = sym script ∙ h.0 in cc
-drill_done Usage n lines out after script no_write h = absurd h.0
-drill_done (BadCampaign breach) n lines out after script no_write h = absurd h.0
-drill_done ReadFault n lines out after script no_write h = absurd h.0
-drill_done DoorFault n lines out after script no_write h = absurd h.0
+-- a drill
+drill_done : (ended : Ended) (n lines : ℕ) (out after : Option (List ℕ)) → ¬ (status_of ended ≡ 5) → DrillEnds ended n lines out after → DoneOrMemory (status_of ended)
+drill_done Done n lines out after no_write h = inl refl
+drill_done Memory n lines out after no_write h = inr refl
+drill_done WriteFault n lines out after no_write h = absurd (no_write refl)
+drill_done (BadLine number) n lines out after no_write h = absurd h
+drill_done TooLarge n lines out after no_write h = absurd h
+drill_done Usage n lines out after no_write h = absurd h
+drill_done (BadCampaign breach) n lines out after no_write h = absurd h
+drill_done ReadFault n lines out after no_write h = absurd h
+drill_done DoorFault n lines out after no_write h = absurd h
 
-pub drill_completes : (status : ℕ) (job : Option Asked) (texts : List ℕ → Option (List ℕ)) (script left out after : Option (List ℕ)) (D S OutFailed : Type 0) (number lines : ℕ) → HasEnded status job texts script left out after D S OutFailed → job ≡ Some (Drill number lines) → (script_of (drill_origin number) (drill_script number lines)).ending ≡ done → ¬ (status ≡ 5) → DoneOrMemory status
-drill_completes status job texts script left out after D S OutFailed number lines h j ends no_write =
+pub drill_completes : (status : ℕ) (job : Option Asked) (texts : List ℕ → Option (List ℕ)) (script left out after : Option (List ℕ)) (D S OutFailed : Type 0) (number lines : ℕ) → HasEnded status job texts script left out after D S OutFailed → job ≡ Some (Drill number lines) → ¬ (status ≡ 5) → DoneOrMemory status
+drill_completes status job texts script left out after D S OutFailed number lines h j no_write =
     subst DoneOrMemory (sym h.status_is)
-    (drill_done h.ended number lines out h.before_line ends (λ e. no_write (h.status_is ∙ e))
+    (drill_done h.ended number lines out h.before_line (λ e. no_write (h.status_is ∙ e))
     (subst (λ j. JobEnds D S h.ended j texts script left out h.before_line) j h.ends))

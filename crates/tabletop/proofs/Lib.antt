@@ -1,4 +1,5 @@
 pub mod EndsLemmas
 mod Services
 mod ServeLemmas
+mod DrillScripts
 pub mod DrillLemmas

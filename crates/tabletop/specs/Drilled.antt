@@ -7,13 +7,13 @@ use Rattle.campaign_law.specs.Worlds.{opening_world}
 use Rattle.campaign_law.specs.Law.{Course, IsOpening, bytes_of}
 use Rattle.campaign_core.specs.Totals.{seen_total}
 use Rattle.command_looks.specs.Touched.{looks_of_opening}
-use Rattle.script_play.specs.Script.{done, bad_line, too_large, script_of}
+use Rattle.script_play.specs.Script.{done, script_of}
 use Rattle.script_play.specs.Counting.{lines_in, lines_sent, looks_in, refused_in}
 use Rattle.drill.specs.Campaign.{drill_world}
 use Rattle.drill.specs.Script.{drill_script}
 use Rattle.tabletop.specs.declared.drilling.Summary.{Summary}
 use Rattle.tabletop.specs.declared.endings.Ended.{Ended}
-use Rattle.tabletop.specs.declared.endings.Ended.TheVariants.{Done, WriteFault, Memory, BadLine, TooLarge}
+use Rattle.tabletop.specs.declared.endings.Ended.TheVariants.{Done, WriteFault, Memory}
 use Rattle.tabletop.specs.Printing.{PrintsLine}
 
 -- the world that the campaign of the drill of number n opens with
@@ -48,13 +48,6 @@ pub record Drills (n count : ℕ) (s : Summary) : Type 0 where
   pub number : s.number ≡ n
   pub counts : Counts (drill_origin n) (drill_script n count) s
 
--- a script that wasn't played to its end
-abbrev pub HasStopped : Ended → World → List ℕ → Type 0
-HasStopped Memory origin script = Unit {0}
-HasStopped (BadLine number) origin script = (script_of origin script).ending ≡ bad_line number
-HasStopped TooLarge origin script = (script_of origin script).ending ≡ too_large
-HasStopped ended origin script = ⊥
-
 -- a campaign was opened with this world, and has no entries
 pub record Opens (world : World) (c : Course) : Type 0 where
   pub origin : c.origin ≡ world
@@ -68,7 +61,9 @@ pub record PrintsSummary (ended : Ended) (n lines : ℕ) (out after : Option (Li
   pub drills : Drills n lines summary
   pub printed : PrintsLine ended (summary_line summary) out after
 
+-- its script was played to its end, unless memory ran out
 abbrev pub DrillEnds : Ended → ℕ → ℕ → (out after : Option (List ℕ)) → Type 0
 DrillEnds Done n lines out after = PrintsSummary Done n lines out after
 DrillEnds WriteFault n lines out after = PrintsSummary WriteFault n lines out after
-DrillEnds ended n lines out after = HasStopped ended (drill_origin n) (drill_script n lines) × (after ≡ out)
+DrillEnds Memory n lines out after = after ≡ out
+DrillEnds ended n lines out after = ⊥

@@ -1,14 +1,14 @@
 //! `drill N LINES`: a drill is made and played, and what came of it is counted.
-ghost use Rattle.std.specs.Prelude.{◌≡◌, ◌≤◌, string_bytes, IfOk, IfErr};
+ghost use Rattle.std.specs.Prelude.{◌≡◌, ◌≤◌, ℕ, string_bytes, IfOk};
 ghost use Rattle.campaign_core.specs.Totals.{seen_total};
 ghost use Rattle.campaign_law.specs.Law.{world_of};
 ghost use Rattle.drill.specs.Script.{drill_script};
 ghost use Rattle.line_io.specs.Counts.{CountRose};
 ghost use Rattle.script_play.specs.Counting.{Adds, no_tally};
 ghost use Rattle.script_play.specs.Played.{GoesOn, HasEntered, entries_since};
-ghost use Rattle.script_play.specs.Script.{NothingWaits, script_of};
+ghost use Rattle.script_play.specs.Script.{NothingWaits, done, script_of};
 ghost use Rattle.tabletop.specs.Printing.{PrintsLine};
-ghost use Rattle.tabletop.specs.Drilled.{Counts, DrillEnds, Drills, HasStopped, Opens, drill_origin, counts_found as counts_found_lem, counts_sent as counts_sent_lem, summary_line as summary_line_lem};
+ghost use Rattle.tabletop.specs.Drilled.{Counts, DrillEnds, Drills, Opens, drill_origin, counts_found as counts_found_lem, counts_sent as counts_sent_lem, summary_line as summary_line_lem};
 
 use crate::endings::Ended;
 use crate::printing::print_line;
@@ -48,7 +48,7 @@ pub(crate) fn drill<O: Sink>(alloc: Global, number: u32, lines: u32, out: &mut O
 {
     match summary_of(alloc, number, lines, SweepEye::new(alloc)) {
         Ok(summary) => print_summary(alloc, &summary, out),
-        Err(stop) => stop,
+        Err(Memory) => Ended::Memory,
     }
 }
 
@@ -58,20 +58,17 @@ pub(crate) fn summary_of<E: Eye + Drop>(
     number: u32,
     lines: u32,
     eye: E,
-) -> Result<Summary, Ended>
+) -> Result<Summary, Memory>
     requires least { 5 ≤ lines }
     requires most { lines ≤ 10000 }
     requires eye { E.looks_made eye ≡ 0 }
-    ensures drills { IfOk result (λ summary. Drills number lines summary) }
-    ensures stopped { IfErr result (λ stop. HasStopped stop (drill_origin number) (drill_script number lines)) }
+    ensures { IfOk result (λ summary. Drills number lines summary) }
 {
-    match open_drill(alloc, number, lines, eye) {
-        Ok((mut campaign, script)) => play_drill(alloc, number, &mut campaign, script),
-        Err(_) => Err(Ended::Memory),
-    }
+    let (mut campaign, script) = open_drill(alloc, number, lines, eye)?;
+    play_drill(alloc, number, &mut campaign, script)
 }
 
-// The campaign that the drill opens, and its script.
+// The campaign that the drill opens, and its script, which is played to its end there.
 fn open_drill<E: Eye + Drop>(
     alloc: Global,
     number: u32,
@@ -83,6 +80,7 @@ fn open_drill<E: Eye + Drop>(
     requires eye { E.looks_made eye ≡ 0 }
     ensures campaign { IfOk result (λ drill. Opens (drill_origin number) drill.0) }
     ensures script { IfOk result (λ drill. drill.1 ≡ drill_script number lines) }
+    ensures done { IfOk result (λ drill. (script_of (drill_origin number) drill.1).ending ≡ done) }
 {
     let (text, script) = make_drill(alloc, number, lines)?;
     match Campaign::open(alloc, text.bytes(), eye) {
@@ -92,38 +90,41 @@ fn open_drill<E: Eye + Drop>(
     }
 }
 
-// Plays a script on a campaign that was just opened, and counts what came of it.
+// Plays a script on a campaign that was just opened, where it is played to its end, and counts what came of it.
 fn play_drill<E: Eye + Drop>(
     alloc: Global,
     number: u32,
     campaign: &mut Campaign<E>,
     script: LineText,
-) -> Result<Summary, Ended>
-    requires { Opens campaign.old.origin campaign.old }
+) -> Result<Summary, Memory>
+    requires opens { Opens campaign.old.origin campaign.old }
+    requires done { (script_of campaign.old.origin script).ending ≡ done }
     ensures number { IfOk result (λ summary. summary.number ≡ number) }
     ensures counts { IfOk result (λ summary. Counts campaign.old.origin script summary) }
-    ensures stopped { IfErr result (λ stop. HasStopped stop campaign.old.origin script) }
 {
     let (played, tally) = play_script(alloc, campaign, script);
     match played {
         Played::Done => counted(number, campaign, tally),
-        Played::BadLine(line) => Err(Ended::BadLine(line)),
-        Played::TooLarge => Err(Ended::TooLarge),
-        Played::Memory => Err(Ended::Memory),
-        Played::ReadFault | Played::WriteFault => unreachable!(),
+        Played::Memory => Err(Memory),
+        Played::BadLine(_) | Played::TooLarge | Played::ReadFault | Played::WriteFault => {
+            unreachable!()
+        }
     }
 }
 
-// Plays a script that is in memory, and keeps none of what is sent, so that neither fails.
+// Plays a script that is in memory and is played to its end, and keeps none of what is sent, so that neither fails.
 fn play_script<E: Eye + Drop>(
     alloc: Global,
     campaign: &mut Campaign<E>,
     script: LineText,
 ) -> (Played, Tally)
-    requires { NothingWaits (world_of campaign.old) }
+    requires ready { NothingWaits (world_of campaign.old) }
+    requires done { (script_of (world_of campaign.old) script).ending ≡ done }
     ensures campaign { GoesOn campaign.old campaign.new }
     ensures entered { HasEntered result.0 (script_of (world_of campaign.old) script) (entries_since campaign.old campaign.new) }
     ensures counted { result.0 ≡ Played.Done → Adds no_tally result.1 campaign.old campaign.new }
+    ensures no_bad_line { (number : ℕ) → result.0 ≡ Played.BadLine number → ⊥ }
+    ensures no_too_large { result.0 ≡ Played.TooLarge → ⊥ }
     ensures no_read_fault { result.0 ≡ Played.ReadFault → ⊥ }
     ensures no_write_fault { result.0 ≡ Played.WriteFault → ⊥ }
 {
@@ -136,12 +137,11 @@ fn counted<E: Eye + Drop>(
     number: u32,
     campaign: &Campaign<E>,
     tally: Tally,
-) -> Result<Summary, Ended>
+) -> Result<Summary, Memory>
     ensures number { IfOk result (λ summary. summary.number ≡ number) }
     ensures tally { IfOk result (λ summary. summary.tally ≡ tally) }
     ensures seen { IfOk result (λ summary. summary.seen ≡ seen_total (world_of campaign.now).scene) }
     ensures looks { IfOk result (λ summary. summary.looks ≡ campaign.now.looks) }
-    ensures stopped { IfErr result (λ stop. stop ≡ Ended.Memory) }
 {
     match campaign.seen_total() {
         Ok(seen) => Ok(Summary {
@@ -151,7 +151,7 @@ fn counted<E: Eye + Drop>(
             looks: campaign.looks(),
             tested: campaign.tested(),
         }),
-        Err(_) => Err(Ended::Memory),
+        Err(_) => Err(Memory),
     }
 }
 

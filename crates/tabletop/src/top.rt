@@ -8,8 +8,6 @@ ghost use Rattle.campaign_core.specs.Opening.{world_of_text};
 ghost use Rattle.script_play.specs.Script.{script_of, done};
 ghost use Rattle.command_words.specs.Words.{Play, Check, Drill, job_of};
 ghost use Rattle.tabletop.specs.Jobs.{job_in};
-ghost use Rattle.drill.specs.Script.{drill_script};
-ghost use Rattle.tabletop.specs.Drilled.{drill_origin};
 ghost use Rattle.tabletop.specs.Ends.{HasEnded, JobEnds, campaign_limit};
 
 use crate::checking::check_file;
@@ -53,8 +51,7 @@ pub fn tabletop<D: Desk, S: Source, O: Sink>(
         → length campaign ≤ campaign_limit → campaign_of campaign ≡ Ok world
         → ¬ CountRose (D.faults_of desk.old) (D.faults_of desk.new) → ¬ CountRose (S.faults_of script.old) (S.faults_of script.new) → ¬ CountRose (O.faults_of out.old) (O.faults_of out.new)
         → (result ≡ 0) ⊎ (result ≡ 6) }
-    ensures drilled { (number lines : ℕ) → job_in (map string_bytes words.now) ≡ Some (Drill number lines) → (script_of (drill_origin number) (drill_script number lines)).ending ≡ done
-        → ¬ CountRose (O.faults_of out.old) (O.faults_of out.new)
+    ensures drilled { (number lines : ℕ) → job_in (map string_bytes words.now) ≡ Some (Drill number lines) → ¬ CountRose (O.faults_of out.old) (O.faults_of out.new)
         → (result ≡ 0) ⊎ (result ≡ 6) }
 {
     let ended = job(alloc, words, desk, script, out);

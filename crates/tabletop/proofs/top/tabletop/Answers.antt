@@ -43,6 +43,6 @@ returns-clause-checked g c =
 pub returns-clause-drilled : goal.returns-clause-drilled
 returns-clause-drilled g c =
     let h = run_ended _ _ c.status_of.result c.job-ended.result c.print_last_line.result _ _ _ _ _ _ _ _ _ _ c.status_of.ensures c.print_last_line.ensures.ended c.job-ended.ensures.ends c.job-ended.ensures.out_count c.print_last_line.ensures.line in
-    λ number lines job ends no_out.
-    drill_completes c.status_of.result _ (g.D.Desk.text_of c.args.desk.now) _ _ _ _ _ _ _ number lines h job ends
+    λ number lines job no_out.
+    drill_completes c.status_of.result _ (g.D.Desk.text_of c.args.desk.now) _ _ _ _ _ _ _ number lines h job
     (λ e. no_out (count_before _ _ _ c.print_last_line.ensures.count (c.job-ended.ensures.write_fault (write_fault_of c.status_of.result c.job-ended.result c.print_last_line.result c.status_of.ensures c.print_last_line.ensures.ended e))))
