@@ -102,17 +102,21 @@ module _ (script : List ℕ) (c new : Course) (opens : Opens c.origin c) where
 
 -- ---- a script that ends as done
 
-module _ (script : Script) (entries : List Entry) (end : script.ending ≡ done) where
-  pub no_bad_line : (answer : Played) (number : ℕ) → HasEntered answer script entries → answer ≡ played.BadLine number → ⊥
+-- of a text that is this script
+module _ (script : List ℕ) (c new : Course) (text : List ℕ) (same : text ≡ script) (end : (script_of (world_of c) script).ending ≡ done) where
+  ends_so : (script_of (world_of c) text).ending ≡ done
+  ends_so = ap (λ t. let s : Script = script_of (world_of c) t in s.ending) same ∙ end
+
+  pub no_bad_line : (answer : Played) (number : ℕ) → HasEntered answer (script_of (world_of c) text) (entries_since c new) → answer ≡ played.BadLine number → ⊥
   no_bad_line answer number entered is =
-      let stopped : HasEntered (played.BadLine number) script entries = subst (λ a. HasEntered a script entries) is entered in
-      let e : done ≡ bad_line number = sym end ∙ ap (λ (s : Script). s.ending) stopped in
+      let stopped : HasEntered (played.BadLine number) (script_of (world_of c) text) (entries_since c new) = subst (λ a. HasEntered a (script_of (world_of c) text) (entries_since c new)) is entered in
+      let e : done ≡ bad_line number = sym ends_so ∙ ap (λ (s : Script). s.ending) stopped in
       cc
 
-  pub no_too_large : (answer : Played) → HasEntered answer script entries → answer ≡ played.TooLarge → ⊥
+  pub no_too_large : (answer : Played) → HasEntered answer (script_of (world_of c) text) (entries_since c new) → answer ≡ played.TooLarge → ⊥
   no_too_large answer entered is =
-      let stopped : HasEntered played.TooLarge script entries = subst (λ a. HasEntered a script entries) is entered in
-      let e : done ≡ too_large = sym end ∙ ap (λ (s : Script). s.ending) stopped in
+      let stopped : HasEntered played.TooLarge (script_of (world_of c) text) (entries_since c new) = subst (λ a. HasEntered a (script_of (world_of c) text) (entries_since c new)) is entered in
+      let e : done ≡ too_large = sym ends_so ∙ ap (λ (s : Script). s.ending) stopped in
       cc
 
 -- ---- the drill
