@@ -51,6 +51,11 @@ pub limits_if_ok : {E : Type 0} (result : Result (Unit {0}) E) (name value : Lis
 limits_if_ok (Ok x) name value old now new same room limits short ok err = rw ok (limits_after name value old now same room limits short)
 limits_if_ok (Err x) name value old now new same room limits short ok err = rw err limits
 
+-- no name is there twice where none is
+pub none_distinct : let none : List Property = [] in IsDistinct bytes_eq (keys_of none)
+unfolding IsDistinct
+none_distinct = tt
+
 -- ---- properties set one after another
 
 some_same : (p q : Property) → Some p ≡ Some q → p ≡ q

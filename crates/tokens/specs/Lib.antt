@@ -1,3 +1,4 @@
 pub mod Owners
 pub mod Properties
+pub mod Shared
 pub mod Tokens

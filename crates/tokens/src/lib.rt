@@ -10,6 +10,7 @@ mod prop_name;
 mod props;
 mod token;
 mod token_table;
+mod values;
 
 pub use owners::Owners;
 pub use props::{PropFault, Props};

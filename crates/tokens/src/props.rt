@@ -1,20 +1,18 @@
 //! The properties of a token, of one class.
-ghost use Rattle.std.specs.Prelude.{◌≡◌, ◌<◌, ◌≤◌, ◌↔◌, true, [], length, slice_get, Some, None, Err, IfOk, OnOk, OnErr, IfSome, IfNone};
+ghost use Rattle.std.specs.Prelude.{◌≡◌, ◌<◌, ◌≤◌, ◌↔◌, false, true, [], length, slice_get, Some, Err, IfOk, OnOk, OnErr};
 ghost use Rattle.std.specs.Option.{option_copied};
 ghost use Rattle.std.specs.List.{IsDistinct};
 ghost use Rattle.std.specs.Map.{keys_of};
 ghost use Rattle.std.specs.Str.{bytes_eq};
 ghost use Rattle.tokens.specs.Properties.{is_full_for, name_limit, value_limit, value_of, with_value};
+ghost use Rattle.tokens.specs.Shared.{values_in};
 ghost use Rattle.tokens.specs.declared.props.PropFault.TheVariants.{PropertyLimit};
 
-use crate::prop_name::PropName;
-use indexmap::IndexMap;
+use crate::values::Values;
 use names::{Memory, Tag, Text};
 use std::alloc::Global;
 use std::marker::Model;
-
-/// How many names a class of properties has at most.
-const NAME_LIMIT: usize = 64;
+use std::sync::Arc;
 
 /// Why a property isn't set.
 #[derive(Clone, Copy, Debug, PartialEq, Eq)]
@@ -27,20 +25,23 @@ pub enum PropFault {
 
 /// Values under names, in the order in which the names were first set: at most 64 names, and values
 /// of at most 200 bytes.
+///
+/// A copy shares its values with the original, until one of them is set.
 #[derive(Drop)]
 pub struct Props {
-    values: IndexMap<PropName, Text>,
+    alloc: Global,
+    /// None where no name was ever set.
+    shared: Option<Arc<Values>>,
 }
 
 impl Model for Props {
     ghost use Rattle.std.specs.Prelude.{List};
-    ghost use Rattle.tokens.specs.Properties.{AreInLimits, Property};
+    ghost use Rattle.tokens.specs.Properties.{Property};
+    ghost use Rattle.tokens.specs.Shared.{values_in};
 
     ghost Value = { List Property };
 
-    ghost view = { λ p. p.values.entries };
-
-    ghost invariant = { λ p. AreInLimits p.values.entries };
+    ghost view = { λ p. values_in p.shared };
 }
 
 impl Props {
@@ -49,7 +50,8 @@ impl Props {
         ensures { result ≡ [] }
     {
         Props {
-            values: IndexMap::new(alloc),
+            alloc,
+            shared: None,
         }
     }
 
@@ -59,7 +61,10 @@ impl Props {
         ensures limit { result ≤ name_limit }
         ensures distinct { IsDistinct bytes_eq (keys_of self.now) }
     {
-        self.values.len()
+        match &self.shared {
+            Some(values) => values.len(),
+            None => 0,
+        }
     }
 
     /// The name that was first set at that place, and its value.
@@ -68,21 +73,30 @@ impl Props {
         ensures entry { slice_get self.now place ≡ Some (result.0, result.1.now) }
         ensures limit { length result.1.now ≤ value_limit }
     {
-        value_at(&self.values, place)
+        match &self.shared {
+            Some(values) => values.at(place),
+            None => unreachable!(),
+        }
     }
 
     /// The value under a name; `None` exactly where the name isn't there.
     pub fn find(&self, name: Tag) -> Option<&Text>
         ensures value { option_copied result ≡ value_of name self.now }
     {
-        self.values.get(&PropName { tag: name })
+        match &self.shared {
+            Some(values) => values.find(name),
+            None => None,
+        }
     }
 
     /// Whether the name is new and there are 64 names, so that it can't be set.
     pub fn is_full_for(&self, name: Tag) -> bool
         ensures { result ≡ is_full_for name self.now }
     {
-        self.find(name).is_none() && self.values.len() >= NAME_LIMIT
+        match &self.shared {
+            Some(values) => values.is_full_for(name),
+            None => false,
+        }
     }
 
     /// Sets a name to a value of at most 200 bytes. A name that is there keeps its place, and a new name goes last;
@@ -99,9 +113,44 @@ impl Props {
         if self.is_full_for(name) {
             return Err(PropFault::PropertyLimit);
         }
-        match put_value(&mut self.values, name, value) {
+        if let Some(shared) = &mut self.shared {
+            if let Some(values) = Arc::get_mut(shared) {
+                return values.set(name, value);
+            }
+        }
+        match self.set_apart(name, value) {
             Ok(()) => Ok(()),
             Err(Memory) => Err(PropFault::Memory),
+        }
+    }
+
+    /// Sets a name, for which there is room, in values that nothing else shares.
+    fn set_apart(&mut self, name: Tag, value: Text) -> Result<(), Memory>
+        requires short { length value ≤ value_limit }
+        requires room { is_full_for name self.old ≡ false }
+        ensures ok { OnOk result (self.new ≡ with_value name value self.old) }
+        ensures unchanged { OnErr result (self.new ≡ self.old) }
+    {
+        let mut values = self.copied()?;
+        if values.set(name, value).is_err() {
+            return Err(Memory);
+        }
+        match Arc::new(self.alloc, values) {
+            Ok(shared) => {
+                self.shared = Some(shared);
+                Ok(())
+            }
+            Err(_) => Err(Memory),
+        }
+    }
+
+    /// Equal values that nothing else shares.
+    fn copied(&self) -> Result<Values, Memory>
+        ensures { IfOk result (λ values. values ≡ self.now) }
+    {
+        match &self.shared {
+            Some(values) => values.copy(),
+            None => Ok(Values::new(self.alloc)),
         }
     }
 
@@ -109,45 +158,26 @@ impl Props {
     pub fn copy(&self) -> Result<Props, Memory>
         ensures { IfOk result (λ p. p ≡ self.now) }
     {
-        let values = copy_values(&self.values)?;
-        Ok(Props { values })
+        Ok(Props {
+            alloc: self.alloc,
+            shared: share(&self.shared)?,
+        })
     }
 
     pub(crate) fn allocator(&self) -> Global {
-        *self.values.allocator()
+        self.alloc
     }
 }
 
-/// Puts a value under a name.
-fn put_value(values: &mut IndexMap<PropName, Text>, name: Tag, value: Text) -> Result<(), Memory>
-    ensures entries { OnOk result (values.new.entries ≡ with_value name value values.old.entries) }
-    ensures unchanged { OnErr result (values.new.entries ≡ values.old.entries) }
+/// The same values once more, shared.
+fn share(shared: &Option<Arc<Values>>) -> Result<Option<Arc<Values>>, Memory>
+    ensures { IfOk result (λ again. values_in again ≡ values_in shared.now) }
 {
-    match values.insert(PropName { tag: name }, value) {
-        Ok(_) => Ok(()),
-        Err(_) => Err(Memory),
-    }
-}
-
-/// The same values under the same names, in the same order.
-fn copy_values(values: &IndexMap<PropName, Text>) -> Result<IndexMap<PropName, Text>, Memory>
-    ensures { IfOk result (λ copy. copy.entries ≡ values.now.entries) }
-{
-    let alloc = *values.allocator();
-    let mut copy = IndexMap::new(alloc);
-    for place in 0..values.len() {
-        let (name, value) = value_at(values, place);
-        put_value(&mut copy, name, Text::copy(alloc, value.text())?)?;
-    }
-    Ok(copy)
-}
-
-fn value_at(values: &IndexMap<PropName, Text>, place: usize) -> (Tag, &Text)
-    requires { place < length values.now.entries }
-    ensures { slice_get values.now.entries place ≡ Some (result.0, result.1.now) }
-{
-    match values.get_index(place) {
-        Some((name, value)) => (name.tag, value),
-        None => unreachable!(),
+    match shared {
+        Some(values) => match Arc::try_clone(values) {
+            Ok(values) => Ok(Some(values)),
+            Err(_) => Err(Memory),
+        },
+        None => Ok(None),
     }
 }

@@ -244,11 +244,21 @@ fn is_before(id: TokenId, other: TokenId) -> bool
 fn copy_tokens(tokens: &Vec<Token>) -> Result<Vec<Token>, Memory>
     ensures { IfOk result (λ copy. copy.items ≡ tokens.now.items) }
 {
-    let mut copy = Vec::new(*tokens.allocator());
+    let mut copy = room_for(*tokens.allocator(), tokens.len())?;
     for token in tokens {
         push_token(&mut copy, token.copy()?)?;
     }
     Ok(copy)
+}
+
+/// A list with room for so many tokens.
+fn room_for(alloc: Global, count: usize) -> Result<Vec<Token>, Memory>
+    ensures { IfOk result (λ list. list.items ≡ []) }
+{
+    match Vec::with_capacity(alloc, count) {
+        Ok(list) => Ok(list),
+        Err(_) => Err(Memory),
+    }
 }
 
 fn push_token(tokens: &mut Vec<Token>, token: Token) -> Result<(), Memory>

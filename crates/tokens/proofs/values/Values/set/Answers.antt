@@ -1,5 +1,5 @@
 use Rattle.tokens.proofs.PropertyLemmas.{limits_if_ok}
-use Rattle.tokens.proofs.props.Props.set.Goals as goal
+use Rattle.tokens.proofs.values.Values.set.Goals as goal
 
 pub invariant_of-self : goal.invariant_of-self
 invariant_of-self c =

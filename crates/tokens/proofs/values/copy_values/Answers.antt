@@ -1,7 +1,7 @@
 use Rattle.std.proofs.Common.{◌≡◌, ℕ, suc, ◌+◌, List, take, ap, ◌∙◌, arith}
 use Rattle.tokens.specs.Properties.{with_value}
 use Rattle.tokens.proofs.PropertyLemmas.{taken_more}
-use Rattle.tokens.proofs.props.copy_values.Goals as goal
+use Rattle.tokens.proofs.values.copy_values.Goals as goal
 
 pub loop-place-preserved : goal.loop-place-preserved
 loop-place-preserved c =
