@@ -1,19 +1,63 @@
-ghost use Rattle.std.specs.Prelude.{◌≡◌, [], IsSome, Some, None, IfErr, OnOk, OnErr, if◌then◌else◌};
+ghost use Rattle.std.specs.Prelude.{◌≡◌, [], IsSome, Some, None, IfOk, IfSome, OnOk, OnErr, if◌then◌else◌};
 ghost use Rattle.std.specs.Option.{option_copied};
 ghost use Rattle.names.specs.declared.token_id.TokenId.{TokenId};
 ghost use Rattle.names.specs.TokenId.{id_eq};
 ghost use Rattle.vision.specs.Fields.{field_at, with_field, without_field};
 
 use cells::CellSet;
-use names::TokenId;
+use names::{Memory, TokenId};
 use std::alloc::Global;
 use std::collections::BTreeMap;
 use std::marker::Model;
+use std::sync::Arc;
+
+// A field that several `Fields` may keep at once.
+#[derive(Drop)]
+struct SharedField {
+    set: Arc<CellSet>,
+}
+
+impl Model for SharedField {
+    ghost use Rattle.cells.specs.Cells.{Cells};
+    ghost use Rattle.std.specs.Arc.{arc_value};
+
+    ghost Value = { Cells };
+
+    ghost view = { λ f. arc_value f.set };
+}
+
+impl SharedField {
+    fn new(alloc: Global, field: CellSet) -> Result<SharedField, Memory>
+        ensures { IfOk result (λ shared. shared ≡ field) }
+    {
+        match Arc::new(alloc, field) {
+            Ok(set) => Ok(SharedField { set }),
+            Err(_) => Err(Memory),
+        }
+    }
+
+    // The same field once more, without a copy of its cells.
+    fn share(&self) -> Result<SharedField, Memory>
+        ensures { IfOk result (λ shared. shared ≡ self.now) }
+    {
+        match Arc::try_clone(&self.set) {
+            Ok(set) => Ok(SharedField { set }),
+            Err(_) => Err(Memory),
+        }
+    }
+
+    fn get(&self) -> &CellSet
+        ensures { result.now ≡ self.now }
+    {
+        &self.set
+    }
+}
 
 /// Fields of tokens' eyes, by the ids of the tokens.
 #[derive(Drop)]
 pub struct Fields {
-    fields: BTreeMap<TokenId, CellSet>,
+    alloc: Global,
+    fields: BTreeMap<TokenId, SharedField>,
 }
 
 impl Model for Fields {
@@ -32,26 +76,55 @@ impl Fields {
         ensures { result ≡ [] }
     {
         Fields {
+            alloc,
             fields: BTreeMap::new(alloc),
         }
     }
 
     /// Keeps the field of that id, in place of the one that was kept for it. The fields of other ids stay.
     ///
-    /// The field comes back for want of memory alone, and the fields are then as before.
-    #[tactic(auto, using(crate::proofs::FieldLemmas::looked_up, crate::proofs::FieldLemmas::ties))]
-    pub fn put(&mut self, id: TokenId, field: CellSet) -> Result<(), CellSet>
+    /// It fails for want of memory alone, and the fields are then as before.
+    pub fn put(&mut self, id: TokenId, field: CellSet) -> Result<(), Memory>
         ensures value { OnOk result (self.new ≡ with_field id field self.old) }
         ensures told { OnOk result ((other : TokenId) → field_at other self.new ≡ (if id_eq id other then Some field else field_at other self.old)) }
-        ensures back { IfErr result (λ set. set ≡ field) }
+        ensures unchanged { OnErr result (self.new ≡ self.old) }
+    {
+        let shared = SharedField::new(self.alloc, field)?;
+        self.put_shared(id, shared)
+    }
+
+    /// Keeps for that id the field that `from` keeps for it, as `put` would, without a copy of its cells.
+    pub fn share(&mut self, id: TokenId, from: &Fields) -> Result<(), Memory>
+        requires { IsSome (field_at id from.now) }
+        ensures value { OnOk result (IfSome (field_at id from.now) (λ field. self.new ≡ with_field id field self.old)) }
+        ensures told { OnOk result ((other : TokenId) → field_at other self.new ≡ (if id_eq id other then field_at id from.now else field_at other self.old)) }
+        ensures unchanged { OnErr result (self.new ≡ self.old) }
+    {
+        let shared = from.shared(&id)?;
+        self.put_shared(id, shared)
+    }
+
+    // The field that is kept for that id, once more; one is.
+    #[tactic(auto, using(crate::proofs::FieldLemmas::looked_up))]
+    fn shared(&self, id: &TokenId) -> Result<SharedField, Memory>
+        requires { IsSome (field_at id.now self.now) }
+        ensures { IfOk result (λ field. field_at id.now self.now ≡ Some field) }
+    {
+        match self.fields.get(id) {
+            Some(field) => field.share(),
+            None => unreachable!(),
+        }
+    }
+
+    #[tactic(auto, using(crate::proofs::FieldLemmas::looked_up, crate::proofs::FieldLemmas::ties))]
+    fn put_shared(&mut self, id: TokenId, field: SharedField) -> Result<(), Memory>
+        ensures value { OnOk result (self.new ≡ with_field id field self.old) }
+        ensures told { OnOk result ((other : TokenId) → field_at other self.new ≡ (if id_eq id other then Some field else field_at other self.old)) }
         ensures unchanged { OnErr result (self.new ≡ self.old) }
     {
         match self.fields.insert(id, field) {
             Ok(_) => Ok(()),
-            Err(failed) => {
-                let (_, field) = failed.value;
-                Err(field)
-            }
+            Err(_) => Err(Memory),
         }
     }
 
@@ -69,7 +142,8 @@ impl Fields {
     pub fn get(&self, id: TokenId) -> Option<&CellSet>
         ensures { option_copied result ≡ field_at id self.now }
     {
-        self.fields.get(&id)
+        let found = self.fields.get(&id)?;
+        Some(found.get())
     }
 }
 
