@@ -1,4 +1,4 @@
-ghost use Rattle.std.specs.Prelude.{◌≡◌, [], IsSome, Some, None, IfOk, IfSome, OnOk, OnErr, if◌then◌else◌};
+ghost use Rattle.std.specs.Prelude.{◌≡◌, [], IsSome, Some, None, IfOk, IfErr, IfSome, OnOk, OnErr, if◌then◌else◌};
 ghost use Rattle.std.specs.Option.{option_copied};
 ghost use Rattle.names.specs.declared.token_id.TokenId.{TokenId};
 ghost use Rattle.names.specs.TokenId.{id_eq};
@@ -27,12 +27,14 @@ impl Model for SharedField {
 }
 
 impl SharedField {
-    fn new(alloc: Global, field: CellSet) -> Result<SharedField, Memory>
-        ensures { IfOk result (λ shared. shared ≡ field) }
+    // The field comes back for want of memory.
+    fn new(alloc: Global, field: CellSet) -> Result<SharedField, CellSet>
+        ensures shared { IfOk result (λ shared. shared ≡ field) }
+        ensures back { IfErr result (λ set. set ≡ field) }
     {
         match Arc::new(alloc, field) {
             Ok(set) => Ok(SharedField { set }),
-            Err(_) => Err(Memory),
+            Err(failed) => Err(failed.value),
         }
     }
 
@@ -83,14 +85,22 @@ impl Fields {
 
     /// Keeps the field of that id, in place of the one that was kept for it. The fields of other ids stay.
     ///
-    /// It fails for want of memory alone, and the fields are then as before.
-    pub fn put(&mut self, id: TokenId, field: CellSet) -> Result<(), Memory>
+    /// The field comes back for want of memory alone, and the fields are then as before.
+    pub fn put(&mut self, id: TokenId, field: CellSet) -> Result<(), CellSet>
         ensures value { OnOk result (self.new ≡ with_field id field self.old) }
         ensures told { OnOk result ((other : TokenId) → field_at other self.new ≡ (if id_eq id other then Some field else field_at other self.old)) }
+        ensures back { IfErr result (λ set. set ≡ field) }
         ensures unchanged { OnErr result (self.new ≡ self.old) }
     {
+        // What is shared can't be taken back, so a copy is what comes back where there is no place for it.
+        let Ok(copy) = field.copy() else {
+            return Err(field);
+        };
         let shared = SharedField::new(self.alloc, field)?;
-        self.put_shared(id, shared)
+        match self.put_shared(id, shared) {
+            Ok(()) => Ok(()),
+            Err(Memory) => Err(copy),
+        }
     }
 
     /// Keeps for that id the field that `from` keeps for it, as `put` would, without a copy of its cells.

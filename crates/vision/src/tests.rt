@@ -74,7 +74,7 @@ fn a_shared_field_is_kept_in_both(rt: HostRuntime) -> Result<(), Fail> {
     let size = Size::new(12, 2).ok_or("no size")?;
     let mut fields = Fields::new(rt.alloc());
     let field = open_field(rt.alloc(), size, Point::centre(0, 0))?;
-    fields.put(ann()?, field)?;
+    fields.put(ann()?, field).map_err(|_| "no memory")?;
     let mut next = Fields::new(rt.alloc());
     next.share(ann()?, &fields)?;
     fields.drop_field(ann()?);
