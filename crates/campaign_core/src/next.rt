@@ -5,7 +5,7 @@ ghost use Rattle.player_view.specs.Fields.{HasFields};
 ghost use Rattle.player_view.specs.Seen.{AreSeen};
 ghost use Rattle.player_view.specs.Tables.{HasTables};
 ghost use Rattle.command_effects.specs.Settle.{IsSettled, settled as settled_lem};
-ghost use Rattle.command_looks.specs.Fields.{AreKept, field_for};
+ghost use Rattle.command_looks.specs.Fields.{AreBehind, AreKept, field_for};
 ghost use Rattle.command_looks.specs.Touched.{is_touched, looks_for, looks_of, touched};
 ghost use Rattle.vision.specs.Fields.{field_at};
 ghost use Rattle.view_keep.specs.Kept.{view_at};
@@ -122,6 +122,7 @@ fn next_fields<E: Eye>(
     eye: &mut E,
 ) -> Result<Option<Fields>, Memory>
     requires kept { (id : TokenId) → is_touched scene.now.tokens (touched command.now) id ≡ false → field_at id fields.now ≡ field_for scene.now id }
+    requires behind { AreBehind (touched command.now) scene.now fields.now }
     ensures fields { IfOk result (λ next. AreKept scene.now (unwrap_or next fields.now)) }
     ensures looks { E.looks_made eye.new ≤ E.looks_made eye.old + looks_for scene.now.tokens (touched command.now) }
 {
