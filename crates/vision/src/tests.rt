@@ -74,12 +74,11 @@ fn a_shared_field_is_kept_in_both(rt: HostRuntime) -> Result<(), Fail> {
     let size = Size::new(12, 2).ok_or("no size")?;
     let mut fields = Fields::new(rt.alloc());
     let field = open_field(rt.alloc(), size, Point::centre(0, 0))?;
-    let id = ann()?;
-    fields.put(id, field).map_err(|_| "no memory")?;
+    fields.put(ann()?, field).map_err(|_| "no memory")?;
     let mut next = Fields::new(rt.alloc());
-    next.share(id, &fields).map_err(|_| "no memory")?;
-    fields.drop_field(id);
-    let field = next.get(id).ok_or("no field")?;
+    next.share(ann()?, &fields).map_err(|_| "no memory")?;
+    fields.drop_field(ann()?);
+    let field = next.get(ann()?).ok_or("no field")?;
     assert!(rt; field.has(Cell { x: 11, y: 1 }));
     Ok(())
 }
