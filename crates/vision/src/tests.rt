@@ -76,7 +76,7 @@ fn a_shared_field_is_kept_in_both(rt: HostRuntime) -> Result<(), Fail> {
     let field = open_field(rt.alloc(), size, Point::centre(0, 0))?;
     fields.put(ann()?, field).map_err(|_| "no memory")?;
     let mut next = Fields::new(rt.alloc());
-    next.share(ann()?, &fields)?;
+    next.share(ann()?, &fields).map_err(|_| "no memory")?;
     fields.drop_field(ann()?);
     let field = next.get(ann()?).ok_or("no field")?;
     assert!(rt; field.has(Cell { x: 11, y: 1 }));
