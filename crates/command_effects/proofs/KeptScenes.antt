@@ -40,7 +40,7 @@ use Rattle.command_effects.specs.Effects.{own_token, cell_after, after_steps, sc
 use Rattle.command_effects.specs.GmEffects.{gm_scene_by, sight_by, with_fog}
 use Rattle.command_effects.specs.Making.{new_token, players_token, with_new}
 use Rattle.player_view.specs.Tables.{HasTables}
-use Rattle.command_effects.specs.Seen.{seen_for}
+use Rattle.player_view.specs.Seen.{seen_for}
 use Rattle.command_effects.specs.Settle.{settled}
 use Rattle.command_effects.specs.Tags.{MakesNew}
 use Rattle.command_effects.proofs.Moves.{may_move, placing, fits_there}

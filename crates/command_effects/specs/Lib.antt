@@ -6,5 +6,4 @@ pub mod MacroEffects
 pub mod Trying
 pub mod Settle
 pub mod Allowed
-pub mod Seen
 pub mod Follows

@@ -1,11 +1,11 @@
 //! What players see is exposed to them.
-ghost use Rattle.std.specs.Prelude.{◌≡◌, ◌∷◌, ◌++◌, [], map, IfOk, OnOk, OnErr};
+ghost use Rattle.std.specs.Prelude.{◌≡◌, ◌∷◌, ◌++◌, [], map, length, IfOk, OnOk, OnErr};
 ghost use Rattle.player_view.specs.Fields.{HasFields};
 ghost use Rattle.world.specs.Rules.{IsScene, IsSized};
 ghost use Rattle.std.specs.List.{AllZip};
 ghost use Rattle.fog_book.specs.Exposures.{HaveOneSize};
 ghost use Rattle.command_effects.specs.Settle.{settled};
-ghost use Rattle.command_effects.specs.Seen.{seen_for as seen_for_lem};
+ghost use Rattle.player_view.specs.Seen.{AreSeen, seen_for as seen_for_lem};
 
 use cells::CellSet;
 use fog_book::Exposure;
@@ -53,13 +53,16 @@ fn all_seen(alloc: Global, scene: &Scene, fields: &Fields) -> Result<Vec<CellSet
     Ok(all)
 }
 
-/// Exposes to each player what it sees. After `Memory` the scene is as before.
-pub fn settle(alloc: Global, scene: &mut Scene, fields: &Fields) -> Result<(), Memory>
+/// Exposes to each player what it sees, and tells it: at the place of each exposed set what its player sees of its map.
+/// After `Memory` the scene is as before.
+pub fn settle(alloc: Global, scene: &mut Scene, fields: &Fields) -> Result<Vec<CellSet>, Memory>
     requires { HasFields scene.old fields.now }
     ensures settled { OnOk result (scene.new ≡ settled scene.old) }
+    ensures seen { IfOk result (λ v. AreSeen scene.new v.items) }
+    ensures count { IfOk result (λ v. length v.items ≡ length scene.new.fog.sets) }
     ensures unchanged { OnErr result (scene.new ≡ scene.old) }
 {
     let seen = all_seen(alloc, scene, fields)?;
     scene.join_each(&seen);
-    Ok(())
+    Ok(seen)
 }

@@ -11,5 +11,6 @@ pub mod LetterRuns
 pub mod OlderLetters
 pub mod ViewIs
 pub mod FollowLemmas
+pub mod FoundLemmas
 pub mod ReadTables
 pub mod ReadAlike

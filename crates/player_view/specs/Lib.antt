@@ -1,4 +1,5 @@
 pub mod Sight
+pub mod Seen
 pub mod Shown
 pub mod Relations
 pub mod View

@@ -1,11 +1,13 @@
 //! The maps of a seat's view.
 ghost use Rattle.std.specs.Prelude.{◌≡◌, ◌<◌, ◌≤◌, ◌+◌, ◌++◌, ◌∷◌, [], Some, None, true, IfOk, IfSome, OnOk, map, option_copied, take, slice_get, length, if◌then◌else◌};
-ghost use Rattle.std.specs.List.{filter, find};
+ghost use Rattle.std.specs.List.{filter, find, position};
 ghost use Rattle.std.specs.Str.{bytes_eq};
 ghost use Rattle.cells.specs.Cells.{has};
+ghost use Rattle.fog_book.specs.Exposures.{is_of};
 ghost use Rattle.maps.specs.Maps.{map_of};
 ghost use Rattle.player_view.specs.Fields.{HasFields};
 ghost use Rattle.player_view.specs.Lettered.{HaveLetters};
+ghost use Rattle.player_view.specs.Seen.{AreSeen};
 ghost use Rattle.player_view.specs.Shown.{exposed};
 ghost use Rattle.player_view.specs.Sight.{visible};
 ghost use Rattle.player_view.specs.View.{all_cells, exposed_to, has_map, letters_in, map_view, seen_by};
@@ -14,6 +16,7 @@ ghost use Rattle.player_view.specs.Walk.{run_letters};
 use crate::looks::look_over;
 use crate::reads::{has_map, is_gm};
 use cells::{Cell, CellSet, Run};
+use fog_book::Exposure;
 use maps::GridMap;
 use names::{Memory, SeatNo, Tag};
 use std::alloc::Global;
@@ -29,7 +32,8 @@ fn all_cells(alloc: Global, map: &GridMap) -> Result<CellSet, Memory>
     Ok(cells)
 }
 
-fn visible(
+/// What the player's tokens see of the map, found anew.
+fn look_anew(
     alloc: Global,
     scene: &Scene,
     seat: SeatNo,
@@ -45,6 +49,51 @@ fn visible(
     Ok(cells)
 }
 
+/// The place of the player's set on the map of that name, if there is one.
+fn place_of(sets: &[Exposure], seat: SeatNo, name: Tag) -> Option<usize>
+    ensures { result ≡ position (is_of seat name) sets.now }
+{
+    sets.iter()
+        .position(|set| set.seat == seat && set.map == name)
+}
+
+/// What was found before of what the player sees of the map, if it was.
+fn found_before<'a>(
+    scene: &Scene,
+    seat: SeatNo,
+    map: &GridMap,
+    seen: &'a [CellSet],
+) -> Option<&'a CellSet>
+    requires there { map_of map.now.name scene.now.maps ≡ Some map.now }
+    requires seen { AreSeen scene.now seen.now }
+    ensures { IfSome (option_copied result) (λ cells. cells ≡ visible scene.now seat map.now) }
+{
+    match place_of(scene.fog().sets(), seat, map.name()) {
+        Some(place) => seen.get(place),
+        None => None,
+    }
+}
+
+/// What the player's tokens see of the map, as it was found before, where it was.
+fn visible(
+    alloc: Global,
+    scene: &Scene,
+    seat: SeatNo,
+    map: &GridMap,
+    fields: &Fields,
+    seen: &[CellSet],
+) -> Result<CellSet, Memory>
+    requires there { map_of map.now.name scene.now.maps ≡ Some map.now }
+    requires fields { HasFields scene.now fields.now }
+    requires seen { AreSeen scene.now seen.now }
+    ensures { IfOk result (λ cells. cells ≡ visible scene.now seat map.now) }
+{
+    match found_before(scene, seat, map, seen) {
+        Some(cells) => cells.copy(),
+        None => look_anew(alloc, scene, seat, map, fields),
+    }
+}
+
 /// The cells of the map that the seat has in sight.
 fn seen_by(
     alloc: Global,
@@ -52,15 +101,17 @@ fn seen_by(
     seat: SeatNo,
     map: &GridMap,
     fields: &Fields,
+    seen: &[CellSet],
 ) -> Result<CellSet, Memory>
     requires there { map_of map.now.name scene.now.maps ≡ Some map.now }
     requires fields { HasFields scene.now fields.now }
+    requires seen { AreSeen scene.now seen.now }
     ensures { IfOk result (λ cells. cells ≡ seen_by scene.now seat map.now) }
 {
     if is_gm(seat) {
         all_cells(alloc, map)
     } else {
-        visible(alloc, scene, seat, map, fields)
+        visible(alloc, scene, seat, map, fields, seen)
     }
 }
 
@@ -202,14 +253,16 @@ fn map_view(
     map: &GridMap,
     fields: &Fields,
     older: &[MapView],
+    seen: &[CellSet],
 ) -> Result<MapView, Memory>
     requires there { map_of map.now.name scene.now.maps ≡ Some map.now }
     requires older { HaveLetters scene.now.maps older.now }
     requires seat { seat ≤ scene.now.fog.players }
     requires fields { HasFields scene.now fields.now }
+    requires seen { AreSeen scene.now seen.now }
     ensures { IfOk result (λ view. view ≡ map_view scene.now seat map.now) }
 {
-    let seen = seen_by(alloc, scene, seat, map, fields)?;
+    let seen = seen_by(alloc, scene, seat, map, fields, seen)?;
     let exposed = exposed_to(alloc, scene, seat, map)?;
     let letters = letters_like(alloc, map, &exposed, older_of(scene, older, map))?;
     Ok(MapView {
@@ -242,12 +295,14 @@ fn add_map(
     place: usize,
     fields: &Fields,
     older: &[MapView],
+    seen: &[CellSet],
     list: &mut Vec<MapView>,
 ) -> Result<(), Memory>
     requires older { HaveLetters scene.now.maps older.now }
     requires place { place < length scene.now.maps }
     requires seat { seat ≤ scene.now.fog.players }
     requires fields { HasFields scene.now fields.now }
+    requires seen { AreSeen scene.now seen.now }
     requires so_far { list.old.items ≡ map (map_view scene.now seat) (filter (has_map seat) (take place scene.now.maps)) }
     ensures { OnOk result (list.new.items ≡ map (map_view scene.now seat) (filter (has_map seat) (take (place + 1) scene.now.maps))) }
 {
@@ -255,7 +310,7 @@ fn add_map(
     if !has_map(seat, map) {
         return Ok(());
     }
-    let view = map_view(alloc, scene, seat, map, fields, older)?;
+    let view = map_view(alloc, scene, seat, map, fields, older, seen)?;
     push_map(list, view)?;
     Ok(())
 }
@@ -269,22 +324,25 @@ fn push_map(list: &mut Vec<MapView>, view: MapView) -> Result<(), Memory>
     }
 }
 
-/// The maps that the seat is shown; letters are taken from older views of maps with the same letters, where they serve.
+/// The maps that the seat is shown; letters are taken from older views of maps with the same letters, where they serve,
+/// and what a player sees from `seen`, where it is there.
 pub(crate) fn map_views(
     alloc: Global,
     scene: &Scene,
     seat: SeatNo,
     fields: &Fields,
     older: &[MapView],
+    seen: &[CellSet],
 ) -> Result<MapViews, Memory>
     requires older { HaveLetters scene.now.maps older.now }
     requires seat { seat ≤ scene.now.fog.players }
     requires fields { HasFields scene.now fields.now }
+    requires seen { AreSeen scene.now seen.now }
     ensures { IfOk result (λ views. views ≡ map (map_view scene.now seat) (filter (has_map seat) scene.now.maps)) }
 {
     let mut list = Vec::new(alloc);
     for place in 0..scene.maps().len() {
-        add_map(alloc, scene, seat, place, fields, older, &mut list)?;
+        add_map(alloc, scene, seat, place, fields, older, seen, &mut list)?;
     }
     Ok(MapViews { list })
 }

@@ -4,6 +4,7 @@ ghost use Rattle.player_view.specs.Fields.{HasFields};
 ghost use Rattle.player_view.specs.Lettered.{HaveLetters};
 ghost use Rattle.player_view.specs.Follows.{Follows, ViewsFollow};
 ghost use Rattle.views.specs.Views.{IsView};
+ghost use Rattle.player_view.specs.Seen.{AreSeen};
 ghost use Rattle.player_view.specs.Tables.{HasTables};
 ghost use Rattle.player_view.specs.Told.{IsTold};
 ghost use Rattle.player_view.specs.View.{light_text, sight_text, view_of};
@@ -11,6 +12,7 @@ ghost use Rattle.player_view.specs.View.{light_text, sight_text, view_of};
 use crate::map_views::map_views;
 use crate::reads::is_gm;
 use crate::token_views::token_views;
+use cells::CellSet;
 use names::{Memory, SeatNo, Tag};
 use std::alloc::Global;
 use views::{LightTexts, MapView, SightTexts, View};
@@ -98,15 +100,17 @@ fn seat_view(
     seat: SeatNo,
     fields: &Fields,
     older: &[MapView],
+    seen: &[CellSet],
 ) -> Result<View, Memory>
     requires older { HaveLetters scene.now.maps older.now }
     requires seat { seat ≤ scene.now.fog.players }
     requires fields { HasFields scene.now fields.now }
+    requires seen { AreSeen scene.now seen.now }
     ensures { IfOk result (λ view. view ≡ view_of scene.now seat) }
 {
     let lights = light_texts(alloc, scene)?;
     let sights = sight_texts(alloc, scene)?;
-    let maps = map_views(alloc, scene, seat, fields, older)?;
+    let maps = map_views(alloc, scene, seat, fields, older, seen)?;
     let tokens = token_views(alloc, scene, seat, &maps)?;
     Ok(View {
         gm: is_gm(seat),
@@ -130,21 +134,25 @@ pub fn view_of(alloc: Global, scene: &Scene, seat: SeatNo, fields: &Fields) -> R
     ensures told { 1 ≤ seat → IfOk result (IsTold scene.now seat) }
 {
     open_tables(scene);
-    seat_view(alloc, scene, seat, fields, &[])
+    seat_view(alloc, scene, seat, fields, &[], &[])
 }
 
-/// The same, by an older view of the seat, of maps with the same letters: of a map of which the same cells are exposed they
-/// are taken from there.
+/// The same, by what was found before. `older` is an older view of the seat, of maps with the same letters: of a map of
+/// which the same cells are exposed they are taken from there. `seen` has, at the places of the scene's exposed sets,
+/// what their players see of their maps; where a set has nothing at its place, as where `seen` is empty, that is found
+/// anew.
 pub fn view_after(
     alloc: Global,
     scene: &Scene,
     seat: SeatNo,
     fields: &Fields,
     older: &View,
+    seen: &[CellSet],
 ) -> Result<View, Memory>
     requires older { HaveLetters scene.now.maps older.now.maps }
     requires seat { seat ≤ scene.now.fog.players }
     requires fields { HasFields scene.now fields.now }
+    requires seen { AreSeen scene.now seen.now }
     ensures value { IfOk result (λ view. view ≡ view_of scene.now seat) }
 
     // It is a view: in order, with nothing repeated, and each part fits the others.
@@ -154,7 +162,7 @@ pub fn view_after(
     ensures told { 1 ≤ seat → IfOk result (IsTold scene.now seat) }
 {
     open_tables(scene);
-    seat_view(alloc, scene, seat, fields, older.maps.items())
+    seat_view(alloc, scene, seat, fields, older.maps.items(), seen)
 }
 
 /// Opens the tables of both scenes: where the second follows the first, so does what each seat sees.

@@ -2,7 +2,7 @@ use Rattle.std.proofs.Common.{◌∙◌, sym, ap, subst, arith, map, length}
 use Rattle.std.specs.List.{AllZip}
 use Rattle.std.proofs.lemmas.List.{take_all}
 use Rattle.fog_book.specs.Exposures.{HaveOneSize}
-use Rattle.command_effects.specs.Seen.{seen_for}
+use Rattle.player_view.specs.Seen.{seen_for}
 use Rattle.command_effects.proofs.Settling.{one_size_each}
 use Rattle.command_effects.proofs.sight.all_seen.Goals as goal
 

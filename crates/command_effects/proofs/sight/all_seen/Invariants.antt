@@ -1,5 +1,5 @@
 use Rattle.std.proofs.Common.{◌≡◌, map, take}
-use Rattle.command_effects.specs.Seen.{seen_for}
+use Rattle.player_view.specs.Seen.{seen_for}
 use Rattle.command_effects.proofs.sight.all_seen.Given as goal
 
 abbrev pub invariant-loop-set : goal.invariant-loop-set

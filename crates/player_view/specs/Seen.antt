@@ -1,5 +1,5 @@
 -- What is seen of the map of an exposed set, by its player.
-use Rattle.std.specs.Prelude.{Option, Some, None, false}
+use Rattle.std.specs.Prelude.{◌≡◌, ℕ, false, List, Option, Some, None, slice_get}
 use Rattle.cells.specs.Cells.{Cells, cells_where}
 use Rattle.fog_book.specs.declared.exposure.Exposure.{Exposure}
 use Rattle.maps.specs.Maps.{Grid, map_of}
@@ -12,3 +12,8 @@ seen_on s set (Some m) = visible s set.seat m
 
 abbrev pub seen_for : Scene → Exposure → Cells
 seen_for s set = seen_on s set (map_of set.map s.maps)
+
+-- the cells at the place of an exposed set, where there are any, are what its player sees of its map
+pub record AreSeen (s : Scene) (seen : List Cells) : Type 0 where
+  pub each : (place : ℕ) (set : Exposure) (cells : Cells) → slice_get s.fog.sets place ≡ Some set → slice_get seen place ≡ Some cells
+      → cells ≡ seen_for s set
