@@ -2,6 +2,7 @@
 ghost use Rattle.std.specs.Prelude.{◌≡◌, ◌==◌, ◌≤◌, ◌+◌, ℕ, ◌<◌, if◌then◌else◌, length, true, false, None, Some, IfOk, unwrap_or, option_map, slice_get};
 ghost use Rattle.names.specs.declared.token_id.TokenId.{TokenId};
 ghost use Rattle.player_view.specs.Fields.{HasFields};
+ghost use Rattle.player_view.specs.Seen.{AreSeen};
 ghost use Rattle.player_view.specs.Tables.{HasTables};
 ghost use Rattle.command_effects.specs.Settle.{IsSettled, settled as settled_lem};
 ghost use Rattle.command_looks.specs.Fields.{AreKept, field_for};
@@ -28,6 +29,7 @@ use crate::outcome::{Outcome, decide};
 use crate::queues::{Glances, NextSeats, next_seats};
 use crate::state::{NextPost, State};
 use campaign_law::{Answer, Entry};
+use cells::CellSet;
 use command_effects::{scene_by, settle};
 use command_json::Command;
 use command_looks::{Touched, fields_after, serve, touched_by};
@@ -40,11 +42,13 @@ use views::View;
 use vision::Fields;
 use world::Scene;
 
-/// A scene that an entry made, and its fields, where they aren't those of the scene before.
+/// A scene that an entry made, and its fields, where they aren't those of the scene before; and what players see of it, at
+/// the places of their exposed sets.
 #[derive(Drop)]
 pub(crate) struct Changed {
     pub(crate) scene: Scene,
     pub(crate) fields: Option<Fields>,
+    pub(crate) seen: Vec<CellSet>,
 }
 
 /// All that an entry makes, before any of it is put in its place.
@@ -128,27 +132,35 @@ fn next_fields<E: Eye>(
     Ok(Some(fields_after(alloc, scene, &touched, fields, eye)?))
 }
 
-/// The scene in which what players see is exposed to them.
+/// The scene in which what players see is exposed to them, and what they see.
 fn settled(
     alloc: Global,
-    mut scene: Scene,
+    scene: Scene,
     next: &Option<Fields>,
     fields: &Fields,
-) -> Result<Scene, Memory>
+) -> Result<(Scene, Vec<CellSet>), Memory>
     requires { AreKept scene (unwrap_or next.now fields.now) }
-    ensures { IfOk result (λ s. s ≡ settled_lem scene) }
+    ensures scene { IfOk result (λ r. r.0 ≡ settled_lem scene) }
+    ensures seen { IfOk result (λ r. AreSeen r.0 r.1.items) }
 {
     match next {
-        Some(next) => {
-            serve(&scene, next);
-            settle(alloc, &mut scene, next)?;
-        }
-        None => {
-            serve(&scene, fields);
-            settle(alloc, &mut scene, fields)?;
-        }
+        Some(next) => settled_by(alloc, scene, next),
+        None => settled_by(alloc, scene, fields),
     }
-    Ok(scene)
+}
+
+fn settled_by(
+    alloc: Global,
+    mut scene: Scene,
+    fields: &Fields,
+) -> Result<(Scene, Vec<CellSet>), Memory>
+    requires { AreKept scene fields.now }
+    ensures scene { IfOk result (λ r. r.0 ≡ settled_lem scene) }
+    ensures seen { IfOk result (λ r. AreSeen r.0 r.1.items) }
+{
+    serve(&scene, fields);
+    let seen = settle(alloc, &mut scene, fields)?;
+    Ok((scene, seen))
 }
 
 /// The scene after the entry with its fields; none, where the entry leaves it as it is.
@@ -184,8 +196,12 @@ pub(crate) fn changed_scene<E: Eye>(
     // The table tells with its length that no id is there twice.
     let _count = scene.tokens().len();
     let fields = next_fields(alloc, &scene, command, keep.fields(), eye)?;
-    let scene = settled(alloc, scene, &fields, keep.fields())?;
-    Ok(Some(Changed { scene, fields }))
+    let (scene, seen) = settled(alloc, scene, &fields, keep.fields())?;
+    Ok(Some(Changed {
+        scene,
+        fields,
+        seen,
+    }))
 }
 
 // ---- the seats
@@ -256,12 +272,14 @@ fn glances_still<'s>(state: &'s State, keep: &'s Keep) -> Glances<'s>
         keep,
         after: scene,
         fields,
+        seen: &[],
         same: true,
     }
 }
 
 fn glances_at<'s>(state: &'s State, keep: &'s Keep, changed: &'s Changed) -> Glances<'s>
     requires fields { AreKept changed.now.scene (unwrap_or changed.now.fields keep.now.fields) }
+    requires seen { AreSeen changed.now.scene changed.now.seen.items }
     requires fit { ViewsFit state.now.scene changed.now.scene }
     requires players { changed.now.scene.fog.players ≡ state.now.scene.fog.players }
     ensures glances { AreGlances result }
@@ -281,6 +299,7 @@ fn glances_at<'s>(state: &'s State, keep: &'s Keep, changed: &'s Changed) -> Gla
         keep,
         after: &changed.scene,
         fields,
+        seen: changed.seen.as_slice(),
         same: false,
     }
 }
