@@ -68,17 +68,3 @@ fn a_field_is_kept_and_dropped(rt: HostRuntime) -> Result<(), Fail> {
     assert!(rt; fields.get(ann()?).is_none());
     Ok(())
 }
-
-#[test]
-fn a_shared_field_is_kept_in_both(rt: HostRuntime) -> Result<(), Fail> {
-    let size = Size::new(12, 2).ok_or("no size")?;
-    let mut fields = Fields::new(rt.alloc());
-    let field = open_field(rt.alloc(), size, Point::centre(0, 0))?;
-    fields.put(ann()?, field).map_err(|_| "no memory")?;
-    let mut next = Fields::new(rt.alloc());
-    next.share(ann()?, &fields).map_err(|_| "no memory")?;
-    fields.drop_field(ann()?);
-    let field = next.get(ann()?).ok_or("no field")?;
-    assert!(rt; field.has(Cell { x: 11, y: 1 }));
-    Ok(())
-}
