@@ -5,9 +5,10 @@ ghost use Rattle.json_fields.specs.Objects.{Gives};
 ghost use Rattle.tokens.specs.Tokens.{has_token};
 ghost use Rattle.world.specs.Rules.{belongs, fits, size_of, are_players, is_known};
 ghost use Rattle.world.specs.World.{is_used as is_used_lem};
+ghost use Rattle.campaign_json.specs.Kinds.{only};
 ghost use Rattle.campaign_json.specs.Reading.{Fails, here, under, each, field};
 ghost use Rattle.campaign_scene.specs.Kept.{kept_by};
-ghost use Rattle.campaign_scene.specs.Tokens.{may_be_made, new_id as new_id_lem, map_name as map_name_lem, name_or_null as name_or_null_lem, type_name as type_name_lem, cell as cell_lem, owner as owner_lem, owners as owners_lem, bare_token as bare_token_lem, marked as marked_lem, described as described_lem, token as token_lem, tokens as tokens_lem};
+ghost use Rattle.campaign_scene.specs.Tokens.{may_be_made, new_id as new_id_lem, map_name as map_name_lem, name_or_null as name_or_null_lem, type_name as type_name_lem, cell as cell_lem, owner as owner_lem, owners as owners_lem, bare_token as bare_token_lem, marked as marked_lem, described as described_lem, token as token_lem, token_keys, tokens as tokens_lem};
 
 use crate::property::read_properties;
 use campaign_json::fields::{self, check_count, check_object, check_only};
@@ -73,11 +74,20 @@ fn read_token(
     let token = bare_token(alloc, books, &scene, value)?;
     let token = marked(alloc, &scene, token, value)?;
     let token = described(alloc, &scene, token, value)?;
-    check_only(alloc, value, &TOKEN_KEYS)?;
+    let token = alone(alloc, token, value)?;
     match scene.make(token) {
         Ok(()) => Ok(scene),
         Err(_) => Err(FileFault::Memory),
     }
+}
+
+/// The token, of which the value says nothing else.
+fn alone(alloc: Global, token: Token, value: &Value) -> Result<Token, FileFault>
+    ensures others { Gives Fails (λ t. tt) result (only token_keys (view value.now)) }
+    ensures same { IfOk result (λ t. t ≡ token) }
+{
+    check_only(alloc, value, &TOKEN_KEYS)?;
+    Ok(token)
 }
 
 /// A token that isn't shown, with nothing but an id, a name and its place.
