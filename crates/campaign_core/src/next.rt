@@ -197,11 +197,11 @@ pub(crate) fn changed_scene<E: Eye>(
     // The table tells with its length that no id is there twice.
     let _count = scene.tokens().len();
     let fields = next_fields(alloc, &scene, command, keep.fields(), eye)?;
-    let (scene, seen) = settled(alloc, scene, &fields, keep.fields())?;
+    let after = settled(alloc, scene, &fields, keep.fields())?;
     Ok(Some(Changed {
-        scene,
+        scene: after.0,
         fields,
-        seen,
+        seen: after.1,
     }))
 }
 

@@ -8,6 +8,6 @@ pub returns-clause-glances : goal.returns-clause-glances
 returns-clause-glances c = record {
   after = c.serve.ensures;
   players = c.requires.players ∙ ap (λ (s : Scene). s.fog.players) (sym c.scene-scene.ensures);
-  seen = subst (AreSeen c.args.changed.now.scene) (sym c.as_slice.ensures) c.requires.seen;
+  seen = subst (AreSeen c.args.changed.now.scene) (sym c.as_slice.ensures.value) c.requires.seen;
   fit = subst (λ (s : Scene). ViewsFit s c.args.changed.now.scene) (sym c.scene-scene.ensures) c.requires.fit;
 }
