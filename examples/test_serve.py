@@ -11,6 +11,7 @@ import socket
 import subprocess
 import sys
 import tempfile
+import time
 import unittest
 
 HERE = pathlib.Path(__file__).resolve().parent
@@ -20,6 +21,8 @@ sys.path.insert(0, str(HERE))
 from test_table import connected, free_port  # noqa: E402
 
 USAGE = "tabletop: usage: play FILE [--end], check FILE, drill N LINES, serve FILE PORT COUNT [--end]\n"
+# Seconds; a session ends some milliseconds after its client is gone.
+MOMENT = 1.0
 FULL = b'{"full":{"lights":{},"maps":[],"sights":{},"tokens":[]}}\n'
 
 
@@ -58,6 +61,8 @@ class Connections(unittest.TestCase):
                 server, port = self.started("3", *words)
                 for lines, wanted in CONNECTIONS:
                     self.assertEqual(self.sat(port, lines, len(wanted)), wanted)
+                    # The seat is free once the session has ended, which nothing tells to those who come after.
+                    time.sleep(MOMENT)
                 self.assertEqual(self.ended(server), ("1 Left\n2 Refused BadKey\n3 Left\n" + ending, 0))
 
     def test_words_that_are_none(self):
