@@ -75,13 +75,13 @@ fn called_by(
 
 /// What the rules make of a run: it doesn't stop, and may set what it means to set.
 #[tactic(auto, unfolding(player_view::specs::Asked::asked_of))]
-fn judge_run(alloc: Global, state: &State, seat: SeatNo, called: Called) -> Result<Ruling, Memory>
+fn judge_run(state: &State, seat: SeatNo, called: Called) -> Result<Ruling, Memory>
     ensures { IfOk result (IsRuling (run_rule seat (asked_of (world_at state.now) seat).mine called) called) }
 {
     match called {
         Called::NoRun => Ok(Ruling::Allowed(Called::NoRun)),
         Called::Stopped(refusal) => Ok(Ruling::Refused(refusal)),
-        Called::Ran(run) => match set_intents(alloc, state.scene(), seat, &run.intents)? {
+        Called::Ran(run) => match set_intents(state.scene(), seat, &run.intents)? {
             IntentsSet::Refused(refusal) => Ok(Ruling::Refused(refusal)),
             IntentsSet::Set(_) => Ok(Ruling::Allowed(Called::Ran(run))),
         },
@@ -105,5 +105,5 @@ pub(crate) fn judge(
         return Ok(Ruling::Refused(refusal));
     }
     let called = called_by(alloc, state, keep, seat, book, command)?;
-    judge_run(alloc, state, seat, called)
+    judge_run(state, seat, called)
 }

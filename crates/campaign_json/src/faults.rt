@@ -76,11 +76,11 @@ pub fn broken_at(alloc: Global, token: &str, rule: Rule) -> FileFault
 fn breach_in(alloc: Global, token: &str, path: &str, rule: Rule) -> FileFault
     ensures { IsBreach (record { path = pointer token.now path.now; rule = rule }) result }
 {
-    match format!(in alloc; "/{token}{path}") {
-        Ok(path) => FileFault::Bad(BadCampaign {
-            path: Text::new(path),
-            rule,
-        }),
+    let Ok(path) = format!(in alloc; "/{token}{path}") else {
+        return FileFault::Memory;
+    };
+    match Text::new(path) {
+        Ok(path) => FileFault::Bad(BadCampaign { path, rule }),
         Err(_) => FileFault::Memory,
     }
 }

@@ -47,7 +47,7 @@ pub(crate) fn id(alloc: Global, id: TokenId) -> Result<Value, AllocError>
     let _maker = id.maker.number();
     let _tag = id.tag.bytes();
     match id.text(alloc) {
-        Ok(text) => Ok(Value::String(text.into_string())),
+        Ok(text) => text_value(alloc, &text),
         Err(_) => Err(AllocError),
     }
 }

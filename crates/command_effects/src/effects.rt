@@ -153,7 +153,6 @@ fn moved(
 
 /// The scene once the property is set.
 pub(crate) fn with_prop(
-    alloc: Global,
     scene: &Scene,
     id: &TokenId,
     class: PropClass,
@@ -164,7 +163,7 @@ pub(crate) fn with_prop(
     requires short { length value.now ≤ value_limit }
     ensures { IfOk result (λ s. s ≡ with_token id.now (with_prop_lem class name.now value.now) scene.now) }
 {
-    let value = Text::copy(alloc, value.text())?;
+    let value = value.share()?;
     let mut after = scene.copy()?;
     match after.set_prop(*id, class, *name, value) {
         Ok(()) => Ok(after),
@@ -267,14 +266,14 @@ pub fn scene_by(
 {
     let _told = told(scene);
     match command {
-        Command::Macro { .. } => with_intents(alloc, scene, seat, intents),
+        Command::Macro { .. } => with_intents(scene, seat, intents),
         Command::Move { token, path } => Ok(Some(moved(scene, seat, token, path, steps)?)),
         Command::Setprop {
             token,
             class,
             name,
             value,
-        } => Ok(Some(with_prop(alloc, scene, token, *class, name, value)?)),
+        } => Ok(Some(with_prop(scene, token, *class, name, value)?)),
         Command::Light { token, light } => Ok(Some(with_light(scene, token, light)?)),
         Command::Make {
             tag,

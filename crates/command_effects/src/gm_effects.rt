@@ -365,7 +365,6 @@ pub(crate) fn gm_scene_by(
         Command::Sight { token, sight } => Ok(Some(with_sight(scene, token, sight)?)),
         Command::Place { token, map, cell } => Ok(Some(placed(scene, token, map, *cell)?)),
         Command::Secret { token, name, value } => Ok(Some(with_prop(
-            alloc,
             scene,
             token,
             PropClass::Secret,

@@ -29,12 +29,12 @@ fn intent_rule(scene: &Scene, seat: SeatNo, intent: &Intent) -> Option<Refusal>
     setprop_rule(scene, seat, intent.id, intent.class, intent.name)
 }
 
-fn set_intent(alloc: Global, scene: &mut Scene, intent: &Intent) -> Result<(), Memory>
+fn set_intent(scene: &mut Scene, intent: &Intent) -> Result<(), Memory>
     requires room { MaySet scene.old intent.now.id intent.now.class intent.now.name }
     requires short { length intent.now.value ≤ value_limit }
     ensures { OnOk result (scene.new ≡ with_intent intent.now scene.old) }
 {
-    let value = Text::copy(alloc, intent.value.text())?;
+    let value = intent.value.share()?;
     match scene.set_prop(intent.id, intent.class, intent.name, value) {
         Ok(()) => Ok(()),
         Err(PropFault::Memory) => Err(Memory),
@@ -44,12 +44,7 @@ fn set_intent(alloc: Global, scene: &mut Scene, intent: &Intent) -> Result<(), M
 
 /// Sets the property, unless it breaks a rule.
 #[tactic(auto, using(crate::proofs::IntentLemmas::may_try))]
-fn try_intent(
-    alloc: Global,
-    scene: &mut Scene,
-    seat: SeatNo,
-    intent: &Intent,
-) -> Result<Option<Refusal>, Memory>
+fn try_intent(scene: &mut Scene, seat: SeatNo, intent: &Intent) -> Result<Option<Refusal>, Memory>
     requires { IsSettable intent.now }
     ensures { IfOk result (λ refusal. Tries seat intent.now scene.old refusal scene.new) }
 {
@@ -57,19 +52,14 @@ fn try_intent(
     if let Some(refusal) = intent_rule(scene, seat, intent) {
         return Ok(Some(refusal));
     }
-    set_intent(alloc, scene, intent)?;
+    set_intent(scene, intent)?;
     Ok(None)
 }
 
 /// Sets the properties that a run of the seat means to set, in order, each by the rules of a property that the seat sets by a
 /// command. `Memory` for want of memory.
 #[tactic(auto, using(crate::proofs::IntentLemmas::set_more, crate::proofs::IntentLemmas::set_stops, crate::proofs::IntentLemmas::set_ends))]
-pub fn set_intents(
-    alloc: Global,
-    scene: &Scene,
-    seat: SeatNo,
-    intents: &Intents,
-) -> Result<IntentsSet, Memory>
+pub fn set_intents(scene: &Scene, seat: SeatNo, intents: &Intents) -> Result<IntentsSet, Memory>
     ensures { IfOk result (IsSetBy scene.now seat intents.now) }
 {
     let list = intents.intents();
@@ -78,7 +68,7 @@ pub fn set_intents(
     }
     let mut after = scene.copy()?;
     for intent in list {
-        if let Some(refusal) = try_intent(alloc, &mut after, seat, intent)? {
+        if let Some(refusal) = try_intent(&mut after, seat, intent)? {
             return Ok(IntentsSet::Refused(refusal));
         }
     }
@@ -87,7 +77,6 @@ pub fn set_intents(
 
 /// The scene once they are set; none, where there is none to set.
 pub(crate) fn with_intents(
-    alloc: Global,
     scene: &Scene,
     seat: SeatNo,
     intents: &Intents,
@@ -95,7 +84,7 @@ pub(crate) fn with_intents(
     requires { MaySetAll scene.now seat intents.now }
     ensures { IfOk result (λ after. unwrap_or after scene.now ≡ with_intents_lem intents.now scene.now) }
 {
-    match set_intents(alloc, scene, seat, intents)? {
+    match set_intents(scene, seat, intents)? {
         IntentsSet::Set(after) => Ok(after),
         IntentsSet::Refused(_) => unreachable!(),
     }

@@ -8,15 +8,13 @@ use command_json::Command;
 use names::{Memory, Tag, Text};
 use seat_random::SeatStream;
 use seats::{BookFault, SeatBook};
-use std::alloc::Global;
 
-fn set_macro(alloc: Global, book: &mut SeatBook, name: Tag, text: &Text) -> Result<(), Memory>
+fn set_macro(book: &mut SeatBook, name: Tag, text: &Text) -> Result<(), Memory>
     requires { macro_fault book.old.macros name ≡ None }
     ensures set { OnOk result (book.new ≡ with_macro name text.now book.old) }
     ensures unchanged { OnErr result (book.new ≡ book.old) }
 {
-    let text = Text::copy(alloc, text.text())?;
-    match book.set_macro(name, text) {
+    match book.set_macro(name, text.share()?) {
         Ok(()) => Ok(()),
         Err(BookFault::Memory) => Err(Memory),
         Err(BookFault::MacroLimit) => unreachable!(),
@@ -26,7 +24,7 @@ fn set_macro(alloc: Global, book: &mut SeatBook, name: Tag, text: &Text) -> Resu
 /// The seat's macro is set or removed, where its command does this. That it may is one of the rules, which an accepted command
 /// breaks none of. After `Memory` the book is as before.
 #[tactic(auto, using(crate::proofs::NewTexts::has_room))]
-pub fn set_text(alloc: Global, book: &mut SeatBook, command: &Command) -> Result<(), Memory>
+pub fn set_text(book: &mut SeatBook, command: &Command) -> Result<(), Memory>
     requires { setting_rule book.old.macros (new_text_in command.now) ≡ None }
     ensures set { OnOk result (book.new ≡ setting_text (new_text_in command.now) book.old) }
     ensures unchanged { OnErr result (book.new ≡ book.old) }
@@ -35,7 +33,7 @@ pub fn set_text(alloc: Global, book: &mut SeatBook, command: &Command) -> Result
         return Ok(());
     };
     match text {
-        Some(text) => set_macro(alloc, book, *name, text),
+        Some(text) => set_macro(book, *name, text),
         None => {
             let _there = book.drop_macro(*name);
             Ok(())

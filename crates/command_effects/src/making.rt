@@ -39,7 +39,7 @@ pub(crate) fn new_token(
 {
     Ok(Token {
         id,
-        name: Text::copy(alloc, name.text())?,
+        name: name.share()?,
         map,
         cell,
         size,

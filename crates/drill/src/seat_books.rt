@@ -38,7 +38,7 @@ fn book_of(alloc: Global, number: u8) -> Result<SeatBook, Memory>
     let Ok(key) = format!(in alloc; "k{number}") else {
         return Err(Memory);
     };
-    let book = SeatBook::new(alloc, seat, Text::new(key), [number; 32], 0);
+    let book = SeatBook::new(alloc, seat, Text::new(key)?, [number; 32], 0);
     if number == 0 {
         return with_tags(book, alloc);
     }

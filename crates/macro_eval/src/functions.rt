@@ -20,6 +20,7 @@ use crate::operators::{number, shown, text, truth, whole};
 use crate::setting::Setting;
 use crate::state::State;
 use crate::stop::{FaultKind, MacroStop, fault};
+use crate::texts::copied;
 use crate::value::Value;
 use macro_grammar::Function;
 use names::{PropClass, Tag, Text, TokenId};
@@ -81,10 +82,7 @@ impl Setting<'_> {
         let Some(value) = self.readable(class, token, name) else {
             return Err(fault(FaultKind::NoProp, at));
         };
-        match Text::copy(self.alloc, value.text()) {
-            Ok(value) => text(at, value),
-            Err(_) => Err(MacroStop::Memory),
-        }
+        text(at, copied(value)?)
     }
 
     fn has_property(&self, at: u32, token: &Value, name: &Value) -> Result<Value, MacroStop>
@@ -116,10 +114,7 @@ impl Setting<'_> {
         let Some(argument) = self.args.get(place) else {
             return Err(fault(FaultKind::BadArg, at));
         };
-        match Text::copy(self.alloc, argument.text()) {
-            Ok(argument) => text(at, argument),
-            Err(_) => Err(MacroStop::Memory),
-        }
+        text(at, copied(argument)?)
     }
 
     /// A function of one argument.

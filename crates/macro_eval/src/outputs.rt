@@ -14,7 +14,7 @@ use crate::said::{Output, Said};
 use crate::setting::Setting;
 use crate::state::State;
 use crate::stop::{FaultKind, MacroStop, fault};
-use crate::values::copied;
+use crate::texts::copied;
 use macro_parse::{Options, Piece};
 
 /// How many bytes all pieces have at most.
@@ -69,7 +69,7 @@ impl Setting<'_> {
     {
         match piece {
             Piece::Plain { at: _, text } => {
-                let text = copied(self.alloc, text)?;
+                let text = copied(text)?;
                 Ok(Said {
                     to: Some(self.to),
                     text,

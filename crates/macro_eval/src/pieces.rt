@@ -18,7 +18,7 @@ use crate::operators::{number, shown};
 use crate::setting::Setting;
 use crate::state::State;
 use crate::stop::{FaultKind, MacroStop, fault};
-use crate::texts::{joined, keep};
+use crate::texts::{joined, keep, text_of};
 use crate::value::Value;
 use crate::way::Way;
 use chat::To;
@@ -236,7 +236,7 @@ impl Setting<'_> {
         ensures { Answers (body_of (given self.now) (TreeNumber 0 0) (second_at self.now.nodes.now second) SecondWay (running state.old)) result state.new }
     {
         match second {
-            None => Ok(Text::new(String::new(self.alloc))),
+            None => text_of(String::new(self.alloc)),
             Some(node) => self.shown_of(node, state),
         }
     }

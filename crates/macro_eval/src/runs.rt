@@ -15,7 +15,7 @@ use crate::said::Said;
 use crate::setting::Setting;
 use crate::state::State;
 use crate::stop::MacroStop;
-use crate::texts::{keep, put_behind};
+use crate::texts::{keep, put_behind, text_of};
 use chat::To;
 use macro_parse::{Macro, Node, Piece};
 use names::{SeatNo, Text, Texts};
@@ -69,7 +69,7 @@ impl Setting<'_> {
         for said in output {
             self.add_said(said, seat, &mut whole)?;
         }
-        Ok(Text::new(whole))
+        text_of(whole)
     }
 
     /// The text of each seat.

@@ -16,6 +16,7 @@ use crate::operators::{combined, decides, inverted, lastly, negated, number, tex
 use crate::setting::Setting;
 use crate::state::State;
 use crate::stop::MacroStop;
+use crate::texts::copied;
 use crate::value::Value;
 use macro_grammar::{Function, Operator};
 use macro_parse::{Arguments, Node};
@@ -83,23 +84,12 @@ impl Setting<'_> {
     }
 }
 
-/// An equal text.
-pub(crate) fn copied(alloc: Global, text: &Text) -> Result<Text, MacroStop>
-    ensures text { IfOk result (λ t. t ≡ text.now) }
-    ensures memory { IfErr result (λ stop. stop ≡ MacroStop.Memory) }
-{
-    match Text::copy(alloc, text.text()) {
-        Ok(text) => Ok(text),
-        Err(_) => Err(MacroStop::Memory),
-    }
-}
-
 impl Setting<'_> {
     /// A quoted text.
     fn quoted(&self, at: u32, quoted: &Text) -> Result<Value, MacroStop>
         ensures { (h : Held) → Answers (text_lem at quoted.now (running h)) result h }
     {
-        let copy = copied(self.alloc, quoted)?;
+        let copy = copied(quoted)?;
         text(at, copy)
     }
 

@@ -62,8 +62,11 @@ pub(crate) fn text_of(bytes: Vec<u8>) -> Result<Text, Stop>
     ensures text { IfOk result (λ text. text ≡ bytes.items) }
     ensures memory { IfErr result (λ stop. stop ≡ Stop.Memory) }
 {
-    match String::from_utf8(bytes) {
-        Ok(text) => Ok(Text::new(text)),
+    let Ok(text) = String::from_utf8(bytes) else {
+        return Err(Stop::Memory);
+    };
+    match Text::new(text) {
+        Ok(text) => Ok(text),
         Err(_) => Err(Stop::Memory),
     }
 }

@@ -25,3 +25,12 @@ fn an_id_is_written(rt: HostRuntime) -> Result<(), Fail> {
     assert_eq!(rt; text.text(), "32:ann_2");
     Ok(())
 }
+
+#[test]
+fn a_text_is_shared(rt: HostRuntime) -> Result<(), Fail> {
+    let text = Text::new(String::from_str(rt.alloc(), "Ann")?)?;
+    let again = text.share()?;
+    drop(text);
+    assert_eq!(rt; again.text(), "Ann");
+    Ok(())
+}

@@ -1,9 +1,11 @@
 //! Texts and lines that own their bytes.
 ghost use Rattle.std.specs.Prelude.{◌≡◌, ℕ, List, IfOk, string_bytes};
+ghost use Rattle.std.specs.Arc.{arc_str_bytes};
 
 use crate::memory::Memory;
 use std::alloc::{AllocError, Global};
 use std::marker::Model;
+use std::sync::ArcStr;
 
 /// Bytes that are owned, such as a line of input. They need not be UTF-8.
 #[derive(Drop)]
@@ -51,16 +53,18 @@ impl LineText {
     }
 }
 
-/// A text in UTF-8 that is owned. Contracts see its bytes.
+/// A text in UTF-8 that never changes. Contracts see its bytes.
+///
+/// It may have several owners, which share its bytes.
 #[derive(Drop)]
 pub struct Text {
-    text: String,
+    text: ArcStr,
 }
 
 impl Model for Text {
     ghost Value = { List ℕ };
 
-    ghost view = { λ t. string_bytes t.text };
+    ghost view = { λ t. arc_str_bytes t.text };
 }
 
 impl Text {
@@ -68,25 +72,31 @@ impl Text {
     pub fn copy(alloc: Global, text: &str) -> Result<Text, Memory>
         ensures { IfOk result (λ t. t ≡ text.now) }
     {
-        match String::from_str(alloc, text) {
+        match ArcStr::from_str(alloc, text) {
             Ok(text) => Ok(Text { text }),
             Err(_) => Err(Memory),
         }
     }
 
-    /// This text, without a copy.
-    pub fn new(text: String) -> Text
-        ensures { result ≡ string_bytes text }
+    /// This text, without a copy of its bytes, or `Memory` for want of memory.
+    pub fn new(text: String) -> Result<Text, Memory>
+        ensures { IfOk result (λ t. t ≡ string_bytes text) }
     {
-        Text { text }
+        match ArcStr::from_string(text) {
+            Ok(text) => Ok(Text { text }),
+            Err(_) => Err(Memory),
+        }
     }
 
-    /// The text, given back without a copy.
-    pub fn into_string(self) -> String
-        ensures { string_bytes result ≡ self }
+    /// This text once more, which shares its bytes: it takes no memory. `Memory` where it has as many owners as can be
+    /// counted.
+    pub fn share(&self) -> Result<Text, Memory>
+        ensures { IfOk result (λ t. t ≡ self.now) }
     {
-        let Text { text } = self;
-        text
+        match self.text.clone() {
+            Ok(text) => Ok(Text { text }),
+            Err(_) => Err(Memory),
+        }
     }
 
     /// The text.

@@ -43,7 +43,7 @@ impl TokenId {
         ensures { IfOk result (λ text. text ≡ id_text self.now) }
     {
         match format!(in alloc; "{}:{}", self.maker.number(), self.tag) {
-            Ok(text) => Ok(Text::new(text)),
+            Ok(text) => Text::new(text),
             Err(_) => Err(Memory),
         }
     }

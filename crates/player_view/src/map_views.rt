@@ -156,11 +156,11 @@ fn exposed_to(alloc: Global, scene: &Scene, seat: SeatNo, map: &GridMap) -> Resu
     }
 }
 
-/// A list with room for so many letters.
-fn room_for(alloc: Global, count: u32) -> Result<Vec<(Cell, u8)>, Memory>
+/// A list with room for so many items.
+pub(crate) fn room_for<T>(alloc: Global, count: usize) -> Result<Vec<T>, Memory>
     ensures { IfOk result (λ list. list.items ≡ []) }
 {
-    match Vec::with_capacity(alloc, count as usize) {
+    match Vec::with_capacity(alloc, count) {
         Ok(list) => Ok(list),
         Err(_) => Err(Memory),
     }
@@ -196,11 +196,18 @@ fn letters_in(alloc: Global, map: &GridMap, cells: &CellSet) -> Result<Letters, 
     requires { cells.now.extent ≡ map.now.walls.extent }
     ensures { IfOk result (λ letters. letters ≡ letters_in map.now cells.now) }
 {
-    let mut list = room_for(alloc, cells.count())?;
+    Letters::new(letter_list(alloc, map, cells)?)
+}
+
+fn letter_list(alloc: Global, map: &GridMap, cells: &CellSet) -> Result<Vec<(Cell, u8)>, Memory>
+    requires { cells.now.extent ≡ map.now.walls.extent }
+    ensures { IfOk result (λ list. list.items ≡ letters_in map.now cells.now) }
+{
+    let mut list = room_for(alloc, cells.count() as usize)?;
     for run in cells.runs() {
         add_run(map, run, &mut list)?;
     }
-    Ok(Letters { list })
+    Ok(list)
 }
 
 /// The view of the map of that name, if there is one.
@@ -233,7 +240,7 @@ fn letters_like(
 {
     if let Some(older) = older {
         if older.exposed.size() == cells.size() && older.exposed.equals(cells) {
-            return older.letters.copy();
+            return older.letters.share();
         }
     }
     letters_in(alloc, map, cells)

@@ -1,5 +1,5 @@
 //! What a seat sees of a scene.
-ghost use Rattle.std.specs.Prelude.{◌≡◌, ◌<◌, ◌≤◌, ◌+◌, ◌++◌, ◌∷◌, [], IfOk, OnOk, map, take, length};
+ghost use Rattle.std.specs.Prelude.{◌≡◌, ◌<◌, ◌≤◌, ◌+◌, ◌++◌, ◌∷◌, [], IfOk, IfSome, OnOk, map, option_copied, take, length};
 ghost use Rattle.player_view.specs.Fields.{HasFields};
 ghost use Rattle.player_view.specs.Lettered.{HaveLetters};
 ghost use Rattle.player_view.specs.Follows.{Follows, ViewsFollow};
@@ -137,19 +137,19 @@ pub fn view_of(alloc: Global, scene: &Scene, seat: SeatNo, fields: &Fields) -> R
     seat_view(alloc, scene, seat, fields, &[], &[])
 }
 
-/// The same, by what was found before. `older` is an older view of the seat, of maps with the same letters: of a map of
-/// which the same cells are exposed they are taken from there. `seen` has, at the places of the scene's exposed sets,
-/// what their players see of their maps; where a set has nothing at its place, as where `seen` is empty, that is found
-/// anew.
+/// The same, by what was found before. `older` is an older view of the seat, if there is one, of maps with the same letters:
+/// of a map of which the same cells are exposed they are taken from there. `seen` has, at the places of the scene's exposed
+/// sets, what their players see of their maps; where a set has nothing at its place, as where `seen` is empty, that is
+/// found anew.
 pub fn view_after(
     alloc: Global,
     scene: &Scene,
     seat: SeatNo,
     fields: &Fields,
-    older: &View,
+    older: Option<&View>,
     seen: &[CellSet],
 ) -> Result<View, Memory>
-    requires older { HaveLetters scene.now.maps older.now.maps }
+    requires older { IfSome (option_copied older) (λ v. HaveLetters scene.now.maps v.maps) }
     requires seat { seat ≤ scene.now.fog.players }
     requires fields { HasFields scene.now fields.now }
     requires seen { AreSeen scene.now seen.now }
@@ -162,7 +162,11 @@ pub fn view_after(
     ensures told { 1 ≤ seat → IfOk result (IsTold scene.now seat) }
 {
     open_tables(scene);
-    seat_view(alloc, scene, seat, fields, older.maps.items(), seen)
+    let maps = match older {
+        Some(older) => older.maps.items(),
+        None => &[],
+    };
+    seat_view(alloc, scene, seat, fields, maps, seen)
 }
 
 /// Opens the tables of both scenes: where the second follows the first, so does what each seat sees.

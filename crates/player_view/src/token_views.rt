@@ -9,7 +9,7 @@ ghost use Rattle.player_view.specs.Sight.{owns};
 ghost use Rattle.player_view.specs.View.{gm_part, has_map, has_token, map_view, owned_part, token_view};
 ghost use Rattle.player_view.specs.Walk.{is_open_by, is_open_in};
 
-use crate::map_views::find_view;
+use crate::map_views::{find_view, room_for};
 use crate::reads::{acts_on, is_gm, owns, token_at};
 use cells::{Cell, CellSet};
 use names::{Layer, Memory, SeatNo, Tag, Text};
@@ -18,18 +18,13 @@ use tokens::{Owners, Props, Token};
 use views::{GmPart, MapView, MapViews, OwnedPart, PropTexts, SeatNos, TokenView, TokenViews};
 use world::Scene;
 
-fn add_prop(
-    alloc: Global,
-    props: &Props,
-    place: usize,
-    list: &mut Vec<(Tag, Text)>,
-) -> Result<(), Memory>
+fn add_prop(props: &Props, place: usize, list: &mut Vec<(Tag, Text)>) -> Result<(), Memory>
     requires place { place < length props.now }
     requires so_far { list.old.items ≡ take place props.now }
     ensures { OnOk result (list.new.items ≡ take (place + 1) props.now) }
 {
     let (name, value) = props.at(place);
-    let value = Text::copy(alloc, value.text())?;
+    let value = value.share()?;
     push_prop(list, (name, value))?;
     Ok(())
 }
@@ -49,7 +44,7 @@ fn prop_texts(alloc: Global, props: &Props) -> Result<PropTexts, Memory>
 {
     let mut list = Vec::new(alloc);
     for place in 0..props.len() {
-        add_prop(alloc, props, place, &mut list)?;
+        add_prop(props, place, &mut list)?;
     }
     Ok(PropTexts { list })
 }
@@ -72,8 +67,26 @@ fn add_owner(owners: Owners, number: u8, list: &mut Vec<SeatNo>) -> Result<(), M
 }
 
 /// The owners, ascending.
-#[tactic(auto, using(crate::proofs::ListLemmas::filter_range_next))]
 fn owner_numbers(alloc: Global, owners: Owners) -> Result<SeatNos, Memory>
+    ensures { IfOk result (λ seats. seats ≡ seats_of owners) }
+{
+    // Most tokens have none, which needs no look at each seat.
+    if owners == Owners::none() {
+        return Ok(no_owners(alloc));
+    }
+    all_owners(alloc, owners)
+}
+
+fn no_owners(alloc: Global) -> SeatNos
+    ensures { result ≡ seats_of 0 }
+{
+    SeatNos {
+        list: Vec::new(alloc),
+    }
+}
+
+#[tactic(auto, using(crate::proofs::ListLemmas::filter_range_next))]
+fn all_owners(alloc: Global, owners: Owners) -> Result<SeatNos, Memory>
     ensures { IfOk result (λ seats. seats ≡ seats_of owners) }
 {
     let mut list = Vec::new(alloc);
@@ -134,7 +147,7 @@ fn token_view(
 {
     Ok(TokenView {
         id: token.id,
-        name: Text::copy(alloc, token.name.text())?,
+        name: token.name.share()?,
         map: token.map,
         cell: token.cell,
         size: token.size,
@@ -265,7 +278,7 @@ pub(crate) fn token_views(
     requires { views.now ≡ map (map_view scene.now seat) (filter (has_map seat) scene.now.maps) }
     ensures { IfOk result (λ tokens. tokens ≡ map (token_view scene.now seat) (filter (has_token scene.now seat) scene.now.tokens)) }
 {
-    let mut list = Vec::new(alloc);
+    let mut list = room_for(alloc, scene.tokens().len())?;
     for place in 0..scene.tokens().len() {
         add_token(alloc, scene, seat, place, views, &mut list)?;
     }

@@ -76,7 +76,7 @@ impl SeatBook {
     pub fn copy(&self) -> Result<SeatBook, Memory>
         ensures { IfOk result (λ b. b ≡ self.now) }
     {
-        let key = Text::copy(self.alloc, self.key.text())?;
+        let key = self.key.share()?;
         let macros = self.macros.copy()?;
         let Ok(tags) = Vec::from_slice(self.alloc, self.tags.as_slice()) else {
             return Err(Memory);

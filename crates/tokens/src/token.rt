@@ -46,7 +46,7 @@ impl Token {
     {
         Ok(Token {
             id: self.id,
-            name: Text::copy(self.public.allocator(), self.name.text())?,
+            name: self.name.share()?,
             map: self.map,
             cell: self.cell,
             size: self.size,

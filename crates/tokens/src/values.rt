@@ -125,7 +125,7 @@ fn copy_values(values: &IndexMap<PropName, Text>) -> Result<IndexMap<PropName, T
     let mut copy = IndexMap::new(alloc);
     for place in 0..values.len() {
         let (name, value) = value_at(values, place);
-        put_value(&mut copy, name, Text::copy(alloc, value.text())?)?;
+        put_value(&mut copy, name, value.share()?)?;
     }
     Ok(copy)
 }

@@ -39,9 +39,7 @@ fn new_sights(alloc: Global, before: &SightTexts, after: &SightTexts) -> Result<
 fn other_letters(alloc: Global, before: &Letters, after: &Letters) -> Result<Letters, Memory>
     ensures { IfOk result (λ letters. letters ≡ puts_from same_letter before.now after.now) }
 {
-    Ok(Letters {
-        list: news(alloc, before.items(), after.items())?,
-    })
+    Letters::new(news(alloc, before.items(), after.items())?)
 }
 
 #[tactic(auto, using(crate::proofs::KeptLetters::none_where_kept))]
@@ -56,9 +54,7 @@ fn new_letters(
     ensures { IfOk result (λ letters. letters ≡ puts_from same_letter before.now.letters after.now.letters) }
 {
     if by_exposed && before.exposed.equals(&after.exposed) {
-        return Ok(Letters {
-            list: Vec::new(alloc),
-        });
+        return Letters::new(Vec::new(alloc));
     }
     other_letters(alloc, &before.letters, &after.letters)
 }

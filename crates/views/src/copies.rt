@@ -1,9 +1,9 @@
 //! Copies of views and their parts. Each is the same once more, or `Memory` for want of memory.
 ghost use Rattle.std.specs.Prelude.{◌≡◌, IfOk};
 
-use crate::lists::{Letters, LightTexts, MapViews, PropTexts, SeatNos, SightTexts, TokenViews};
+use crate::lists::{LightTexts, MapViews, PropTexts, SeatNos, SightTexts, TokenViews};
 use crate::view::{GmPart, MapView, OwnedPart, TokenView, View};
-use names::{Memory, Text};
+use names::Memory;
 
 impl LightTexts {
     /// The same list once more.
@@ -29,18 +29,6 @@ impl SightTexts {
     }
 }
 
-impl Letters {
-    /// The same list once more.
-    pub fn copy(&self) -> Result<Letters, Memory>
-        ensures { IfOk result (λ copy. copy ≡ self.now) }
-    {
-        match Vec::from_slice(*self.list.allocator(), self.items()) {
-            Ok(list) => Ok(Letters { list }),
-            Err(_) => Err(Memory),
-        }
-    }
-}
-
 impl SeatNos {
     /// The same list once more.
     pub fn copy(&self) -> Result<SeatNos, Memory>
@@ -61,7 +49,7 @@ impl PropTexts {
         let alloc = *self.list.allocator();
         let mut list = Vec::new(alloc);
         for (name, value) in self.items() {
-            let value = Text::copy(alloc, value.text())?;
+            let value = value.share()?;
             if list.push((*name, value)).is_err() {
                 return Err(Memory);
             }
@@ -119,10 +107,9 @@ impl TokenView {
     pub fn copy(&self) -> Result<TokenView, Memory>
         ensures { IfOk result (λ copy. copy ≡ self.now) }
     {
-        let alloc = *self.props.list.allocator();
         Ok(TokenView {
             id: self.id,
-            name: Text::copy(alloc, self.name.text())?,
+            name: self.name.share()?,
             map: self.map,
             cell: self.cell,
             size: self.size,
@@ -146,7 +133,7 @@ impl MapView {
             shown: self.shown,
             seen: self.seen.copy()?,
             exposed: self.exposed.copy()?,
-            letters: self.letters.copy()?,
+            letters: self.letters.share()?,
         })
     }
 }

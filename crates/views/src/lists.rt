@@ -1,11 +1,12 @@
 //! The small lists of views and changes. Contracts see each as the list of its items.
-ghost use Rattle.std.specs.Prelude.{◌≡◌};
+ghost use Rattle.std.specs.Prelude.{◌≡◌, IfOk};
 
 use crate::change::MapChange;
 use crate::view::{MapView, TokenView};
 use cells::Cell;
-use names::{SeatNo, Tag, Text, TokenId};
+use names::{Memory, SeatNo, Tag, Text, TokenId};
 use std::marker::Model;
+use std::sync::Arc;
 
 /// Light types: names with radii in cells.
 #[derive(Drop)]
@@ -76,27 +77,48 @@ impl PropTexts {
     }
 }
 
-/// Terrain: cells with letters.
+/// Terrain: cells with letters. A map has many, and most changes leave them, so copies share them.
 #[derive(Drop)]
 pub struct Letters {
-    pub list: Vec<(Cell, u8)>,
+    shared: Arc<Vec<(Cell, u8)>>,
 }
 
 impl Model for Letters {
     ghost use Rattle.std.specs.Prelude.{List, ℕ};
     ghost use Rattle.cells.specs.declared.cell.Cell.{Cell};
+    ghost use Rattle.std.specs.Arc.{arc_value};
 
     ghost Value = { List (Cell × ℕ) };
 
-    ghost view = { λ l. l.list.items };
+    ghost view = { λ l. (arc_value l.shared).items };
 }
 
 impl Letters {
+    /// These items, or `Memory` for want of memory.
+    pub fn new(list: Vec<(Cell, u8)>) -> Result<Letters, Memory>
+        ensures { IfOk result (λ letters. letters ≡ list.items) }
+    {
+        match Arc::new(*list.allocator(), list) {
+            Ok(shared) => Ok(Letters { shared }),
+            Err(_) => Err(Memory),
+        }
+    }
+
     /// The items, in order.
     pub fn items(&self) -> &[(Cell, u8)]
         ensures { result.now ≡ self.now }
     {
-        self.list.as_slice()
+        self.shared.as_slice()
+    }
+
+    /// The same list once more, shared: it takes no memory. `Memory` where it has as many owners as can be counted.
+    pub fn share(&self) -> Result<Letters, Memory>
+        ensures { IfOk result (λ letters. letters ≡ self.now) }
+    {
+        match Arc::try_clone(&self.shared) {
+            Ok(shared) => Ok(Letters { shared }),
+            Err(_) => Err(Memory),
+        }
     }
 }
 

@@ -85,12 +85,12 @@ fn root_above(limit: u16, root: u8) -> u8
     ensures low { result * result ≤ limit }
     ensures high { limit < (result + 1) * (result + 1) }
 {
-    for next in root..255 {
-        if limit < square(next as u16 + 1) {
-            return next;
-        }
+    // Without a last number the compiler makes no wide steps of a search that is short.
+    let mut root = root as u32;
+    while (root + 1) * (root + 1) <= limit as u32 {
+        root += 1;
     }
-    255
+    root as u8
 }
 
 fn square(number: u16) -> u16

@@ -7,4 +7,4 @@ returns c =
     c.in_ok-push_prop.ensures
     ∙ one_taken c.args.props.now c.args.place (c.at-name.result.0, c.at-name.result.1.now) c.args.list.now.items
     (c.at-name.result.0, c.in_ok-value.value) c.requires.so_far c.at-name.ensures.entry
-    (ap (λ value. (c.at-name.result.0, value)) (c.in_ok-value.ensures ∙ c.text.ensures))
+    (ap (λ value. (c.at-name.result.0, value)) c.in_ok-value.ensures)

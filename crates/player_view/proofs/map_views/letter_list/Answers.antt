@@ -5,7 +5,7 @@ use Rattle.std.proofs.lemmas.List.Elements.{All-tail}
 use Rattle.cells.specs.Runs.{IsMaximalRun, runs_of}
 use Rattle.player_view.specs.Walk.{run_letters}
 use Rattle.player_view.proofs.LetterRuns.{by_runs, run_more}
-use Rattle.player_view.proofs.map_views.letters_in.Goals as goal
+use Rattle.player_view.proofs.map_views.letter_list.Goals as goal
 
 pub loop-run-preserved : goal.loop-run-preserved
 loop-run-preserved c =

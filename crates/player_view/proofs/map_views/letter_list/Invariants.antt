@@ -3,7 +3,7 @@ use Rattle.std.specs.Prelude.{All}
 use Rattle.std.specs.List.{flat_map}
 use Rattle.cells.specs.Runs.{IsMaximalRun, runs_of}
 use Rattle.player_view.specs.Walk.{run_letters}
-use Rattle.player_view.proofs.map_views.letters_in.Given as goal
+use Rattle.player_view.proofs.map_views.letter_list.Given as goal
 
 abbrev pub invariant-loop-run : goal.invariant-loop-run
 invariant-loop-run l = record {

@@ -1,7 +1,7 @@
 use Rattle.std.proofs.Common.{◌≡◌, ◌∙◌, ap, arith}
 use Rattle.std.specs.List.{filter, range_with_len}
 use Rattle.tokens.specs.Owners.{has_owner}
-use Rattle.player_view.proofs.token_views.owner_numbers.Goals as goal
+use Rattle.player_view.proofs.token_views.all_owners.Goals as goal
 
 pub returns : goal.returns
 returns c =
