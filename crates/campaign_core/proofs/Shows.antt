@@ -10,11 +10,12 @@ use Rattle.views.specs.declared.view.View.{View}
 use Rattle.view_keep.specs.declared.keep.KeptView.{KeptView}
 use Rattle.view_keep.specs.Kept.{view_at}
 use Rattle.command_effects.specs.Settle.{IsSettled}
-use Rattle.view_marks.specs.Marks.{leaves_maps, marks}
+use Rattle.view_marks.specs.Marks.{leaves_letters, marks}
 use Rattle.view_marks.proofs.Marked.{unmarked}
-use Rattle.view_marks.proofs.Maps.{leaves_maps as maps_are_left}
+use Rattle.view_marks.proofs.Letters.{leaves_letters as letters_are_left}
 use Rattle.world.specs.Scene.{Scene}
 use Rattle.player_view.specs.View.{view_of}
+use Rattle.player_view.specs.Lettered.{SameLetters}
 use Rattle.player_view.specs.Tables.{HasTables}
 use Rattle.player_view.proofs.OlderLetters.{letters_stay}
 use Rattle.player_view.specs.Asked.{Asked}
@@ -27,7 +28,9 @@ use Rattle.campaign_law.specs.Session.{changes_state}
 use Rattle.campaign_law.proofs.Lists.{mapped_from_more, slice_get-mapped_from}
 use Rattle.campaign_law.proofs.Sessions.{seat_at-after}
 use Rattle.campaign_law.proofs.Outcomes.{IsFit, outcome_fits, absent_joins}
+use Rattle.campaign_law.proofs.ScenesOfWorlds.{tables_after}
 use Rattle.campaign_law.proofs.Seats.{joined_before}
+use Rattle.campaign_law.specs.Worlds.{FitsTogether}
 use Rattle.campaign_core.specs.declared.next.Changed.{Changed}
 use Rattle.campaign_core.specs.Changed.{IsChanged}
 use Rattle.campaign_core.specs.Places.{Place, Standing, world_at}
@@ -87,16 +90,16 @@ still_by w e fields (Some changed) seat settled h is = unmarked (steps_of w e) (
     none_marked true k = let no : false ≡ true = k in cc
     none_marked false k = refl
 
-maps_stay : (w : World) (e : Entry) → leaves_maps (outcome_of w e).done ≡ true → (scene_after w e).maps ≡ w.scene.maps
+same_letters : (w : World) (e : Entry) → leaves_letters (outcome_of w e).done ≡ true → SameLetters w.scene.maps (scene_after w e).maps
 unfolding scene_after
-maps_stay w e leaves = maps_are_left (steps_of w e) (outcome_of w e).intents (seat_of e) w.scene (outcome_of w e).done leaves
+same_letters w e leaves = letters_are_left (steps_of w e) (outcome_of w e).intents (seat_of e) w.scene (outcome_of w e).done leaves
 
--- a scene that stays, or a command that doesn't mark the seat; and letters of maps that stay
-pub stays_in_view : (w : World) (e : Entry) (fields : List (TokenId × Cells)) (changed : Option Changed) → HasTables w.scene → IsSettled w.scene → IsChanged w e fields changed
+-- a scene that stays, or a command that doesn't mark the seat; and letters that stay
+pub stays_in_view : (w : World) (e : Entry) (fields : List (TokenId × Cells)) (changed : Option Changed) → FitsTogether w → HasTables w.scene → IsSettled w.scene → IsChanged w e fields changed
     → AreStill (is_none changed) (outcome_of w e) w.scene (scene_after w e)
-stays_in_view w e fields changed tables settled h = record {
+stays_in_view w e fields changed fits tables settled h = record {
   each = λ seat is. still_by w e fields changed seat settled h is;
-  letters = λ leaves. letters_stay w.scene (scene_after w e) tables (maps_stay w e leaves);
+  letters = λ leaves. letters_stay w.scene (scene_after w e) tables (tables_after w e fits tables) (same_letters w e leaves);
 }
 
 one_stands : (w : World) (e : Entry) (kept : List KeptView) (made : List (Option View)) (same : Bool) (seat : ℕ) (o : Option Seat) → seat_at w seat ≡ o

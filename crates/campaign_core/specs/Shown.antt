@@ -4,7 +4,7 @@ use Rattle.seats.specs.SeatState.{is_joined}
 use Rattle.views.specs.declared.view.View.{View}
 use Rattle.view_keep.specs.declared.keep.KeptView.{KeptView}
 use Rattle.view_keep.specs.Kept.{view_at}
-use Rattle.view_marks.specs.Marks.{leaves_maps, marks}
+use Rattle.view_marks.specs.Marks.{leaves_letters, marks}
 use Rattle.world.specs.Scene.{Scene}
 use Rattle.player_view.specs.View.{view_of}
 use Rattle.player_view.specs.Lettered.{LettersStay}
@@ -53,8 +53,8 @@ view_made_in (Some made) = made
 abbrev pub view_then : List (Option View) → List KeptView → ℕ → Option View
 view_then made kept seat = made_or (view_made_in (slice_get made seat)) (view_at seat kept)
 
--- each seat whose view is known to stay sees after the entry what it saw; and where what was done leaves the maps, their
--- letters stay
+-- each seat whose view is known to stay sees after the entry what it saw; and where what was done leaves the letters of
+-- the maps, they stay
 pub record AreStill (same : Bool) (o : Outcome) (before after : Scene) : Type 0 where
   pub each : (seat : ℕ) → is_kept same o seat ≡ true → view_of after seat ≡ view_of before seat
-  pub letters : leaves_maps o.done ≡ true → LettersStay before after
+  pub letters : leaves_letters o.done ≡ true → LettersStay before after

@@ -23,7 +23,7 @@ returns-clause-prepared g c =
     let nexts = c.in_ok-nexts.ensures.count in
     let views = ap length c.in_ok-nexts.ensures.views ∙ length-mapped_from _ 0 c.args.state.now.posts in
     let seen = views_stand w e c.args.keep.now.views p.views.items (is_none c.in_ok-changed.changed) c.requires.views
-    (stays_in_view w e c.args.keep.now.fields c.in_ok-changed.changed c.requires.tables c.requires.settled c.in_ok-changed.ensures.changed)
+    (stays_in_view w e c.args.keep.now.fields c.in_ok-changed.changed c.requires.fits c.requires.tables c.requires.settled c.in_ok-changed.ensures.changed)
     (c.in_ok-nexts.ensures.views ∙ sym (mapped_from-map _ (λ (x : Place). x.seat) 0 c.args.state.now.posts)) in
     record {
       state = c.in_ok-nexts.ensures.state;
