@@ -18,10 +18,10 @@ loop-post-init c =
     record {
       place = refl;
       book = first_left c.args.actor c.args.book;
-      count = ap length c.new.ensures.items;
+      count = ap length c.in_ok-nexts.ensures;
       made = subst (λ ns. AreMade (λ seat post. post_by seat (eqb c.args.actor seat) (with_book c.args.outcome.now c.args.book) (view_of c.args.glances.now.before.now seat) (view_of c.args.glances.now.after.now seat) post) ns 0 (map posted c.args.posts.now))
-          (sym c.new.ensures.items) (none_made _ _);
-      views = ap (λ vs. vs ++ mapped_from h 0 c.args.posts.now) c.new-2.ensures.items;
+          (sym c.in_ok-nexts.ensures) (none_made _ _);
+      views = ap (λ vs. vs ++ mapped_from h 0 c.args.posts.now) c.in_ok-views.ensures;
     }
 
 pub next_seat-requires-clause-own : goal.next_seat-requires-clause-own
