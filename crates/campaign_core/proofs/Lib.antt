@@ -18,3 +18,4 @@ pub mod Shows
 pub mod Running
 pub mod Lines
 pub mod Dumping
+pub mod Idle
