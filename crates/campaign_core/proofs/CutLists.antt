@@ -1,6 +1,5 @@
 -- The list of cuts, entry by entry.
-use Rattle.std.proofs.Common.{◌≡◌, ◌≤◌, ◌<◌, ℕ, ◌+◌, ◌++◌, Bool, true, false, cond, ◌&&◌, ◌||◌, eqb, leb, List, [], ◌∷◌, length, take, drop, Some, None, refl, sym, ◌∙◌, ap, arith, eqb-true}
-use Rattle.std.specs.List.{list_any}
+use Rattle.std.proofs.Common.{◌≡◌, ◌≤◌, ℕ, ◌++◌, Bool, true, false, ◌&&◌, ◌||◌, eqb, leb, List, [], ◌∷◌, length, take, refl, sym, ◌∙◌, ap, arith, eqb-true}
 use Rattle.std.proofs.lemmas.List.Folds.{list_any-append}
 use Rattle.std.proofs.lemmas.Bool.{leb-true, leb-false}
 use Rattle.std.proofs.lemmas.List.{length-append}
@@ -10,10 +9,9 @@ use Rattle.seats.specs.declared.seat_state.SeatState.{SeatState}
 use Rattle.seats.specs.declared.seat_state.SeatState.TheVariants.{Free, Joined, Closing}
 use Rattle.campaign_law.specs.declared.entry.Entry.{Entry}
 use Rattle.campaign_law.specs.declared.entry.Entry.TheVariants.{Join, Line, Leave, Taken, Cut}
-use Rattle.campaign_law.specs.Outcome.{seat_of}
 use Rattle.campaign_law.specs.World.{World, seat_at, replay}
 use Rattle.campaign_law.specs.Session.{standing, standing_after, changes_state}
-use Rattle.campaign_law.specs.Cuts.{is_joined_by, is_cut, cuts, is_cut_by, is_cut_since}
+use Rattle.campaign_law.specs.Cuts.{is_joined_by, cuts, is_cut_by, is_cut_since}
 use Rattle.campaign_law.proofs.CutSessions.{cut_more}
 use Rattle.campaign_core.specs.declared.cuts.SeatCut.{SeatCut}
 use Rattle.campaign_core.specs.CutList.{is_since, any_since, AreCuts, cut_of, cut_by}

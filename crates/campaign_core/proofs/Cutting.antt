@@ -1,14 +1,13 @@
 -- A Cut of a Joined seat is what a Leave of it is that drops lines.
-use Rattle.std.proofs.Common.{◌≡◌, ◌≤◌, ℕ, ◌+◌, Bool, true, false, cond, List, [], ◌∷◌, length, map, Some, None, refl, sym, ◌∙◌, ap, arith, eqb}
+use Rattle.std.proofs.Common.{◌≡◌, ◌≤◌, ℕ, ◌+◌, true, cond, length, Some, None, refl, sym, ◌∙◌, ap, arith, eqb}
 use Rattle.std.specs.Prelude.{Option, option_map, slice_get}
 use Rattle.std.proofs.lemmas.Option.{slice_get-map}
-use Rattle.seats.specs.Book.{Book, freed}
+use Rattle.seats.specs.Book.{freed}
 use Rattle.seats.specs.SeatState.{is_joined}
 use Rattle.seats.specs.declared.seat_state.SeatState.{SeatState}
 use Rattle.seats.specs.declared.seat_state.SeatState.TheVariants.{Free, Joined, Closing}
 use Rattle.player_view.specs.Asked.{Asked}
 use Rattle.player_view.specs.View.{view_of}
-use Rattle.world.specs.Scene.{Scene}
 use Rattle.command_effects.specs.Effects.{scene_by, steps_by}
 use Rattle.command_effects.specs.Settle.{settled, IsSettled}
 use Rattle.campaign_law.specs.declared.entry.Entry.{Entry}

@@ -1,5 +1,5 @@
 -- The world of a running campaign, as a campaign text may hold it.
-use Rattle.std.proofs.Common.{◌≡◌, ℕ, List, [], ◌∷◌, map, refl, sym, ap, ◌∙◌, subst}
+use Rattle.std.proofs.Common.{◌≡◌, List, [], ◌∷◌, map, refl, sym, ap, ◌∙◌, subst}
 use Rattle.std.specs.Prelude.{Option}
 use Rattle.seats.specs.Book.{Book}
 use Rattle.view_keep.specs.Kept.{Kept}

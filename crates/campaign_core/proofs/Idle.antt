@@ -1,5 +1,5 @@
 -- A seat to which an entry does nothing: another one acts, all see what they saw, and nothing is said.
-use Rattle.std.proofs.Common.{◌≡◌, ℕ, Bool, true, false, cond, ◌&&◌, ◌||◌, ◌++◌, ◌∙◌, List, [], Some, None, refl, sym, ap}
+use Rattle.std.proofs.Common.{◌≡◌, ℕ, Bool, true, false, ◌||◌, ◌++◌, ◌∙◌, [], Some, refl, sym, ap}
 use Rattle.std.specs.Prelude.{Option, not}
 use Rattle.seats.specs.Book.{Book}
 use Rattle.seats.specs.SeatState.{is_joined}

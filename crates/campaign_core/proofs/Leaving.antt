@@ -1,11 +1,11 @@
 -- A Leave changes the post of its seat alone, and needs one place of those that are kept for it.
-use Rattle.std.proofs.Common.{◌≡◌, ◌≢◌, ◌≤◌, ◌<◌, ℕ, zero, suc, ◌+◌, ◌-◌, ◌*◌, Bool, true, false, cond, ◌||◌, ◌&&◌, ◌++◌, eqb, List, [], ◌∷◌, length, map, drop, set, Some, None, refl, sym, ◌∙◌, ap, subst, arith, zero-add, add-zero, eq-eqb, eqb-true, max, min}
-use Rattle.std.specs.Prelude.{Option, option_map, slice_get, IfSome, unwrap_or}
+use Rattle.std.proofs.Common.{◌≡◌, ◌≢◌, ◌≤◌, ◌<◌, ℕ, zero, suc, ◌+◌, ◌-◌, ◌*◌, Bool, true, false, cond, ◌&&◌, ◌++◌, eqb, List, [], ◌∷◌, length, map, drop, set, Some, None, refl, sym, ◌∙◌, ap, subst, arith, zero-add, eqb-true}
+use Rattle.std.specs.Prelude.{Option, option_map, slice_get, IfSome}
 use Rattle.std.proofs.lemmas.Bool.Decides.{nat_tests}
 use Rattle.std.proofs.lemmas.List.{length-drop}
 use Rattle.std.proofs.lemmas.Option.{slice_get-get_or, slice_get_past, slice_get-map}
 use Rattle.std.specs.List.{ItemBy, AllByRecursion}
-use Rattle.seats.specs.SeatState.{is_free, is_joined, is_closing, closed}
+use Rattle.seats.specs.SeatState.{is_free, closed}
 use Rattle.seats.specs.declared.seat_state.SeatState.{SeatState}
 use Rattle.seats.specs.declared.seat_state.SeatState.TheVariants.{Free, Joined, Closing}
 use Rattle.views.specs.declared.view.View.{View}
@@ -14,19 +14,19 @@ use Rattle.command_effects.specs.Settle.{IsSettled}
 use Rattle.player_view.specs.Asked.{Asked}
 use Rattle.campaign_law.specs.declared.entry.Entry.{Entry}
 use Rattle.campaign_law.specs.declared.entry.Entry.TheVariants.{Leave}
-use Rattle.campaign_law.specs.Seat.{Seat, IsFreshSeat, freed_seat, is_let_go, let_go, settled, taken_to}
+use Rattle.campaign_law.specs.Seat.{Seat, IsFreshSeat, freed_seat, is_let_go, settled, taken_to}
 use Rattle.campaign_law.specs.Outcome.{Outcome, Report, nothing, of_steps, outcome_at, seat_of}
-use Rattle.campaign_law.specs.World.{World, seat_at, asked_of, report_of, steps_of, outcome_of, changed, addressed, view_lines, some_to_list, is_present, queued_reply, queued_lines, scene_after, mapped_from, replay}
+use Rattle.campaign_law.specs.World.{World, seat_at, asked_of, report_of, steps_of, outcome_of, addressed, view_lines, some_to_list, is_present, queued_lines, scene_after, mapped_from}
 use Rattle.campaign_law.specs.Session.{session, leaves, standing, changes_state}
 use Rattle.campaign_law.specs.State.{Post, State, world_in, post_by, post_after, mail_after, state_after, state_of}
 use Rattle.campaign_law.specs.Law.{IsOpening, answer_of}
 use Rattle.campaign_law.specs.Worlds.{FitsTogether}
-use Rattle.campaign_law.proofs.Lists.{ap₂, append_nil, length-mapped_from, mapped_from-same, mapped_from-itself}
+use Rattle.campaign_law.proofs.Lists.{ap₂, append_nil, mapped_from-same}
 use Rattle.campaign_law.proofs.Queues.{posts_bounded}
 use Rattle.campaign_law.proofs.Seats.{settled-free, settled-none}
-use Rattle.campaign_law.proofs.Sessions.{kept_at, IsKept, world_in-state_of}
-use Rattle.campaign_law.proofs.States.{post_found, slice_get-state_of}
-use Rattle.campaign_law.proofs.Settled.{scene_stays, replay_settled}
+use Rattle.campaign_law.proofs.Sessions.{kept_at, IsKept}
+use Rattle.campaign_law.proofs.States.{post_found}
+use Rattle.campaign_law.proofs.Settled.{scene_stays}
 use Rattle.campaign_law.proofs.Views.{same_no_change}
 use Rattle.campaign_core.specs.Places.{Place, posted}
 use Rattle.campaign_core.proofs.Nexts.{no_steps}
@@ -85,7 +85,7 @@ rests seat o v v' post sound none =
 abbrev leaving : Bool → Seat → Outcome
 leaving drop s = record nothing { book = Some (left_book drop s.book) }
 
-quiet : (seat : ℕ) (v : View) (present : Bool) (full : Bool) → full ≡ false → cond present (addressed seat [] ++ view_lines full v v) [] ≡ []
+pub quiet : (seat : ℕ) (v : View) (present : Bool) (full : Bool) → full ≡ false → cond present (addressed seat [] ++ view_lines full v v) [] ≡ []
 unfolding addressed
 quiet seat v true true h = cc
 quiet seat v true false h = ap some_to_list (same_no_change v)
@@ -126,7 +126,7 @@ eqb_same n = grind (arith, nat_tests)
 eqb_apart : (n m : ℕ) → n ≢ m → eqb n m ≡ false
 eqb_apart n m h = grind (arith, nat_tests)
 
-abbrev at_place : {A : Type 0} → (A → A) → ℕ → ℕ → A → A
+abbrev pub at_place : {A : Type 0} → (A → A) → ℕ → ℕ → A → A
 at_place f place p x = cond (eqb place p) (f x) x
 
 apart : {A : Type 0} (f : A → A) (place k : ℕ) (xs : List A) → place < k → mapped_from (at_place f place) k xs ≡ xs
@@ -148,11 +148,39 @@ none_there f place k zero (y ∷ ys) is at = cc
 none_there f place k (suc i) (y ∷ ys) is at =
     ap₂ (λ b zs. cond b (f y) y ∷ zs) (sym (eqb_apart place k (omega (arith, is)))) (none_there f place (suc k) i ys (omega (arith, is)) at)
 
-pub left_there : (seat : ℕ) (drop : Bool) (posts : List Post) (post : Post) → slice_get posts seat ≡ Some post → set posts seat (left_post drop post) ≡ left_posts seat drop posts
-left_there seat drop_it posts post at = put_there (left_post drop_it) seat 0 seat posts post (zero-add seat) at
+pub set_there : (f : Post → Post) (seat : ℕ) (posts : List Post) (post : Post) → slice_get posts seat ≡ Some post → set posts seat (f post) ≡ mapped_from (at_place f seat) 0 posts
+set_there f seat posts post at = put_there f seat 0 seat posts post (zero-add seat) at
 
-pub left_nowhere : (seat : ℕ) (drop : Bool) (posts : List Post) → slice_get posts seat ≡ None → posts ≡ left_posts seat drop posts
-left_nowhere seat drop_it posts at = none_there (left_post drop_it) seat 0 seat posts (zero-add seat) at
+pub set_nowhere : (f : Post → Post) (seat : ℕ) (posts : List Post) → slice_get posts seat ≡ None → posts ≡ mapped_from (at_place f seat) 0 posts
+set_nowhere f seat posts at = none_there f seat 0 seat posts (zero-add seat) at
+
+-- ---- an entry that does nothing to the scene and queues no line for other seats changes its own post alone
+
+own_at : (w : World) (e : Entry) (f : Post → Post) (p : ℕ) (post : Post) (acts : Bool) → eqb (seat_of e) p ≡ acts → scene_after w e ≡ w.scene → seat_at w p ≡ Some post.seat → IsSound post
+    → ((v : View) → queued_lines p false (Some post.seat) (outcome_of w e) v v ≡ [])
+    → ((v : View) → seat_at w (seat_of e) ≡ Some post.seat → post_by p true (outcome_of w e) v v post ≡ f post)
+    → post_by p acts (outcome_of w e) (view_of w.scene p) (view_of (scene_after w e) p) post ≡ cond acts (f post) post
+own_at w e f p post false is same at sound none own =
+    ap (λ scene. post_by p false (outcome_of w e) (view_of w.scene p) (view_of scene p) post) same
+    ∙ rests p (outcome_of w e) (view_of w.scene p) (view_of w.scene p) post sound (none (view_of w.scene p))
+own_at w e f p post true is same at sound none own =
+    ap (λ scene. post_by p true (outcome_of w e) (view_of w.scene p) (view_of scene p) post) same
+    ∙ own (view_of w.scene p) (ap (seat_at w) (eqb-true (seat_of e) p is) ∙ at)
+
+pub own_state : (state : State) (e : Entry) (f : Post → Post) → IsSettled state.scene → AreSound state.posts → (outcome_of (world_in state) e).done ≡ None
+    → ((p : ℕ) (s : Seat) (v : View) → queued_lines p false (Some s) (outcome_of (world_in state) e) v v ≡ [])
+    → ((p : ℕ) (post : Post) (v : View) → seat_at (world_in state) (seat_of e) ≡ Some post.seat → post_by p true (outcome_of (world_in state) e) v v post ≡ f post)
+    → record { posts = mapped_from (at_place f (seat_of e)) 0 state.posts; scene = state.scene } ≡ state_after state e
+own_state state e f settled sound done none own =
+    let w : World = world_in state in
+    let same : scene_after w e ≡ w.scene = scene_stays w e settled done in
+    sym (λ i. record {
+      posts = mapped_from-same (post_after w e) (at_place f (seat_of e)) 0 state.posts
+          (λ k post at. subst (λ p. post_after w e p post ≡ at_place f (seat_of e) p post) (sym (zero-add k))
+          (own_at w e f k post (eqb (seat_of e) k) refl same (slice_get-map (λ x. x.seat) state.posts k ∙ ap (option_map (λ (x : Post). x.seat)) at) (sound k post at)
+          (λ v. none k post.seat v) (λ v is. own k post v is))) i;
+      scene = same i;
+    })
 
 -- ---- an item that is lent
 
@@ -179,28 +207,13 @@ others_none asked report (Some t) seat drop_it p s v = no_lines p false drop_it 
 pub leave_stays : (w : World) (seat : ℕ) (drop : Bool) → IsSettled w.scene → scene_after w (Leave seat drop) ≡ w.scene
 leave_stays w seat drop_it settled = scene_stays w (Leave seat drop_it) settled (no_done (asked_of w seat) (report_of w (Leave seat drop_it)) (seat_at w seat) seat drop_it)
 
-left_at : (w : World) (seat : ℕ) (drop : Bool) (p : ℕ) (post : Post) (acts : Bool) → eqb seat p ≡ acts → IsSettled w.scene → seat_at w p ≡ Some post.seat → IsSound post
-    → post_by p acts (outcome_of w (Leave seat drop)) (view_of w.scene p) (view_of (scene_after w (Leave seat drop)) p) post ≡ cond acts (left_post drop post) post
-left_at w seat drop_it p post false is settled at sound =
-    let o : Outcome = outcome_of w (Leave seat drop_it) in
-    ap (λ scene. post_by p false o (view_of w.scene p) (view_of scene p) post) (leave_stays w seat drop_it settled)
-    ∙ rests p o (view_of w.scene p) (view_of w.scene p) post sound (others_none (asked_of w seat) (report_of w (Leave seat drop_it)) (seat_at w seat) seat drop_it p post.seat (view_of w.scene p))
-left_at w seat drop_it p post true is settled at sound =
-    let o : Outcome = outcome_of w (Leave seat drop_it) in
-    let own : seat_at w seat ≡ Some post.seat = ap (seat_at w) (eqb-true seat p is) ∙ at in
-    ap (λ scene. post_by p true o (view_of w.scene p) (view_of scene p) post) (leave_stays w seat drop_it settled)
-    ∙ ap (λ b. post_by p true (outcome_at (asked_of w seat) (report_of w (Leave seat drop_it)) b (Leave seat drop_it)) (view_of w.scene p) (view_of w.scene p) post) own
-    ∙ own_leaves p drop_it (view_of w.scene p) post
-
 pub leave_state : (state : State) (seat : ℕ) (drop : Bool) → IsSettled state.scene → AreSound state.posts → record { posts = left_posts seat drop state.posts; scene = state.scene } ≡ state_after state (Leave seat drop)
 leave_state state seat drop_it settled sound =
     let w : World = world_in state in
-    sym (λ i. record {
-      posts = mapped_from-same (post_after w (Leave seat drop_it)) (at_place (left_post drop_it) seat) 0 state.posts
-          (λ k post at. subst (λ p. post_after w (Leave seat drop_it) p post ≡ at_place (left_post drop_it) seat p post) (sym (zero-add k))
-          (left_at w seat drop_it k post (eqb seat k) refl settled (slice_get-map (λ x. x.seat) state.posts k ∙ ap (option_map (λ (x : Post). x.seat)) at) (sound k post at))) i;
-      scene = leave_stays w seat drop_it settled i;
-    })
+    let e : Entry = Leave seat drop_it in
+    own_state state e (left_post drop_it) settled sound (no_done (asked_of w seat) (report_of w e) (seat_at w seat) seat drop_it)
+    (λ p s v. others_none (asked_of w seat) (report_of w e) (seat_at w seat) seat drop_it p s v)
+    (λ p post v own. ap (λ b. post_by p true (outcome_at (asked_of w seat) (report_of w e) b e) v v post) own ∙ own_leaves p drop_it v post)
 
 answer_at : (asked : Asked) (n : ℕ) (report : Report) (before : Option Seat) (seat : ℕ) (drop : Bool) → record { refusal = None; taken = n; line = None } ≡ answer_of n (outcome_at asked report before (Leave seat drop))
 answer_at asked n report None seat drop_it = refl
@@ -314,7 +327,7 @@ none_to_cut drop_it s = by_let_go (is_let_go c) c (by_drop drop_it s.book.state)
     by_drop false state = by_state s.book.state
 
 pub cut_there : (posts : List Post) (seat : ℕ) (drop : Bool) (n : ℕ) (o : Option Post) → slice_get posts seat ≡ o → n ≤ cut_due_of (state_in o) → cut_due (left_posts seat drop posts) + n ≤ cut_due posts
-cut_there posts seat drop_it n None at few = let same = ap cut_due (left_nowhere seat drop_it posts at) in omega (arith, same, few)
+cut_there posts seat drop_it n None at few = let same = ap cut_due (set_nowhere (left_post drop_it) seat posts at) in omega (arith, same, few)
 cut_there posts seat drop_it n (Some post) at few =
     let none = none_to_cut drop_it post.seat in
     fewer_places cut_due_of n (left_post drop_it) seat 0 seat posts post (zero-add seat) at (omega (arith, none, few))

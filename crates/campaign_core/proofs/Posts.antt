@@ -1,24 +1,23 @@
 -- What is made for a seat, put in, is its post after the entry.
-use Rattle.std.proofs.Common.{ltb, ◌≡◌, ◌≤◌, ◌<◌, ◌≢◌, ℕ, zero, suc, ◌+◌, ◌++◌, Bool, true, false, cond, eqb, List, [], ◌∷◌, length, map, set, Some, None, refl, sym, ◌∙◌, ap, subst, arith, zero-add, eqb-true, eq-eqb, length-append, get_or}
-use Rattle.std.specs.Prelude.{Option, option_map, slice_get, unwrap_or}
+use Rattle.std.proofs.Common.{ltb, ◌≡◌, ◌≤◌, ◌<◌, ◌≢◌, ℕ, zero, suc, ◌+◌, ◌++◌, Bool, true, false, cond, eqb, List, [], ◌∷◌, length, map, Some, None, refl, sym, ◌∙◌, ap, subst, arith, zero-add, eqb-true, eq-eqb, length-append, get_or}
+use Rattle.std.specs.Prelude.{Option, option_map, slice_get}
 use Rattle.std.proofs.lemmas.Option.{slice_get-map, slice_get_within, slice_get-get_or}
 use Rattle.std.proofs.lemmas.Bool.Decides.{nat_tests}
 use Rattle.seats.specs.Book.{Book}
 use Rattle.views.specs.declared.view.View.{View}
-use Rattle.world.specs.Scene.{Scene}
 use Rattle.campaign_law.specs.Seat.{Seat, settled}
 use Rattle.campaign_law.specs.declared.entry.Entry.{Entry}
 use Rattle.campaign_law.specs.Outcome.{Outcome, seat_of}
 use Rattle.campaign_law.specs.SessionLaws.{lines_per_entry}
 use Rattle.campaign_law.specs.World.{World, asked_of, changed, queued_lines, outcome_of, seat_at, seat_by, report_of, mapped_from}
-use Rattle.campaign_law.specs.State.{Post, State, world_in, post_by, mail_after}
-use Rattle.campaign_law.proofs.Lists.{ap₂, mapped_from-same}
+use Rattle.campaign_law.specs.State.{Post, post_by, mail_after}
+use Rattle.campaign_law.proofs.Lists.{mapped_from-same}
 use Rattle.campaign_law.proofs.Messages.{outcome_few}
 use Rattle.campaign_law.proofs.Queues.{lines_few}
 use Rattle.campaign_core.specs.declared.state.NextPost.{NextPost}
-use Rattle.campaign_core.specs.Places.{Place, Standing, posted, law, world_at, next_seat, moved, put_in, made_in, next_at, put_all, HaveRoom}
+use Rattle.campaign_core.specs.Places.{next_seat, moved, put_in, made_in, next_at, put_all}
 use Rattle.campaign_core.specs.Steps.{with_book}
-use Rattle.campaign_core.specs.Sound.{IsSound, AreSound, QueuesFew}
+use Rattle.campaign_core.specs.Sound.{IsSound, QueuesFew}
 use Rattle.campaign_core.proofs.Leaving.{rests}
 
 not_before : (a n : ℕ) → a ≡ n → ltb a n ≡ false
@@ -51,20 +50,20 @@ pub none_is : (seat : ℕ) (acts : Bool) (o : Outcome) (v v' : View) (post : Pos
 none_is seat true o v v' post sound idle none = cc
 none_is seat false o v v' post sound idle none = sym (rests seat o v v' post sound none)
 
-own_cond : (acts : Bool) (book : Option Book) → (acts ≡ false → book ≡ None) → book ≡ cond acts book None
-own_cond true book own = refl
-own_cond false book own = own refl
+own_cond : (acts : Bool) (book : Option Book) → cond acts book None ≡ cond acts (cond acts book None) None
+own_cond true book = refl
+own_cond false book = refl
 
 taken_same : (acts : Bool) (o : Outcome) (book : Option Book) (s : Seat) → (changed o acts s).taken ≡ (changed (record o { book = book }) acts s).taken
 taken_same true o book s = refl
 taken_same false o book s = refl
 
--- where something was made, with this book
-pub some_own : (seat : ℕ) (acts : Bool) (o : Outcome) (book : Option Book) (v v' : View) (post : Post) (n : NextPost) → n.book ≡ book → (acts ≡ false → book ≡ None) → n.queued ≡ post.seat.queued + length n.lines.items
-    → n.taken ≡ (changed o acts post.seat).taken → n.lines.items ≡ queued_lines seat acts (Some post.seat) o v v' → moved n post ≡ post_by seat acts (with_book o book) v v' post
+-- where something was made, with this book, if the seat acts
+pub some_own : (seat : ℕ) (acts : Bool) (o : Outcome) (book : Option Book) (v v' : View) (post : Post) (n : NextPost) → n.book ≡ cond acts book None → n.queued ≡ post.seat.queued + length n.lines.items
+    → n.taken ≡ (changed o acts post.seat).taken → n.lines.items ≡ queued_lines seat acts (Some post.seat) o v v' → moved n post ≡ post_by seat acts (with_book o (cond acts book None)) v v' post
 unfolding with_book
-some_own seat acts o book v v' post n is own queued taken lines =
-    some_is seat acts (record o { book = book }) v v' post n (is ∙ own_cond acts book own) queued (taken ∙ taken_same acts o book post.seat) lines
+some_own seat acts o book v v' post n is queued taken lines =
+    some_is seat acts (record o { book = cond acts book None }) v v' post n (is ∙ own_cond acts book) queued (taken ∙ taken_same acts o (cond acts book None) post.seat) lines
 
 -- where nothing was made
 pub none_own : (seat : ℕ) (acts : Bool) (o : Outcome) (book : Option Book) (v v' : View) (post : Post) → IsSound post → acts ≡ false → queued_lines seat acts (Some post.seat) o v v' ≡ [] → post ≡ post_by seat acts (with_book o book) v v' post

@@ -1,5 +1,5 @@
 -- A running campaign from entry to entry.
-use Rattle.std.proofs.Common.{◌≡◌, ◌≤◌, ◌<◌, ℕ, ◌+◌, ◌*◌, ◌++◌, Bool, true, false, cond, List, [], ◌∷◌, length, map, zero, suc, Some, None, refl, sym, ◌∙◌, ap, subst, arith}
+use Rattle.std.proofs.Common.{◌≡◌, ◌≤◌, ℕ, ◌++◌, true, false, cond, List, [], ◌∷◌, length, zero, suc, Some, None, refl, sym, ◌∙◌, ap, subst, arith}
 use Rattle.std.specs.Prelude.{Option, slice_get, IfSome}
 use Rattle.std.specs.List.{AllByRecursion}
 use Rattle.std.proofs.lemmas.List.{length-map}
@@ -11,7 +11,7 @@ use Rattle.command_looks.specs.Fields.{AreKept}
 use Rattle.command_effects.specs.Settle.{IsSettled}
 use Rattle.campaign_law.specs.declared.entry.Entry.{Entry}
 use Rattle.campaign_law.specs.Seat.{Seat, IsFreshSeat, was_joined}
-use Rattle.campaign_law.specs.World.{World, replay, step, scene_after, seat_after, seat_at, mapped_from}
+use Rattle.campaign_law.specs.World.{World, replay, step, scene_after, seat_after, seat_at}
 use Rattle.campaign_law.specs.State.{Post, State, post_after, world_in, state_after, state_of}
 use Rattle.campaign_law.specs.Law.{IsOpening}
 use Rattle.campaign_law.proofs.Lists.{map-mapped_from, mapped_from-map}
@@ -21,9 +21,7 @@ use Rattle.campaign_law.proofs.Worlds.{fits_always}
 use Rattle.campaign_law.proofs.ScenesOfWorlds.{tables_always}
 use Rattle.campaign_law.proofs.Settled.{replay_settled}
 use Rattle.campaign_law.proofs.Sessions.{state_of-more, world_in-state_of}
-use Rattle.campaign_core.specs.declared.next.Prepared.{Prepared}
 use Rattle.campaign_core.specs.declared.campaign.Made.{Made}
-use Rattle.campaign_core.specs.declared.campaign.Made.TheVariants.{Whole, Alone}
 use Rattle.campaign_core.specs.declared.campaign.Staged.{Staged}
 use Rattle.campaign_core.specs.CutList.{AreCuts, Ledger, cut_by}
 use Rattle.campaign_core.specs.Leaving.{due, cut_due}

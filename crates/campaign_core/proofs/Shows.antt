@@ -126,37 +126,42 @@ views_stand w e kept made same shown stays is seat joined =
     (ap (λ xs. slice_get xs seat) is ∙ slice_get-mapped_from f 0 w.seats seat ∙ ap (λ n. option_map (f n) (slice_get w.seats seat)) (zero-add seat))
     (ap was_joined (sym (seat_at-after w e seat)) ∙ joined)
 
+-- ---- an entry by which no seat joins, and which leaves the scene as it is
+
+and_false : (acts joins : Bool) → joins ≡ false → (acts && joins) ≡ false
+and_false true joins h = h
+and_false false joins h = refl
+
+-- who is Joined after it was so before it
+joined_was : (w : World) (e : Entry) (p : ℕ) (o : Option Seat) → (outcome_of w e).joins ≡ false → seat_at w p ≡ o → was_joined (option_map (seat_after w e p) o) ≡ true → was_joined o ≡ true
+joined_was w e p None none at joined = cc
+joined_was w e p (Some s) none at joined = by (is_joined s.book.state) refl
+  where
+    by : (b : Bool) → is_joined s.book.state ≡ b → is_joined s.book.state ≡ true
+    by true is = is
+    by false is =
+        let out = outcome_of w e in
+        let acts = eqb (seat_of e) p in
+        let some = is_joined_then acts out s (λ yes. fit_at w e p s at yes) (joined_before (length (queued_lines p acts (Some s) out (view_of w.scene p) (view_of (scene_after w e) p))) (changed out acts s) joined) is in
+        let no : true ≡ false = sym some ∙ and_false acts out.joins none in
+        cc
+
+-- the kept views stay what is shown
+pub stays_shown : (w : World) (e : Entry) (views : List KeptView) → (outcome_of w e).joins ≡ false → scene_after w e ≡ w.scene → AreShown w views → AreShown (step w e) views
+stays_shown w e views none same shown = record {
+  each = λ p joined. shown.each p (joined_was w e p (seat_at w p) none refl (ap was_joined (sym (seat_at-after w e p)) ∙ joined))
+      ∙ ap (λ (s : Scene). Some (view_of s p)) (sym same);
+}
+
 -- ---- a Leave
 
 leave_joins : (asked : Asked) (report : Report) (before : Option Seat) (seat : ℕ) (drop : Bool) → (outcome_at asked report before (Leave seat drop)).joins ≡ false
 leave_joins asked report None seat drop_it = refl
 leave_joins asked report (Some s) seat drop_it = refl
 
-and_false : (acts joins : Bool) → joins ≡ false → (acts && joins) ≡ false
-and_false true joins h = h
-and_false false joins h = refl
-
--- who is Joined after a Leave was so before it
-joined_was : (w : World) (seat : ℕ) (drop : Bool) (p : ℕ) (o : Option Seat) → seat_at w p ≡ o → was_joined (option_map (seat_after w (Leave seat drop) p) o) ≡ true → was_joined o ≡ true
-joined_was w seat drop_it p None at joined = cc
-joined_was w seat drop_it p (Some s) at joined = by (is_joined s.book.state) refl
-  where
-    by : (b : Bool) → is_joined s.book.state ≡ b → is_joined s.book.state ≡ true
-    by true is = is
-    by false is =
-        let e : Entry = Leave seat drop_it in
-        let out = outcome_of w e in
-        let acts = eqb (seat_of e) p in
-        let none = and_false acts out.joins (leave_joins (asked_of w seat) (report_of w e) (seat_at w seat) seat drop_it) in
-        let some = is_joined_then acts out s (λ yes. fit_at w e p s at yes) (joined_before (length (queued_lines p acts (Some s) out (view_of w.scene p) (view_of (scene_after w e) p))) (changed out acts s) joined) is in
-        let no : true ≡ false = sym some ∙ none in
-        cc
-
 leave_shown : (w : World) (seat : ℕ) (drop : Bool) (views : List KeptView) → IsSettled w.scene → AreShown w views → AreShown (step w (Leave seat drop)) views
-leave_shown w seat drop_it views settled shown = record {
-  each = λ p joined. shown.each p (joined_was w seat drop_it p (seat_at w p) refl (ap was_joined (sym (seat_at-after w (Leave seat drop_it) p)) ∙ joined))
-      ∙ ap (λ (s : Scene). Some (view_of s p)) (sym (leave_stays w seat drop_it settled));
-}
+leave_shown w seat drop_it views settled shown =
+    stays_shown w (Leave seat drop_it) views (leave_joins (asked_of w seat) (report_of w (Leave seat drop_it)) (seat_at w seat) seat drop_it) (leave_stays w seat drop_it settled) shown
 
 -- a Leave that changes its seat's state, and a Cut of a Joined seat, leave the kept views as they are
 pub left_shown : (w : World) (e : Entry) (views : List KeptView) → changes_state w e ≡ true → IsSettled w.scene → AreShown w views → AreShown (step w e) views

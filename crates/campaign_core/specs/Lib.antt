@@ -5,6 +5,7 @@ pub mod Rulings
 pub mod Places
 pub mod Sound
 pub mod Leaving
+pub mod Taking
 pub mod Shown
 pub mod Glances
 pub mod Changed

@@ -1,5 +1,5 @@
 //! A campaign as its callers see it: the world that it opened with, and its history.
-ghost use Rattle.std.specs.Prelude.{◌+◌, None, IfSome, ◌≡◌, ◌<◌, ◌≤◌, ◌++◌, ◌∷◌, [], ℕ, length, Some, IfOk, IsOk, OnOk, IfErr, OnErr, map, flat_map, drop, option_map, is_some, true};
+ghost use Rattle.std.specs.Prelude.{◌+◌, None, IfSome, ◌≡◌, ◌<◌, ◌≤◌, ◌++◌, ◌∷◌, [], ℕ, length, Some, IfOk, IsOk, OnOk, IfErr, OnErr, map, flat_map, drop, option_map, is_some, true, ◌-◌, vec_len, vec_capacity};
 ghost use Rattle.campaign_file.specs.Campaign.{IsOpening as IsOpeningList};
 ghost use Rattle.mails.specs.Texts.{text_of};
 ghost use Rattle.campaign_law.specs.Worlds.{opening_world};
@@ -14,11 +14,12 @@ ghost use Rattle.seats.specs.SeatState.{is_joined};
 ghost use Rattle.campaign_law.specs.Session.{session, waiting, standing, changes_state};
 ghost use Rattle.campaign_law.specs.Cuts.{is_cut_since};
 ghost use Rattle.campaign_core.specs.Over.{over_of};
+ghost use Rattle.campaign_core.specs.Taking.{is_taken as is_taken_lem};
 ghost use Rattle.campaign_core.specs.Totals.{seen_total as seen_total_lem};
 ghost use Rattle.campaign_law.specs.Law.{IsOpening, IsSentAsMachine, ChangesLittle, world_of, answer_after};
 
 use crate::cuts::{SeatCut, add_cut, any_since};
-use crate::next::{Prepared, act, leave, made_by};
+use crate::next::{Prepared, act, leave, made_by, take};
 use crate::state::{Post, State};
 use crate::tables::open_tables;
 use crate::totals::seen_total;
@@ -54,6 +55,8 @@ pub(crate) enum Made {
     Whole(Prepared),
     /// Nothing: a Leave that changes its seat's state, or a Cut of a Joined seat, is done in place.
     Alone,
+    /// Nothing: a Taken is done in place too.
+    Taking,
 }
 
 /// An entry with what is made of it.
@@ -208,17 +211,19 @@ impl<E: Eye + Drop> Campaign<E> {
             self.staged = Some(Staged { entry, made });
             return Ok(());
         }
+        if make_places(&mut self.history, &mut self.cuts).is_err() {
+            return Err(entry);
+        }
+        if is_taken(&entry) {
+            let made = Made::Taking;
+            self.staged = Some(Staged { entry, made });
+            return Ok(());
+        }
         let Ok(prepared) = made_by(self.alloc, &self.state, &self.keep, &mut self.eye, &entry)
         else {
             return Err(entry);
         };
         if self.state.make_room(&prepared.nexts).is_err() {
-            return Err(entry);
-        }
-        if self.history.reserve(PLACES).is_err() {
-            return Err(entry);
-        }
-        if self.cuts.reserve(CUT_PLACES).is_err() {
             return Err(entry);
         }
         let made = Made::Whole(prepared);
@@ -256,6 +261,11 @@ impl<E: Eye + Drop> Campaign<E> {
                 let place = self.history.len() as u64;
                 add_cut(&mut self.cuts, &self.state, place, &entry);
                 let answer = leave(&mut self.state, &entry);
+                self.history.push_reserved(entry);
+                return answer;
+            }
+            Made::Taking => {
+                let answer = take(&mut self.state, &entry);
                 self.history.push_reserved(entry);
                 return answer;
             }
@@ -412,6 +422,30 @@ impl<E: Eye + Drop> Campaign<E> {
         let post = self.post(seat);
         text_past(self.alloc, &post.mail, first.saturating_sub(post.taken))
     }
+}
+
+fn is_taken(entry: &Entry) -> bool
+    ensures { result ≡ is_taken_lem entry.now }
+{
+    matches!(entry, Entry::Taken { .. })
+}
+
+/// Makes places in the history and in the list of cuts: for an entry, and for those behind it that take no memory.
+fn make_places(history: &mut Vec<Entry>, cuts: &mut Vec<SeatCut>) -> Result<(), Memory>
+    ensures history { history.new.items ≡ history.old.items }
+    ensures cuts { cuts.new.items ≡ cuts.old.items }
+    ensures kept { vec_capacity history.old - vec_len history.old ≤ vec_capacity history.new - vec_len history.new }
+    ensures kept_cuts { vec_capacity cuts.old - vec_len cuts.old ≤ vec_capacity cuts.new - vec_len cuts.new }
+    ensures enough { OnOk result (67 ≤ vec_capacity history.new - vec_len history.new) }
+    ensures enough_cuts { OnOk result (33 ≤ vec_capacity cuts.new - vec_len cuts.new) }
+{
+    if history.reserve(PLACES).is_err() {
+        return Err(Memory);
+    }
+    if cuts.reserve(CUT_PLACES).is_err() {
+        return Err(Memory);
+    }
+    Ok(())
 }
 
 /// The lines but for the first `gone`, each with its LF.

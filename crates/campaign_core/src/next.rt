@@ -17,6 +17,7 @@ ghost use Rattle.campaign_law.specs.State.{state_after, world_in};
 ghost use Rattle.campaign_core.specs.Places.{law, world_at, put_all, HaveRoom};
 ghost use Rattle.campaign_core.specs.CutList.{cut_by};
 ghost use Rattle.campaign_core.specs.Leaving.{cut_due, due, frees as frees_lem};
+ghost use Rattle.campaign_core.specs.Taking.{count_in, is_taken};
 ghost use Rattle.campaign_core.specs.Sound.{AreSound};
 ghost use Rattle.campaign_law.specs.Law.{answer_of};
 ghost use Rattle.campaign_core.specs.Changed.{IsChanged, scene_in, fields_in};
@@ -415,6 +416,34 @@ pub(crate) fn leave(state: &mut State, entry: &Entry) -> Answer
         refusal: None,
         taken: 0,
         line: None,
+    }
+}
+
+/// The entry is a Taken. It takes no memory.
+pub(crate) fn take(state: &mut State, entry: &Entry) -> Answer
+    requires settled { IsSettled state.old.scene }
+    requires sound { AreSound (law state.old).posts }
+    requires taken { is_taken entry.now ≡ true }
+    ensures state { law state.new ≡ state_after (law state.old) entry.now }
+    ensures seats { length state.new.posts ≡ length state.old.posts }
+    ensures scene { state.new.scene ≡ state.old.scene }
+    ensures answer { result ≡ answer_of (steps_of (world_in (law state.old)) entry.now) (outcome_of (world_in (law state.old)) entry.now) }
+{
+    state.take(entry.seat(), taken_count(entry));
+    Answer {
+        refusal: None,
+        taken: 0,
+        line: None,
+    }
+}
+
+/// How many lines of its session a Taken says were taken.
+fn taken_count(entry: &Entry) -> u64
+    ensures { result ≡ count_in entry.now }
+{
+    match entry {
+        Entry::Taken { count, .. } => *count,
+        Entry::Join { .. } | Entry::Line { .. } | Entry::Leave { .. } | Entry::Cut { .. } => 0,
     }
 }
 

@@ -1,8 +1,7 @@
-use Rattle.std.proofs.Common.{◌≡◌, ◌≤◌, ◌∙◌, ap, sym, subst, length, map, Some, true, arith, ℕ}
+use Rattle.std.proofs.Common.{◌∙◌, ap, sym, subst, arith}
 use Rattle.std.proofs.lemmas.List.{length-map}
-use Rattle.world.specs.Scene.{Scene}
 use Rattle.command_looks.specs.Fields.{AreKept}
-use Rattle.campaign_law.specs.State.{State, world_in, state_after}
+use Rattle.campaign_law.specs.State.{State, world_in}
 use Rattle.campaign_core.specs.Changed.{scene_in}
 use Rattle.campaign_core.specs.Places.{law, posted}
 use Rattle.campaign_core.proofs.Nexts.{keeps_fields, players_stay}

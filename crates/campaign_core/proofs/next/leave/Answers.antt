@@ -1,10 +1,9 @@
-use Rattle.std.proofs.Common.{◌≡◌, ◌≤◌, ◌+◌, ◌∙◌, ap, sym, arith, ℕ, map, length}
+use Rattle.std.proofs.Common.{◌∙◌, ap, sym, arith, map, length}
 use Rattle.std.proofs.lemmas.List.{length-map}
 use Rattle.campaign_law.specs.State.{State, world_in}
 use Rattle.campaign_law.proofs.Lists.{length-mapped_from}
-use Rattle.campaign_core.specs.Leaving.{cut_due, due, frees, left_posts}
+use Rattle.campaign_core.specs.Leaving.{cut_due, due, left_posts}
 use Rattle.campaign_core.specs.Places.{law, posted}
-use Rattle.campaign_law.specs.Outcome.{seat_of}
 use Rattle.campaign_core.proofs.Cutting.{moved_answer, moved_cuts, moved_due, moved_state}
 use Rattle.campaign_core.proofs.next.leave.Goals as goal
 

@@ -1,4 +1,4 @@
-use Rattle.std.proofs.Common.{◌≡◌, ◌≤◌, ◌∙◌, ap, sym, subst, length, map, Some, true, arith, ℕ}
+use Rattle.std.proofs.Common.{◌≡◌, ◌∙◌, ap, sym, subst, length, Some, true, arith, ℕ}
 use Rattle.std.proofs.lemmas.List.{length-map}
 use Rattle.player_view.specs.View.{view_of}
 use Rattle.campaign_law.specs.Seat.{was_joined}

@@ -1,10 +1,10 @@
-use Rattle.std.proofs.Common.{◌≡◌, ◌∙◌, ◌+◌, ◌++◌, ◌∷◌, [], Some, ap, cond, subst, sym}
+use Rattle.std.proofs.Common.{◌∙◌, ◌+◌, ◌++◌, ◌∷◌, [], Some, ap, cond, subst, sym}
 use Rattle.seats.specs.Book.{Book, counted, left}
 use Rattle.command_effects.specs.Tags.{MayUseTag, tag_made, using_tag}
 use Rattle.command_effects.specs.MacroEffects.{drawing, setting_text}
 use Rattle.command_rules.specs.MacroRules.{call_in, new_text_in, setting_rule}
 use Rattle.campaign_law.specs.Messages.{message_by, run_messages, texts_in}
-use Rattle.campaign_law.specs.Outcome.{Outcome, dice_in, is_bye, reply_line, rolling, said, of_steps}
+use Rattle.campaign_law.specs.Outcome.{dice_in, is_bye, reply_line, rolling, said, of_steps}
 use Rattle.campaign_core.proofs.Allowing.{done_once_drawn, macros_drawn, may_drawn}
 use Rattle.campaign_core.proofs.Saying.{said_counted}
 use Rattle.campaign_core.proofs.outcome.accepted.Goals as goal

@@ -1,9 +1,9 @@
-use Rattle.std.proofs.Common.{◌≡◌, ◌≤◌, ◌∙◌, ap, arith, length, map, subst, sym}
+use Rattle.std.proofs.Common.{◌≤◌, ◌∙◌, ap, arith, length, subst, sym}
 use Rattle.std.proofs.lemmas.List.{length-map}
 use Rattle.command_rules.specs.declared.calls.Called.{Called}
 use Rattle.seats.specs.Book.{stream_of}
 use Rattle.campaign_law.specs.Messages.{texts_in}
-use Rattle.campaign_law.specs.Outcome.{accepted_with, called_by, decided, of_steps}
+use Rattle.campaign_law.specs.Outcome.{accepted_with, decided, of_steps}
 use Rattle.campaign_law.specs.World.{asked_of}
 use Rattle.campaign_core.specs.Places.{Place, world_at}
 use Rattle.campaign_core.specs.Rulings.{IsRunFor}

@@ -1,5 +1,5 @@
 use Rattle.std.proofs.Common.{◌∙◌}
-use Rattle.campaign_law.specs.Outcome.{Report, seat_of}
+use Rattle.campaign_law.specs.Outcome.{seat_of}
 use Rattle.campaign_law.specs.World.{asked_of, dumped_of, report_of, seat_at}
 use Rattle.campaign_core.specs.Places.{world_at}
 use Rattle.campaign_core.specs.Steps.{report_line, told}

@@ -1,4 +1,4 @@
-use Rattle.std.proofs.Common.{cond, None, ◌≡◌, ◌+◌, ◌++◌, ◌∙◌, ℕ, refl, rules, ap, eqb, sym, subst, length, map, Some, ◌≤◌}
+use Rattle.std.proofs.Common.{cond, None, ◌≡◌, ◌+◌, ◌++◌, ◌∙◌, ℕ, refl, rules, ap, eqb, sym, subst, length, map, ◌≤◌}
 use Rattle.std.specs.Prelude.{Option}
 use Rattle.std.proofs.lemmas.List.{length-map}
 use Rattle.views.specs.declared.view.View.{View}
@@ -24,9 +24,6 @@ loop-post-init c =
       views = ap (λ vs. vs ++ mapped_from h 0 c.args.posts.now) c.in_ok-views.ensures;
     }
 
-pub next_seat-requires-clause-own : goal.next_seat-requires-clause-own
-next_seat-requires-clause-own c = λ idle. c.own_book-own.ensures.own ∙ ap (λ b. cond b c.loop-post.book None) idle
-
 pub next_seat-requires-clause-sound : goal.next_seat-requires-clause-sound
 next_seat-requires-clause-sound c = c.requires.sound c.loop-post.post-index (posted c.post-item.result) (item_at posted c.args.posts.now c.loop-post.post-index c.post-item.result c.loop-post-test.true c.post-item.is)
 
@@ -39,12 +36,12 @@ loop-post-preserved c =
     let at : eqb c.args.actor c.loop-post.number ≡ c.eq-acts.result = ap (eqb c.args.actor) (sym c.in-Some.ensures.value) ∙ sym c.eq-acts.ensures in
     record {
       place = ap (λ n. n + 1) c.loop-post.invariant.place;
-      book = still_left c.args.actor c.loop-post.number c.eq-acts.result c.loop-post.book _ c.args.book at c.loop-post.invariant.book c.own_book-own.ensures.left;
+      book = still_left c.args.actor c.loop-post.number c.eq-acts.result c.loop-post.book _ c.args.book at c.loop-post.invariant.book c.in_ok-made.ensures.left;
       count = longer c.loop-post.next.nexts.items _ c.loop-post.post-index c.in_ok-made.made.next c.loop-post.invariant.count c.in_ok-add_seat.ensures.nexts;
       made = one_more f c.loop-post.next.nexts.items _ c.loop-post.post-index (map posted c.args.posts.now) c.in_ok-made.made.next post c.loop-post.invariant.count
           (item_at posted c.args.posts.now c.loop-post.post-index c.post-item.result c.loop-post-test.true c.post-item.is)
           (c.in_ok-made.ensures.post
-          ∙ own_post seat c.eq-acts.result c.args.outcome.now c.own_book-own.result c.args.book _ _ post (own_is c.args.actor c.loop-post.number c.eq-acts.result c.own_book-own.result c.loop-post.book c.args.book at c.loop-post.invariant.book c.own_book-own.ensures.own)
+          ∙ own_post seat c.eq-acts.result c.args.outcome.now (cond c.eq-acts.result c.loop-post.book None) c.args.book _ _ post (own_is c.args.actor c.loop-post.number c.eq-acts.result (cond c.eq-acts.result c.loop-post.book None) c.loop-post.book c.args.book at c.loop-post.invariant.book refl)
           ∙ ap (λ b. post_by seat b (with_book c.args.outcome.now c.args.book) (view_of c.args.glances.now.before.now seat) (view_of c.args.glances.now.after.now seat) post) c.eq-acts.ensures
           ∙ ap (λ n. f n post) (c.in-Some.ensures.value ∙ c.loop-post.invariant.place))
           c.in_ok-add_seat.ensures.nexts c.loop-post.invariant.made;

@@ -1,4 +1,4 @@
-use Rattle.std.proofs.Common.{◌≡◌, ◌∙◌, sym, ap, length, map, ℕ, refl}
+use Rattle.std.proofs.Common.{◌≡◌, ◌∙◌, sym, ap}
 use Rattle.std.proofs.lemmas.List.{length-map}
 use Rattle.seats.specs.Book.{stream_of}
 use Rattle.readable.specs.Table.{Table}

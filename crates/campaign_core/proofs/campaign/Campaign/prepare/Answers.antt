@@ -1,16 +1,16 @@
-use Rattle.std.proofs.Common.{rules, ◌≡◌, ◌≤◌, ◌+◌, ◌-◌, ◌∙◌, Some, vec_len, vec_capacity, ap, sym, subst, refl, true, false, arith, ℕ, length}
+use Rattle.std.proofs.Common.{◌≡◌, ◌-◌, ◌∙◌, Some, vec_len, vec_capacity, ap, sym, subst, refl, true, false, arith}
 use Rattle.std.proofs.lemmas.List.{length-map}
-use Rattle.std.specs.Prelude.{IsOk, Option}
+use Rattle.std.specs.Prelude.{Option}
 use Rattle.command_looks.specs.Touched.{looks_of}
 use Rattle.campaign_law.specs.World.{World, outcome_of, replay}
 use Rattle.campaign_law.specs.Worlds.{FitsTogether}
 use Rattle.campaign_law.specs.Session.{changes_state}
-use Rattle.campaign_law.specs.Law.{Course, world_of}
+use Rattle.campaign_law.specs.Law.{Course}
 use Rattle.campaign_law.specs.State.{State, world_in}
 use Rattle.campaign_law.proofs.Simulation.{sent_is_machine}
 use Rattle.campaign_core.specs.CutList.{Ledger}
-use Rattle.campaign_core.specs.Places.{law, posted, world_at, HaveRoom}
-use Rattle.campaign_core.specs.declared.campaign.Made.TheVariants.{Whole}
+use Rattle.campaign_core.specs.Places.{law, posted, HaveRoom}
+use Rattle.campaign_core.specs.declared.campaign.Made.TheVariants.{Whole, Taking}
 use Rattle.campaign_core.specs.declared.campaign.Staged.{Staged}
 use Rattle.campaign_core.specs.Prepared.{IsPrepared}
 use Rattle.campaign_core.specs.Running.{IsRunning}
@@ -77,14 +77,19 @@ returns-then-is_err-clause-sure g c =
 
 pub returns-then-is_err-clause-looks : goal.returns-then-is_err-clause-looks
 returns-then-is_err-clause-looks g c =
-    let same = world_law c.self.inside.state ∙ world_now (world_in (law c.self.inside.origin)) c.self.inside.history.items _ c.self.inside.state c.self.inside.keep c.self.inside.staged c.self.invariant in
-    let most = ap (λ (w : World). looks_of w.scene (outcome_of w c.args.entry).done) same
-    ∙ ap (λ (x : Course). looks_of (replay x.origin x.history).scene (outcome_of (replay x.origin x.history) c.args.entry).done) c.self.view_is in
     let before = ap (λ (x : Course). x.looks) c.self.view_is in
-    omega (arith, c.made_by.ensures.looks, most, before)
+    omega (arith, before)
 
 pub returns-then-is_err-clause-sent : goal.returns-then-is_err-clause-sent
 returns-then-is_err-clause-sent g c = λ p. sent_is_machine _ _ p c.self.invariant.opening
+
+pub returns-then-is_taken-clause-looks : goal.returns-then-is_taken-clause-looks
+returns-then-is_taken-clause-looks g c =
+    let before = ap (λ (x : Course). x.looks) c.self.view_is in
+    omega (arith, before)
+
+pub returns-then-is_taken-clause-sent : goal.returns-then-is_taken-clause-sent
+returns-then-is_taken-clause-sent g c = λ p. sent_is_machine _ _ p c.self.invariant.opening
 
 pub returns-then-is_err-2-clause-sure : goal.returns-then-is_err-2-clause-sure
 returns-then-is_err-2-clause-sure g c =
@@ -102,23 +107,6 @@ returns-then-is_err-2-clause-looks g c =
 
 pub returns-then-is_err-2-clause-sent : goal.returns-then-is_err-2-clause-sent
 returns-then-is_err-2-clause-sent g c = λ p. sent_is_machine _ _ p c.self.invariant.opening
-
-pub returns-then-is_err-3-clause-sure : goal.returns-then-is_err-3-clause-sure
-returns-then-is_err-3-clause-sure g c =
-    let same = world_law c.self.inside.state ∙ world_now (world_in (law c.self.inside.origin)) c.self.inside.history.items _ c.self.inside.state c.self.inside.keep c.self.inside.staged c.self.invariant in
-    let told = ap (λ (w : World). changes_state w c.args.entry) same ∙ ap (λ (x : Course). changes_state (replay x.origin x.history) c.args.entry) c.self.view_is in
-    λ moves. (let no : true ≡ false = sym moves ∙ sym told ∙ sym c.is_changed_by.ensures ∙ c.if-is_changed_by.false in cc)
-
-pub returns-then-is_err-3-clause-looks : goal.returns-then-is_err-3-clause-looks
-returns-then-is_err-3-clause-looks g c =
-    let same = world_law c.self.inside.state ∙ world_now (world_in (law c.self.inside.origin)) c.self.inside.history.items _ c.self.inside.state c.self.inside.keep c.self.inside.staged c.self.invariant in
-    let most = ap (λ (w : World). looks_of w.scene (outcome_of w c.args.entry).done) same
-    ∙ ap (λ (x : Course). looks_of (replay x.origin x.history).scene (outcome_of (replay x.origin x.history) c.args.entry).done) c.self.view_is in
-    let before = ap (λ (x : Course). x.looks) c.self.view_is in
-    omega (arith, c.made_by.ensures.looks, most, before)
-
-pub returns-then-is_err-3-clause-sent : goal.returns-then-is_err-3-clause-sent
-returns-then-is_err-3-clause-sent g c = λ p. sent_is_machine _ _ p c.self.invariant.opening
 
 pub returns-clause-looks : goal.returns-clause-looks
 returns-clause-looks g c =
@@ -138,25 +126,35 @@ invariant_of-self g c =
     refl refl refl (omega arith) (omega arith)
     (sym (ap (λ (w : World). changes_state w c.args.entry) (world_law c.self.inside.state)) ∙ sym c.is_changed_by.ensures ∙ c.if-is_changed_by.true)
 
+-- a Taken has a place
+pub invariant_of-self-then-is_taken : goal.invariant_of-self-then-is_taken
+invariant_of-self-then-is_taken g c =
+    let ledger : Ledger = record { cuts = c.make_places.new.cuts.items; places = vec_capacity c.make_places.new.history - vec_len c.make_places.new.history; cut_places = vec_capacity c.make_places.new.cuts - vec_len c.make_places.new.cuts } in
+    let stage : Option Staged = Some (record { entry = c.args.entry; made = Taking }) in
+    let done = sym c.is_err.ensures.value ∙ c.if-is_err.false in
+    subst (λ h. IsRunning (world_in (law c.self.inside.origin)) h ledger c.self.inside.state c.self.inside.keep stage) (sym c.make_places.ensures.history)
+    (restaged (world_in (law c.self.inside.origin)) c.self.inside.history.items _ ledger c.self.inside.state c.self.inside.state c.self.inside.keep c.self.inside.staged stage c.self.invariant
+    refl refl c.make_places.ensures.cuts c.make_places.ensures.kept c.make_places.ensures.kept_cuts
+    (record {
+      taken = sym c.is_taken.ensures ∙ c.if-is_taken.true;
+      enough = on_ok c.make_places.result _ done c.make_places.ensures.enough;
+      enough_cuts = on_ok c.make_places.result _ done c.make_places.ensures.enough_cuts;
+    }))
+
 -- all that another entry makes, and room for it
 pub invariant_of-self-2 : goal.invariant_of-self-2
 invariant_of-self-2 g c =
-    let ledger : Ledger = record { cuts = c.reserve-2.new.self.items; places = vec_capacity c.reserve.new.self - vec_len c.reserve.new.self; cut_places = vec_capacity c.reserve-2.new.self - vec_len c.reserve-2.new.self } in
+    let ledger : Ledger = record { cuts = c.make_places.new.cuts.items; places = vec_capacity c.make_places.new.history - vec_len c.make_places.new.history; cut_places = vec_capacity c.make_places.new.cuts - vec_len c.make_places.new.cuts } in
     let stage : Option Staged = Some (record { entry = c.args.entry; made = Whole c.in-Ok.prepared }) in
-    let len = c.reserve.ensures.len in
-    let capacity = c.reserve.ensures.capacity in
-    let len_cuts = c.reserve-2.ensures.len in
-    let capacity_cuts = c.reserve-2.ensures.capacity in
-    let reserved : vec_len c.reserve.new.self + 67 ≤ vec_capacity c.reserve.new.self = search rules in
-    let reserved_cuts : vec_len c.reserve-2.new.self + 33 ≤ vec_capacity c.reserve-2.new.self = search rules in
+    let done = sym c.is_err.ensures.value ∙ c.if-is_err.false in
     let same : law c.make_room.new.self ≡ law c.self.inside.state = c.make_room.ensures.state in
-    subst (λ h. IsRunning (world_in (law c.self.inside.origin)) h ledger c.make_room.new.self c.self.inside.keep stage) (sym c.reserve.ensures.items)
+    subst (λ h. IsRunning (world_in (law c.self.inside.origin)) h ledger c.make_room.new.self c.self.inside.keep stage) (sym c.make_places.ensures.history)
     (restaged (world_in (law c.self.inside.origin)) c.self.inside.history.items _ ledger c.self.inside.state c.make_room.new.self c.self.inside.keep c.self.inside.staged stage c.self.invariant
-    c.make_room.ensures.state c.make_room.ensures.count c.reserve-2.ensures.items (omega (arith, len, capacity)) (omega (arith, len_cuts, capacity_cuts))
+    c.make_room.ensures.state c.make_room.ensures.count c.make_places.ensures.cuts c.make_places.ensures.kept c.make_places.ensures.kept_cuts
     (record {
       still = ap (λ (s : State). changes_state (world_in s) c.args.entry) same ∙ sym (ap (λ (w : World). changes_state w c.args.entry) (world_law c.self.inside.state)) ∙ sym c.is_changed_by.ensures ∙ c.if-is_changed_by.false;
-      enough = omega (arith, reserved);
-      enough_cuts = omega (arith, reserved_cuts);
-      room = subst (λ ns. HaveRoom ns c.make_room.new.self.posts) c.deref.ensures.value (on_ok c.make_room.result _ (sym c.is_err.ensures.value ∙ c.if-is_err.false) c.make_room.ensures.room);
+      enough = on_ok c.make_places.result _ done c.make_places.ensures.enough;
+      enough_cuts = on_ok c.make_places.result _ done c.make_places.ensures.enough_cuts;
+      room = subst (λ ns. HaveRoom ns c.make_room.new.self.posts) c.deref.ensures.value (on_ok c.make_room.result _ (sym c.is_err-2.ensures.value ∙ c.if-is_err-2.false) c.make_room.ensures.room);
       prepared = subst (λ (s : State). IsPrepared s c.self.inside.keep c.args.entry c.in-Ok.prepared) (sym c.make_room.ensures.state) c.in-Ok.ensures.prepared;
     }))
