@@ -1,7 +1,7 @@
 //! A campaign as its callers see it: the world that it opened with, and its history.
 ghost use Rattle.std.specs.Prelude.{◌+◌, None, IfSome, ◌≡◌, ◌<◌, ◌≤◌, ◌++◌, ◌∷◌, [], ℕ, length, Some, IfOk, IsOk, OnOk, IfErr, OnErr, map, flat_map, drop, option_map, is_some, true, ◌-◌, vec_len, vec_capacity};
 ghost use Rattle.campaign_file.specs.Campaign.{IsOpening as IsOpeningList};
-ghost use Rattle.mails.specs.Texts.{text_of};
+ghost use Rattle.mails.specs.Texts.{tagged_text, text_of};
 ghost use Rattle.campaign_law.specs.Worlds.{opening_world};
 ghost use Rattle.campaign_law.specs.Written.{IsWritten};
 ghost use Rattle.campaign_core.specs.Opening.{world_of_text, IsOpenFault};
@@ -422,6 +422,23 @@ impl<E: Eye + Drop> Campaign<E> {
         let post = self.post(seat);
         text_past(self.alloc, &post.mail, first.saturating_sub(post.taken))
     }
+
+    /// Adds the lines of the seat's session that weren't taken, from the number `first` on, counted from 0 at its Join, to a
+    /// text, each behind the tag. The answer is how many they are. Each ends with LF.
+    pub fn add_lines_for(
+        &self,
+        seat: SeatNo,
+        first: u64,
+        tag: &[u8],
+        text: &mut Vec<u8>,
+    ) -> Result<u64, Memory>
+        requires { seat < length self.now.origin.seats }
+        ensures text { OnOk result (Some text.new.items ≡ option_map (λ s. text.old.items ++ flat_map (λ line. tag.now ++ line) (waiting first s.taken (session self.now.origin self.now.history seat))) (seat_at (world_of self.now) seat)) }
+        ensures count { IfOk result (λ n. Some n ≡ option_map (λ s. length (waiting first s.taken (session self.now.origin self.now.history seat))) (seat_at (world_of self.now) seat)) }
+    {
+        let post = self.post(seat);
+        add_past(&post.mail, first.saturating_sub(post.taken), tag, text)
+    }
 }
 
 fn is_taken(entry: &Entry) -> bool
@@ -469,4 +486,17 @@ fn text_past(alloc: Global, mail: &Mail, gone: u64) -> Result<(LineText, u64), M
     }
     let text = mail.text_from(alloc, gone as usize)?;
     Ok((text, count as u64 - gone))
+}
+
+/// Adds the lines but for the first `gone` to the text, each behind the tag and with its LF. The answer is how many they are.
+fn add_past(mail: &Mail, gone: u64, tag: &[u8], text: &mut Vec<u8>) -> Result<u64, Memory>
+    ensures text { OnOk result (text.new.items ≡ text.old.items ++ tagged_text tag.now (drop gone mail.now.lines)) }
+    ensures count { IfOk result (λ n. n ≡ length (drop gone mail.now.lines)) }
+{
+    let count = mail.len() as u64;
+    if gone >= count {
+        return Ok(0);
+    }
+    mail.add_to(gone as usize, tag, text)?;
+    Ok(count - gone)
 }

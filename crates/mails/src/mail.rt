@@ -1,6 +1,6 @@
 //! The lines that wait for a seat.
 ghost use Rattle.std.specs.Prelude.{◌≡◌, ◌≤◌, ◌++◌, ◌-◌, [], ◌∷◌, IfOk, IfSome, OnOk, drop, length, map, nat_lt};
-ghost use Rattle.mails.specs.Texts.{text_of};
+ghost use Rattle.mails.specs.Texts.{tagged_text, text_of};
 ghost use Rattle.mails.specs.Waiting.{IsSum};
 
 use names::{LineText, Memory};
@@ -109,6 +109,16 @@ impl Mail {
             }
         }
         Ok(LineText::new(text))
+    }
+
+    /// Adds the lines from the place `first` on to the text, each behind the tag and with its LF.
+    pub fn add_to(&self, first: usize, tag: &[u8], text: &mut Vec<u8>) -> Result<(), Memory>
+        ensures { OnOk result (text.new.items ≡ text.old.items ++ tagged_text tag.now (drop first self.now.lines)) }
+    {
+        for place in first..self.lines.len() {
+            add_line(tag, self.lines[place].bytes(), text)?;
+        }
+        Ok(())
     }
 
     /// Makes places for so many further lines. The lines stay.
@@ -230,4 +240,20 @@ pub fn with_end(alloc: Global, line: &[u8]) -> Result<LineText, Memory>
         return Err(Memory);
     }
     Ok(LineText::new(bytes))
+}
+
+/// Adds the line to the text, behind the tag and with its LF.
+pub fn add_line(tag: &[u8], line: &[u8], text: &mut Vec<u8>) -> Result<(), Memory>
+    ensures { OnOk result (text.new.items ≡ text.old.items ++ (tag.now ++ (line.now ++ 10 ∷ []))) }
+{
+    if text.extend_from_slice(tag).is_err() {
+        return Err(Memory);
+    }
+    if text.extend_from_slice(line).is_err() {
+        return Err(Memory);
+    }
+    if text.push(b'\n').is_err() {
+        return Err(Memory);
+    }
+    Ok(())
 }
