@@ -1,5 +1,5 @@
 -- What a row of a set gets of two other sets.
-use Rattle.std.proofs.Common.{◌≡◌, ℕ, ◌+◌, ◌-◌, ◌^◌, ◌<◌, ◌≤◌, Bool, nat_eq, nat_le, nat_lt, ◌&&◌, ◌||◌, set, get_or, refl, sym, ap, arith, ◌∙◌, inl, inr, bit_and, bit_or, length}
+use Rattle.std.proofs.Common.{◌≡◌, ℕ, ◌-◌, ◌^◌, ◌<◌, ◌≤◌, Bool, nat_eq, nat_le, nat_lt, ◌&&◌, ◌||◌, set, get_or, sym, ap, arith, ◌∙◌, inl, inr, bit_and, bit_or, length}
 use Rattle.std.specs.Prelude.{slice_index}
 use Rattle.std.specs.Int.{bit_at}
 use Rattle.std.proofs.lemmas.Bool.{cases_lt}

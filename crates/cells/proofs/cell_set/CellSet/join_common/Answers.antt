@@ -1,5 +1,3 @@
-use Rattle.std.proofs.Common.{◌≡◌, ◌<◌, ap, sym, ◌∙◌}
-use Rattle.cells.specs.Cells.{Extent, Cells, IsShaped}
 use Rattle.cells.specs.contracts.cell_set.CellSet.{the_view}
 use Rattle.cells.proofs.CommonRowLemmas.{common_joined}
 use Rattle.cells.proofs.cell_set.CellSet.join_common.Goals as goal
