@@ -1,8 +1,8 @@
 -- What is counted of the entries of a script and of what they send, entry by entry.
-use Rattle.std.proofs.Common.{◌≡◌, ℕ, zero, suc, ◌+◌, ◌-◌, ◌<◌, ◌≤◌, Bool, true, false, cond, eqb, List, [], ◌∷◌, ◌++◌, length, take, map, get_or, Some, None, refl, sym, ◌∙◌, ap, subst, append_assoc, arith, add-zero, add-one, length-append}
+use Rattle.std.proofs.Common.{◌≡◌, ℕ, zero, suc, ◌+◌, ◌-◌, ◌<◌, ◌≤◌, Bool, true, false, cond, eqb, List, [], ◌∷◌, ◌++◌, length, Some, None, refl, sym, ◌∙◌, ap, subst, append_assoc, arith, add-zero, add-one, length-append}
 use Rattle.std.specs.Prelude.{Option, Result, Ok, Err, OnOk, is_some, ◌&&◌, nat_lt, option_and_then}
-use Rattle.std.specs.List.{AllByRecursion, flat_map}
-use Rattle.std.proofs.lemmas.List.{append-nil, length-map}
+use Rattle.std.specs.List.{AllByRecursion}
+use Rattle.std.proofs.lemmas.List.{append-nil}
 use Rattle.std.proofs.lemmas.Bool.{ne_eqb}
 use Rattle.campaign_law.specs.declared.entry.Entry.{Entry}
 use Rattle.campaign_law.specs.declared.entry.Entry.TheVariants.{Taken}
@@ -21,21 +21,17 @@ use Rattle.script_play.specs.declared.tally.Tally.{Tally}
 use Rattle.script_play.specs.Script.{NothingWaits, entry_by, entry_of, joining_key, takens, takens_below, taken_of}
 use Rattle.script_play.specs.Sending.{lines_below, reply_to, waiting_lines}
 use Rattle.script_play.specs.Played.{GoesOn, IsOfLine, entries_since}
-use Rattle.script_play.specs.Counting.{Adds, entry_lines_below, is_line, lines_in, lines_sent, looks_in, one_if, refused_in, with_line, with_sent, with_text}
+use Rattle.script_play.specs.Counting.{Adds, entry_lines_below, is_line, lines_in, lines_sent, looks_in, one_if, refused_in, with_line, with_sent}
 use Rattle.script_play.proofs.WholeLines.{bytes_of-append}
-use Rattle.script_play.proofs.SendingLemmas.{flat_map_next}
 use Rattle.script_play.proofs.EntryLines.{absent_lines, seats_of_replay, slice_get-past}
 use Rattle.script_play.proofs.Takens.{quiet_lines}
 use Rattle.script_play.proofs.AfterEntry.{OfSeat, goes_on, nothing_since, of_line, seat_sent, since_is, waiting_same, with_entry}
-use Rattle.script_play.proofs.LineRuns.{on_ok, since_all, world_entered, world_on}
+use Rattle.script_play.proofs.LineRuns.{since_all, world_entered, world_on}
 
 -- ---- lines that are sent
 
 bytes_both : (xs ys : List (List ℕ)) → length (bytes_of (xs ++ ys)) ≡ length (bytes_of xs) + length (bytes_of ys)
 bytes_both xs ys = ap length (bytes_of-append xs ys) ∙ length-append (bytes_of xs) (bytes_of ys)
-
-pub sent_none : (t : Tally) → t ≡ with_sent t []
-sent_none t = λ i. record t { sent = sym (add-zero t.sent) i; bytes = sym (add-zero t.bytes) i }
 
 pub sent_both : (t : Tally) (xs ys : List (List ℕ)) → with_sent (with_sent t xs) ys ≡ with_sent t (xs ++ ys)
 sent_both t xs ys =
@@ -43,43 +39,11 @@ sent_both t xs ys =
     let bytes : (t.bytes + length (bytes_of xs)) + length (bytes_of ys) ≡ t.bytes + length (bytes_of (xs ++ ys)) = omega (arith, bytes_both xs ys) in
     λ i. record t { sent = lines i; bytes = bytes i }
 
--- behind those that were sent
-pub sent_behind : {A : Type 0} (r : Result A Played) (a b d : Tally) (xs ys : List (List ℕ)) → b ≡ with_sent a xs → OnOk r (d ≡ with_sent b ys) → OnOk r (d ≡ with_sent a (xs ++ ys))
-sent_behind r a b d xs ys first then = on_ok r (λ is. is ∙ ap (λ t. with_sent t ys) first ∙ sent_both a xs ys) then
-
 -- to one more seat
 pub sent_to_next : (c : Course) (acting : ℕ) (reply : Option (List ℕ)) (seat : ℕ) (a b d : Tally) → b ≡ with_sent a (lines_below c acting reply seat) → d ≡ with_sent b (reply_to acting seat reply ++ waiting_lines c seat) → d ≡ with_sent a (lines_below c acting reply (seat + 1))
 sent_to_next c acting reply seat a b d first then =
     let own : List (List ℕ) = reply_to acting seat reply ++ waiting_lines c seat in
     then ∙ ap (λ t. with_sent t own) first ∙ sent_both a (lines_below c acting reply seat) own ∙ ap (λ n. with_sent a (lines_below c acting reply n)) (sym (add-one seat))
-
--- a line with its LF
-pub sent_one : (t : Tally) (line : List ℕ) → with_text t 1 (length (line ++ 10 ∷ [])) ≡ with_sent t (line ∷ [])
-sent_one t line = λ i. with_text t 1 (length (sym (append-nil (line ++ 10 ∷ [])) i))
-
--- lines with their LFs
-ended_bytes : (lines : List (List ℕ)) → flat_map (λ line. line) (map (λ line. line ++ 10 ∷ []) lines) ≡ bytes_of lines
-ended_bytes [] = refl
-ended_bytes (line ∷ lines) = ap (λ r. (line ++ 10 ∷ []) ++ r) (ended_bytes lines)
-
-pub ended_sent : (t : Tally) (ended lines : List (List ℕ)) → ended ≡ map (λ line. line ++ 10 ∷ []) lines → with_text t (length ended) (length (flat_map (λ line. line) ended)) ≡ with_sent t lines
-ended_sent t ended lines is =
-    (λ i. with_text t (length (is i)) (length (flat_map (λ line. line) (is i))))
-    ∙ (λ i. with_text t (length-map lines (λ line. line ++ 10 ∷ []) i) (length (ended_bytes lines i)))
-
--- one more line that has its LF
-pub text_next : (t : Tally) (lines : List (List ℕ)) (n : ℕ) (line : List ℕ) → n < length lines → line ≡ get_or lines n line
-    → with_text (with_text t n (length (flat_map (λ line. line) (take n lines)))) 1 (length line) ≡ with_text t (n + 1) (length (flat_map (λ line. line) (take (n + 1) lines)))
-text_next t lines n line lt is =
-    let before : ℕ = length (flat_map (λ line. line) (take n lines)) in
-    let after : ℕ = length (flat_map (λ line. line) (take (n + 1) lines)) in
-    let next : after ≡ before + length line =
-    ap (λ k. length (flat_map (λ line. line) (take k lines))) (add-one n)
-    ∙ ap length (flat_map_next (λ line. line) lines n line lt is)
-    ∙ length-append (flat_map (λ line. line) (take n lines)) line in
-    let count : (t.sent + n) + 1 ≡ t.sent + (n + 1) = omega arith in
-    let bytes : (t.bytes + before) + length line ≡ t.bytes + after = omega (arith, next) in
-    λ i. record t { sent = count i; bytes = bytes i }
 
 -- a line that was entered: the refused lines are some of the lines
 pub few_refused : (a b : Tally) (refused : Bool) (lines : List (List ℕ)) → a.refused ≤ a.lines → b ≡ with_sent (with_line a refused) lines → b.refused ≤ b.lines
@@ -262,10 +226,6 @@ module _ (old new : Course) (e : Entry) (history : new.history ≡ old.history +
 pub looks_after : (start now new : Course) (yielded : List Entry) (e : Entry) → now.origin ≡ start.origin → now.history ≡ start.history ++ yielded → new.origin ≡ now.origin → new.history ≡ now.history ++ e ∷ []
     → now.looks ≤ start.looks + looks_in (world_of start) (entries_since start now) → new.looks ≤ now.looks + looks_of (world_of now).scene (outcome_of (world_of now) e).done → new.looks ≤ start.looks + looks_in (world_of start) (entries_since start new)
 looks_after start now new yielded e o h o' h' before le = looks_more now new e h' start (goes_on start now yielded o h) (goes_on now new (e ∷ []) o' h') before le
-
-pub always : {A : Type 0} (r : Result A Played) {P : Type 0} → P → OnOk r P
-always (Ok value) h = h
-always (Err stop) h = tt
 
 -- ---- courses
 

@@ -5,6 +5,7 @@ pub mod Takens
 pub mod Scripts
 pub mod Reading
 pub mod SendingLemmas
+pub mod SeatTags
 pub mod AfterEntry
 pub mod LineRuns
 pub mod WholeRuns

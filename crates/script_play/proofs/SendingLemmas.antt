@@ -1,119 +1,106 @@
--- Texts that are written one behind the other.
-use Rattle.std.proofs.Common.{◌≡◌, ℕ, zero, suc, ◌+◌, ◌<◌, Bool, true, false, cond, eqb, List, [], ◌∷◌, ◌++◌, length, take, drop, map, get_or, max, Some, None, refl, sym, ◌∙◌, ap, subst, append_assoc, arith, length-drop, eq-eqb, add-one}
-use Rattle.std.specs.Prelude.{Option, Result, Ok, Err, option_map, unwrap_or, IfSome}
-use Rattle.std.specs.List.{AllByRecursion, flat_map}
+-- Texts that are put together one behind the other, and what is written of them.
+use Rattle.std.proofs.Common.{◌≡◌, ℕ, zero, suc, ◌+◌, ◌-◌, ◌*◌, ◌≤◌, Bool, true, false, cond, eqb, List, [], ◌∷◌, ◌++◌, length, take, drop, map, max, Some, None, refl, sym, ◌∙◌, ap, append_assoc, arith, length-append, length-drop, eq-eqb, add-one}
+use Rattle.std.specs.Prelude.{Option, option_map, unwrap_or, IfSome}
+use Rattle.std.specs.List.{flat_map}
 use Rattle.std.proofs.lemmas.Grind.{flat_map-append}
-use Rattle.std.specs.Io.KnownBytes.{append_known}
-use Rattle.std.proofs.lemmas.List.{append-nil, take-append-drop}
-use Rattle.std.proofs.lemmas.Bool.Decides.{nat_tests}
-use Rattle.std.proofs.lemmas.Bool.{ne_eqb, eqb-true}
+use Rattle.std.proofs.lemmas.List.{length-map, take-append-drop}
+use Rattle.std.proofs.lemmas.Bool.{ne_eqb}
+use Rattle.mails.specs.Texts.{tagged_text}
 use Rattle.line_io.specs.Told.{TookPrefix}
-use Rattle.line_io.proofs.ToldLemmas.{append_known-append, append_known-nil}
+use Rattle.line_io.proofs.ToldLemmas.{append_known-nil}
 use Rattle.campaign_law.specs.declared.entry.Entry.TheVariants.{Taken}
 use Rattle.campaign_law.specs.Seat.{Seat}
 use Rattle.campaign_law.specs.World.{World, seat_at}
 use Rattle.campaign_law.specs.Session.{session, waiting}
-use Rattle.campaign_law.specs.Law.{Course, IsOpening, world_of}
+use Rattle.campaign_law.specs.Law.{Course, IsOpening, bytes_of, world_of}
 use Rattle.campaign_law.proofs.Sessions.{IsKept, kept_at}
 use Rattle.script_play.specs.declared.run.Played.{Played}
+use Rattle.script_play.specs.declared.tally.Tally.{Tally}
+use Rattle.script_play.specs.Counting.{with_sent, with_text}
 use Rattle.script_play.specs.Script.{taken_of, takens_below}
-use Rattle.script_play.specs.Tagged.{seat_tag, tagged_line, tagged_lines, IsWholeLines}
+use Rattle.script_play.specs.Tagged.{seat_tag, tagged_line, tagged_lines}
 use Rattle.script_play.specs.Played.{IsCutShort}
-use Rattle.script_play.proofs.WholeLines.{whole_none, whole_both, tagged_line_whole}
-use Rattle.script_play.specs.Sending.{untaken, waiting_lines, reply_to, sent_below, WroteFront, WroteTill, Sends}
+use Rattle.script_play.proofs.WholeLines.{whole_none}
+use Rattle.script_play.specs.Sending.{untaken, waiting_lines, reply_to, sent_below, WroteFront, WroteTill}
 
 pub front_taken : (before : Option (List ℕ)) (text : List ℕ) (after : Option (List ℕ)) → TookPrefix before text after → WroteFront before text after
 front_taken before text after t = record { front = take t.count text; rest = drop t.count text; is = sym (take-append-drop t.count text); written = t.written }
-
-front_longer : (stop : Played) (before : Option (List ℕ)) (text more : List ℕ) (after : Option (List ℕ)) → WroteTill stop before text after → WroteTill stop before (text ++ more) after
-front_longer stop before text more after f = record {
-  cut = f.cut;
-  part = record { front = f.part.front; rest = f.part.rest ++ more; is = ap (λ t. t ++ more) f.part.is ∙ append_assoc f.part.front f.part.rest more; written = f.part.written };
-  whole = f.whole;
-}
-
-front_behind : (stop : Played) (before middle after : Option (List ℕ)) (first text : List ℕ) → IsWholeLines first → middle ≡ append_known before first → WroteTill stop middle text after → WroteTill stop before (first ++ text) after
-front_behind stop before middle after first text ended h f = record {
-  cut = f.cut;
-  part = record {
-    front = first ++ f.part.front;
-    rest = f.part.rest;
-    is = ap (λ t. first ++ t) f.part.is ∙ sym (append_assoc first f.part.front f.part.rest);
-    written = f.part.written ∙ ap (λ m. append_known m f.part.front) h ∙ sym (append_known-append before first f.part.front);
-  };
-  whole = λ memory. whole_both first f.part.front ended (f.whole memory);
-}
 
 -- nothing was written
 pub stops_first : (stop : Played) (before : Option (List ℕ)) (text : List ℕ) → IsCutShort stop → WroteTill stop before text before
 stops_first stop before text cut = record { cut = cut; part = record { front = []; rest = text; is = refl; written = sym (append_known-nil before) }; whole = λ memory. whole_none }
 
--- all of it was written
-pub stops_last : (stop : Played) (before after : Option (List ℕ)) (text : List ℕ) → IsCutShort stop → IsWholeLines text → after ≡ append_known before text → WroteTill stop before text after
-stops_last stop before after text cut ended h = record { cut = cut; part = record { front = text; rest = []; is = sym (append-nil text); written = h }; whole = λ memory. ended }
+-- ---- lines behind a seat's tag
 
--- behind a text of whole lines that was written
-pub sends_behind : {A : Type 0} (r : Result A Played) (before middle after : Option (List ℕ)) (first text : List ℕ) → IsWholeLines first → middle ≡ append_known before first → Sends r text middle after → Sends r (first ++ text) before after
-sends_behind (Ok value) before middle after first text ended h s = s ∙ ap (λ m. append_known m text) h ∙ sym (append_known-append before first text)
-sends_behind (Err stop) before middle after first text ended h s = front_behind stop before middle after first text ended h s
+-- one part behind the other
+pub tagged_both : (seat : ℕ) (first second old middle new : List ℕ) (xs ys : List (List ℕ)) → first ≡ seat_tag seat → second ≡ seat_tag seat → middle ≡ old ++ tagged_text first xs → new ≡ middle ++ tagged_text second ys → new ≡ old ++ tagged_lines seat (xs ++ ys)
+tagged_both seat first second old middle new xs ys is same before then =
+    then
+    ∙ (λ i. before i ++ tagged_text (same i) ys)
+    ∙ (λ i. (old ++ tagged_text (is i) xs) ++ tagged_lines seat ys)
+    ∙ append_assoc old (tagged_lines seat xs) (tagged_lines seat ys)
+    ∙ ap (λ t. old ++ t) (sym (flat_map-append (tagged_line seat) xs ys))
 
--- a stop within the first part
-pub stops_before : (stop : Played) (text more : List ℕ) (before after : Option (List ℕ)) → WroteTill stop before text after → WroteTill stop before (text ++ more) after
-stops_before stop text more before after s = front_longer stop before text more after s
+-- how many bytes lines have with a tag before each
+tagged_size : (tag : List ℕ) (lines : List (List ℕ)) → length (tagged_text tag lines) ≡ length lines * length tag + length (bytes_of lines)
+tagged_size tag [] = omega arith
+tagged_size tag (line ∷ lines) =
+    let rest = tagged_size tag lines in
+    let own : List ℕ = line ++ 10 ∷ [] in
+    let one = length-append (tag ++ own) (tagged_text tag lines) in
+    let both = length-append tag own in
+    let bytes = length-append own (bytes_of lines) in
+    omega (arith, rest, one, both, bytes)
 
--- a stop within the second part, behind whole lines
-pub stops_behind : (stop : Played) (before middle after : Option (List ℕ)) (first text more whole : List ℕ) → IsWholeLines first → middle ≡ append_known before first → WroteTill stop middle text after → whole ≡ first ++ (text ++ more) → WroteTill stop before whole after
-stops_behind stop before middle after first text more whole ended h s is =
-    subst (λ t. WroteTill stop before t after) (sym is) (front_behind stop before middle after first (text ++ more) ended h (front_longer stop middle text more after s))
+-- what a text grew by
+grown_size : (tag old new : List ℕ) (lines : List (List ℕ)) → new ≡ old ++ tagged_text tag lines → length new - length old ≡ length lines * length tag + length (bytes_of lines)
+grown_size tag old new lines is =
+    let all : length new ≡ length old + length (tagged_text tag lines) = ap length is ∙ length-append old (tagged_text tag lines) in
+    let size = tagged_size tag lines in
+    omega (arith, all, size)
 
--- ---- parts of lists of texts
+-- the tags are a part of that
+pub tags_within : (tag old new : List ℕ) (lines : List (List ℕ)) (count : ℕ) → count ≡ length lines → new ≡ old ++ tagged_text tag lines → count * length tag ≤ length new - length old
+tags_within tag old new lines count all is =
+    let size = grown_size tag old new lines is in
+    let tags : count * length tag ≡ length lines * length tag = ap (λ n. n * length tag) all in
+    omega (arith, size, tags)
 
--- one more
-pub flat_map_next : {A : Type 0} (f : A → List ℕ) (xs : List A) (i : ℕ) (x : A) → i < length xs → x ≡ get_or xs i x → flat_map f (take (suc i) xs) ≡ flat_map f (take i xs) ++ f x
-flat_map_next f [] i x lt is = absurd (omega arith)
-flat_map_next f (y ∷ ys) zero x lt is = append-nil (f y) ∙ ap f (sym is)
-flat_map_next f (y ∷ ys) (suc i) x lt is = ap (λ r. f y ++ r) (flat_map_next f ys i x (omega arith) is) ∙ sym (append_assoc (f y) (flat_map f (take i ys)) (f x))
-
-pub flat_map_from : {A : Type 0} (f : A → List ℕ) (xs : List A) (i : ℕ) (x : A) → i < length xs → x ≡ get_or xs i x → flat_map f xs ≡ flat_map f (take i xs) ++ (f x ++ flat_map f (drop (suc i) xs))
-flat_map_from f [] i x lt is = absurd (omega arith)
-flat_map_from f (y ∷ ys) zero x lt is = ap (λ z. f z ++ flat_map f ys) (sym is)
-flat_map_from f (y ∷ ys) (suc i) x lt is = ap (λ r. f y ++ r) (flat_map_from f ys i x (omega arith) is) ∙ sym (append_assoc (f y) (flat_map f (take i ys)) (f x ++ flat_map f (drop (suc i) ys)))
-
-pub tagged_ended : (seat : ℕ) (lines : List (List ℕ)) → flat_map (λ line. seat_tag seat ++ line) (map (λ line. line ++ 10 ∷ []) lines) ≡ tagged_lines seat lines
-tagged_ended seat [] = refl
-tagged_ended seat (line ∷ lines) = ap (λ r. tagged_line seat line ++ r) (tagged_ended seat lines)
-
--- the first of what are whole lines behind the seat's tag
-pub first_whole : (seat : ℕ) (lines : List (List ℕ)) (i : ℕ) → AllByRecursion (λ line. IsWholeLines (seat_tag seat ++ line)) lines → IsWholeLines (flat_map (λ line. seat_tag seat ++ line) (take i lines))
-first_whole seat lines zero h = whole_none
-first_whole seat [] (suc i) h = whole_none
-first_whole seat (line ∷ lines) (suc i) h = whole_both (seat_tag seat ++ line) (flat_map (λ line. seat_tag seat ++ line) (take i lines)) h.0 (first_whole seat lines i h.1)
-
--- lines with their LFs are whole
-pub ended_whole : (seat : ℕ) (lines : List (List ℕ)) → AllByRecursion (λ line. IsWholeLines (seat_tag seat ++ line)) (map (λ line. line ++ 10 ∷ []) lines)
-ended_whole seat [] = tt
-ended_whole seat (line ∷ lines) = (tagged_line_whole seat line, ended_whole seat lines)
-
-pub tagged_lines-append : (seat : ℕ) (xs ys : List (List ℕ)) → tagged_lines seat (xs ++ ys) ≡ tagged_lines seat xs ++ tagged_lines seat ys
-tagged_lines-append seat xs ys = flat_map-append (tagged_line seat) xs ys
-
-pub tagged_one : (seat : ℕ) (line : List ℕ) → tagged_lines seat (line ∷ []) ≡ tagged_line seat line
-tagged_one seat line = append-nil (tagged_line seat line)
+-- and the rest is the lines with their LFs
+pub grown_sent : (t : Tally) (tag old new : List ℕ) (lines : List (List ℕ)) (count : ℕ) → count ≡ length lines → new ≡ old ++ tagged_text tag lines → with_text t count ((length new - length old) - count * length tag) ≡ with_sent t lines
+grown_sent t tag old new lines count all is =
+    let size = grown_size tag old new lines is in
+    let tags : count * length tag ≡ length lines * length tag = ap (λ n. n * length tag) all in
+    let bytes : (length new - length old) - count * length tag ≡ length (bytes_of lines) = omega (arith, size, tags) in
+    λ i. with_text t (all i) (bytes i)
 
 -- ---- what waits
 
--- from the first line on
-waiting_all : (seat : Option Seat) (lines : List (List ℕ)) (items : List (List ℕ)) → Some items ≡ option_map (λ s. waiting 0 s.taken lines) seat → items ≡ map (λ line. line ++ 10 ∷ []) (untaken seat lines)
-waiting_all None lines items h = cc
-waiting_all (Some s) lines items h =
-    let from : max 0 s.taken ≡ s.taken = omega arith in
-    some_injective h ∙ ap (λ n. map (λ line. line ++ 10 ∷ []) (drop n lines)) from
-  where
-    some_injective : {xs ys : List (List ℕ)} → Some xs ≡ Some ys → xs ≡ ys
-    some_injective {xs = xs} e = ap (λ (o : Option (List (List ℕ))). unwrap_or o xs) e
+tagged_ended : (tag : List ℕ) (lines : List (List ℕ)) → flat_map (λ line. tag ++ line) (map (λ line. line ++ 10 ∷ []) lines) ≡ tagged_text tag lines
+tagged_ended tag [] = refl
+tagged_ended tag (line ∷ lines) = ap (λ rest. (tag ++ (line ++ 10 ∷ [])) ++ rest) (tagged_ended tag lines)
 
-pub waits_are : (c : Course) (seat : ℕ) (items : List (List ℕ)) → Some items ≡ option_map (λ s. waiting 0 s.taken (session c.origin c.history seat)) (seat_at (world_of c) seat) → items ≡ map (λ line. line ++ 10 ∷ []) (waiting_lines c seat)
-waits_are c seat items h = waiting_all (seat_at (world_of c) seat) (session c.origin c.history seat) items h
+some_same : {A : Type 0} (x y : A) → Some x ≡ Some y → x ≡ y
+some_same {A} x y e = ap (λ (o : Option A). unwrap_or o x) e
+
+-- from the first line on, behind what the text had
+text_all : (tag old new : List ℕ) (seat : Option Seat) (lines : List (List ℕ)) → Some new ≡ option_map (λ s. old ++ flat_map (λ line. tag ++ line) (waiting 0 s.taken lines)) seat → new ≡ old ++ tagged_text tag (untaken seat lines)
+text_all tag old new None lines h = cc
+text_all tag old new (Some s) lines h =
+    let from : max 0 s.taken ≡ s.taken = omega arith in
+    some_same new _ h ∙ ap (λ t. old ++ t) (tagged_ended tag (drop (max 0 s.taken) lines) ∙ ap (λ n. tagged_text tag (drop n lines)) from)
+
+count_all : (count : ℕ) (seat : Option Seat) (lines : List (List ℕ)) → Some count ≡ option_map (λ s. length (waiting 0 s.taken lines)) seat → count ≡ length (untaken seat lines)
+count_all count None lines h = cc
+count_all count (Some s) lines h =
+    let from : max 0 s.taken ≡ s.taken = omega arith in
+    some_same count _ h ∙ length-map (drop (max 0 s.taken) lines) (λ line. line ++ 10 ∷ []) ∙ ap (λ n. length (drop n lines)) from
+
+pub text_waits : (c : Course) (seat : ℕ) (tag old new : List ℕ) → Some new ≡ option_map (λ s. old ++ flat_map (λ line. tag ++ line) (waiting 0 s.taken (session c.origin c.history seat))) (seat_at (world_of c) seat) → new ≡ old ++ tagged_text tag (waiting_lines c seat)
+text_waits c seat tag old new h = text_all tag old new (seat_at (world_of c) seat) (session c.origin c.history seat) h
+
+pub count_waits : (c : Course) (seat count : ℕ) → Some count ≡ option_map (λ s. length (waiting 0 s.taken (session c.origin c.history seat))) (seat_at (world_of c) seat) → count ≡ length (waiting_lines c seat)
+count_waits c seat count h = count_all count (seat_at (world_of c) seat) (session c.origin c.history seat) h
 
 -- a seat with this session has a Taken exactly where lines of it wait
 taken_is : (seat : ℕ) (before : Option Seat) (lines : List (List ℕ)) (none : Bool) → IfSome before (IsKept lines) → none ≡ eqb (length (untaken before lines)) 0 → IfSome before (λ s. eqb s.taken s.queued ≡ none)
@@ -141,28 +128,6 @@ one_taken c seat count opening h is = by_seat (seat_at (world_of c) seat) is (ta
     by_seat (Some s) is h = ap (λ n. Taken seat n ∷ []) (ap (λ (o : Option ℕ). unwrap_or o count) is) ∙ sym (ap (λ all. cond all [] (Taken seat s.queued ∷ [])) h)
 
 -- ---- seat after seat
-
--- what is sent to the seats up to this, and to those behind it
-pub record SentFrom (c : Course) (acting : ℕ) (reply : Option (List ℕ)) (seat count : ℕ) : Type 0 where
-  pub more : List ℕ
-  pub is : sent_below c acting reply count ≡ sent_below c acting reply seat ++ (tagged_lines seat (reply_to acting seat reply ++ waiting_lines c seat) ++ more)
-
-sent_at : (c : Course) (acting : ℕ) (reply : Option (List ℕ)) (seat count : ℕ) (last : Bool) → eqb seat count ≡ last → (last ≡ false → SentFrom c acting reply seat count) → SentFrom c acting reply seat (suc count)
-sent_at c acting reply seat count true h before =
-    let own : List ℕ = tagged_lines seat (reply_to acting seat reply ++ waiting_lines c seat) in
-    record { more = []; is = ap (λ p. sent_below c acting reply p ++ tagged_lines p (reply_to acting p reply ++ waiting_lines c p)) (sym (eqb-true seat count h)) ∙ ap (λ t. sent_below c acting reply seat ++ t) (sym (append-nil own)) }
-sent_at c acting reply seat count false h before =
-    let x = before refl in
-    let own : List ℕ = tagged_lines seat (reply_to acting seat reply ++ waiting_lines c seat) in
-    let last : List ℕ = tagged_lines count (reply_to acting count reply ++ waiting_lines c count) in
-    record { more = x.more ++ last; is = ap (λ t. t ++ last) x.is ∙ append_assoc (sent_below c acting reply seat) (own ++ x.more) last ∙ ap (λ t. sent_below c acting reply seat ++ t) (append_assoc own x.more last) }
-
-before_last : (seat count : ℕ) → seat < suc count → eqb seat count ≡ false → seat < count
-before_last seat count lt h = grind (arith, nat_tests)
-
-pub sent_from : (c : Course) (acting : ℕ) (reply : Option (List ℕ)) (seat count : ℕ) → seat < count → SentFrom c acting reply seat count
-sent_from c acting reply seat zero lt = absurd (omega arith)
-sent_from c acting reply seat (suc count) lt = sent_at c acting reply seat count (eqb seat count) refl (λ h. sent_from c acting reply seat count (before_last seat count lt h))
 
 pub sent_next : (c : Course) (acting : ℕ) (reply : Option (List ℕ)) (seat : ℕ) → sent_below c acting reply (seat + 1) ≡ sent_below c acting reply seat ++ tagged_lines seat (reply_to acting seat reply ++ waiting_lines c seat)
 sent_next c acting reply seat = ap (sent_below c acting reply) (add-one seat)

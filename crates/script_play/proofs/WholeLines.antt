@@ -1,14 +1,11 @@
 -- Texts of whole lines.
 use Rattle.std.proofs.Common.{◌≡◌, ℕ, zero, suc, List, [], ◌∷◌, ◌++◌, refl, sym, ◌∙◌, append_assoc}
-use Rattle.std.specs.Prelude.{Option}
-use Rattle.std.specs.List.{AllByRecursion, flat_map}
 use Rattle.std.proofs.lemmas.List.{append-nil}
 use Rattle.std.proofs.lemmas.Grind.{flat_map-append}
 use Rattle.campaign_law.specs.declared.entry.Entry.{Entry}
 use Rattle.campaign_law.specs.World.{World, lines_of as entry_lines, step}
-use Rattle.campaign_law.specs.Law.{Course, bytes_of}
+use Rattle.campaign_law.specs.Law.{bytes_of}
 use Rattle.script_play.specs.Tagged.{seat_tag, tagged_line, tagged_lines, entry_text_below, entry_text, tagged, IsWholeLines}
-use Rattle.script_play.specs.Sending.{waiting_lines, reply_to, sent_below}
 
 pub bytes_of-append : (xs ys : List (List ℕ)) → bytes_of (xs ++ ys) ≡ bytes_of xs ++ bytes_of ys
 bytes_of-append xs ys = flat_map-append (λ (line : List ℕ). line ++ 10 ∷ []) xs ys
@@ -16,15 +13,8 @@ bytes_of-append xs ys = flat_map-append (λ (line : List ℕ). line ++ 10 ∷ []
 pub whole_none : IsWholeLines []
 whole_none = record { lines = []; is = refl }
 
-pub whole_line : (line : List ℕ) → IsWholeLines (line ++ 10 ∷ [])
-whole_line line = record { lines = line ∷ []; is = sym (append-nil (line ++ 10 ∷ [])) }
-
 pub whole_both : (a b : List ℕ) → IsWholeLines a → IsWholeLines b → IsWholeLines (a ++ b)
 whole_both a b x y = record { lines = x.lines ++ y.lines; is = (λ i. x.is i ++ y.is i) ∙ sym (bytes_of-append x.lines y.lines) }
-
-pub whole_all : {A : Type 0} (f : A → List ℕ) (xs : List A) → AllByRecursion (λ x. IsWholeLines (f x)) xs → IsWholeLines (flat_map f xs)
-whole_all f [] h = whole_none
-whole_all f (x ∷ xs) h = whole_both (f x) (flat_map f xs) h.0 (whole_all f xs h.1)
 
 -- ---- what is sent
 
@@ -34,10 +24,6 @@ tagged_line_whole seat line = record { lines = (seat_tag seat ++ line) ∷ []; i
 pub tagged_lines_whole : (seat : ℕ) (lines : List (List ℕ)) → IsWholeLines (tagged_lines seat lines)
 tagged_lines_whole seat [] = whole_none
 tagged_lines_whole seat (line ∷ lines) = whole_both (tagged_line seat line) (tagged_lines seat lines) (tagged_line_whole seat line) (tagged_lines_whole seat lines)
-
-pub sent_whole : (c : Course) (acting : ℕ) (reply : Option (List ℕ)) (seat : ℕ) → IsWholeLines (sent_below c acting reply seat)
-sent_whole c acting reply zero = whole_none
-sent_whole c acting reply (suc seat) = whole_both (sent_below c acting reply seat) (tagged_lines seat (reply_to acting seat reply ++ waiting_lines c seat)) (sent_whole c acting reply seat) (tagged_lines_whole seat _)
 
 entry_below_whole : (w : World) (e : Entry) (seat : ℕ) → IsWholeLines (entry_text_below w e seat)
 entry_below_whole w e zero = whole_none

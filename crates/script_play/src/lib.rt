@@ -4,6 +4,7 @@
 
 mod entries;
 mod run;
+mod seat_tag;
 mod sending;
 mod tally;
 

@@ -43,7 +43,7 @@ pub enum Played {
 
 /// Plays a script on a campaign. Each line of the script is an entry: a good `hello` with the number
 /// of its own seat, while the seat isn't Joined, is a Join; every other line is a Line. The lines that
-/// the entry sends are written, each as `seat TAB line LF` in one piece, in ascending order of seats;
+/// the entry sends are written in one piece, in ascending order of seats, each as `seat TAB line LF`;
 /// then a Taken is entered for each seat with waiting lines. Where an outside object doesn't tell its
 /// bytes, the clauses on them say nothing.
 pub fn play<S: Source, O: Sink, E: Eye + Drop>(

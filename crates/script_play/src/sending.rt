@@ -1,28 +1,29 @@
-//! The lines that an entry sends, written behind their seats.
-ghost use Rattle.std.specs.Prelude.{◌≡◌, ◌≤◌, ◌<◌, ◌==◌, ◌++◌, ◌∷◌, [], length, map, IfOk, OnOk};
-ghost use Rattle.script_play.specs.Counting.{with_sent, with_text};
-ghost use Rattle.std.specs.List.{AllByRecursion, flat_map};
+//! The lines that an entry sends, put together behind their seats and written in one piece.
+ghost use Rattle.std.specs.Prelude.{◌≡◌, ◌≤◌, ◌<◌, ◌==◌, ◌++◌, ◌∷◌, [], ◌*◌, ◌-◌, length, IfOk, OnOk};
 ghost use Rattle.std.specs.Option.{option_to_list};
 ghost use Rattle.line_io.specs.Counts.{CountRose};
+ghost use Rattle.mails.specs.Texts.{tagged_text};
 ghost use Rattle.campaign_law.specs.Law.{IsOpening, world_of};
-ghost use Rattle.campaign_law.specs.World.{seat_at, some_to_list};
-ghost use Rattle.script_play.specs.Tagged.{seat_tag, tagged_line, tagged_lines, IsWholeLines};
+ghost use Rattle.campaign_law.specs.World.{seat_at};
+ghost use Rattle.script_play.specs.Counting.{with_sent};
+ghost use Rattle.script_play.specs.Tagged.{tagged_lines};
 ghost use Rattle.script_play.specs.Script.{taken_of, takens};
 ghost use Rattle.script_play.specs.Sending.{waiting_lines, reply_to, lines_below, sent_below, Sends};
 ghost use Rattle.script_play.specs.Played.{played};
 
 use crate::run::Played;
+use crate::seat_tag::SeatTag;
 use crate::tally::Tally;
 use campaign_core::Campaign;
 use campaign_law::Entry;
 use line_io::{Sink, write_whole};
-use mails::with_end;
+use mails::add_line;
 use names::{LineText, Memory, SeatNo};
 use std::alloc::Global;
 use topology::Eye;
 
 /// Writes the direct reply to the seat that acted and the lines that wait for each seat, in ascending
-/// order of seats. The answer has a Taken for each seat with waiting lines.
+/// order of seats and in one piece. The answer has a Taken for each seat with waiting lines.
 pub(crate) fn send_all<O: Sink, E: Eye + Drop>(
     alloc: Global,
     campaign: &Campaign<E>,
@@ -38,154 +39,167 @@ pub(crate) fn send_all<O: Sink, E: Eye + Drop>(
     ensures count { O.faults_of out.old ≤ O.faults_of out.new }
     ensures write_fault { played result ≡ Played.WriteFault → CountRose (O.faults_of out.old) (O.faults_of out.new) }
 {
+    let seats = campaign.seat_count();
+    let mut text = Vec::new(alloc);
+    let Ok(entries) = add_all(alloc, campaign, seats, acting, reply, &mut text, tally) else {
+        return Err(Played::Memory);
+    };
+    match write_whole(out, &text) {
+        Ok(()) => Ok(entries),
+        Err(_) => Err(Played::WriteFault),
+    }
+}
+
+// Adds what is sent to each seat to the text, in ascending order of seats. The answer has a Taken for each seat with
+// waiting lines.
+fn add_all<E: Eye + Drop>(
+    alloc: Global,
+    campaign: &Campaign<E>,
+    seats: u8,
+    acting: SeatNo,
+    reply: &Option<LineText>,
+    text: &mut Vec<u8>,
+    tally: &mut Tally,
+) -> Result<Vec<Entry>, Memory>
+    requires seats { seats ≡ length campaign.now.origin.seats }
+    requires few { seats ≤ 33 }
+    requires opening { IsOpening campaign.now.origin }
+    ensures takens { IfOk result (λ entries. entries.items ≡ takens (world_of campaign.now)) }
+    ensures text { OnOk result (text.new.items ≡ text.old.items ++ sent_below campaign.now acting reply.now (length campaign.now.origin.seats)) }
+    ensures counted { OnOk result (tally.new ≡ with_sent tally.old (lines_below campaign.now acting reply.now (length campaign.now.origin.seats))) }
+{
     let mut entries = Vec::new(alloc);
-    for number in 0..campaign.seat_count() {
-        match send_next(
-            alloc,
-            campaign,
-            number,
-            acting,
-            reply,
-            out,
-            tally,
-            &mut entries,
-        ) {
-            Ok(()) => {}
-            Err(stop) => return Err(stop),
-        }
+    for number in 0..seats {
+        add_next(campaign, number, acting, reply, text, tally, &mut entries)?;
     }
     Ok(entries)
 }
 
-// To the seat of this number, whose Taken is added where lines wait.
-fn send_next<O: Sink, E: Eye + Drop>(
-    alloc: Global,
+// What is sent to the seat of this number, whose Taken is added where lines wait.
+fn add_next<E: Eye + Drop>(
     campaign: &Campaign<E>,
     number: u8,
     acting: SeatNo,
     reply: &Option<LineText>,
-    out: &mut O,
+    text: &mut Vec<u8>,
     tally: &mut Tally,
     entries: &mut Vec<Entry>,
-) -> Result<(), Played>
+) -> Result<(), Memory>
     requires there { number < length campaign.now.origin.seats }
     requires known { number ≤ 32 }
     requires opening { IsOpening campaign.now.origin }
     ensures taken { OnOk result (entries.new.items ≡ entries.old.items ++ taken_of number (seat_at (world_of campaign.now) number)) }
-    ensures sends { Sends result (tagged_lines number (reply_to acting number reply.now ++ waiting_lines campaign.now number)) (O.written out.old) (O.written out.new) }
+    ensures text { OnOk result (text.new.items ≡ text.old.items ++ tagged_lines number (reply_to acting number reply.now ++ waiting_lines campaign.now number)) }
     ensures counted { OnOk result (tally.new ≡ with_sent tally.old (reply_to acting number reply.now ++ waiting_lines campaign.now number)) }
-    ensures count { O.faults_of out.old ≤ O.faults_of out.new }
-    ensures write_fault { played result ≡ Played.WriteFault → CountRose (O.faults_of out.old) (O.faults_of out.new) }
 {
     let Some(seat) = SeatNo::new(number) else {
         unreachable!();
     };
-    match send_to(alloc, campaign, seat, acting, reply, out, tally) {
-        Ok(None) => Ok(()),
-        Ok(Some(taken)) => match entries.push(taken) {
-            Ok(()) => Ok(()),
-            Err(_) => Err(Played::Memory),
-        },
-        Err(stop) => Err(stop),
+    match add_seat(campaign, seat, acting, reply, text, tally)? {
+        Some(taken) => pushed(entries, taken),
+        None => Ok(()),
     }
 }
 
-// To one seat. The answer is the Taken, where lines wait.
-fn send_to<O: Sink, E: Eye + Drop>(
-    alloc: Global,
+fn pushed(entries: &mut Vec<Entry>, entry: Entry) -> Result<(), Memory>
+    ensures { OnOk result (entries.new.items ≡ entries.old.items ++ entry ∷ []) }
+{
+    match entries.push(entry) {
+        Ok(()) => Ok(()),
+        Err(_) => Err(Memory),
+    }
+}
+
+// What is sent to one seat. The answer is the Taken, where lines wait.
+fn add_seat<E: Eye + Drop>(
     campaign: &Campaign<E>,
     seat: SeatNo,
     acting: SeatNo,
     reply: &Option<LineText>,
-    out: &mut O,
+    text: &mut Vec<u8>,
     tally: &mut Tally,
-) -> Result<Option<Entry>, Played>
+) -> Result<Option<Entry>, Memory>
     requires there { seat < length campaign.now.origin.seats }
     requires opening { IsOpening campaign.now.origin }
     ensures taken { IfOk result (λ entry. option_to_list entry ≡ taken_of seat (seat_at (world_of campaign.now) seat)) }
-    ensures sends { Sends result (tagged_lines seat (reply_to acting seat reply.now ++ waiting_lines campaign.now seat)) (O.written out.old) (O.written out.new) }
+    ensures text { OnOk result (text.new.items ≡ text.old.items ++ tagged_lines seat (reply_to acting seat reply.now ++ waiting_lines campaign.now seat)) }
     ensures counted { OnOk result (tally.new ≡ with_sent tally.old (reply_to acting seat reply.now ++ waiting_lines campaign.now seat)) }
-    ensures count { O.faults_of out.old ≤ O.faults_of out.new }
-    ensures write_fault { played result ≡ Played.WriteFault → CountRose (O.faults_of out.old) (O.faults_of out.new) }
 {
-    match send_reply(alloc, seat, acting, reply, out, tally) {
-        Ok(()) => send_waiting(alloc, campaign, seat, out, tally),
-        Err(stop) => Err(stop),
-    }
+    let tag = SeatTag::new(seat);
+    add_reply(seat, tag.bytes(), acting, reply, text, tally)?;
+    let count = add_waiting(campaign, seat, tag.bytes(), text, tally)?;
+    Ok(taken_entry(campaign, seat, count == 0))
 }
 
-fn send_reply<O: Sink>(
-    alloc: Global,
+// The direct reply, where this seat acted.
+fn add_reply(
     seat: SeatNo,
+    tag: &[u8],
     acting: SeatNo,
     reply: &Option<LineText>,
-    out: &mut O,
+    text: &mut Vec<u8>,
     tally: &mut Tally,
-) -> Result<(), Played>
-    ensures sends { Sends result (tagged_lines seat (reply_to acting seat reply.now)) (O.written out.old) (O.written out.new) }
+) -> Result<(), Memory>
+    ensures text { OnOk result (text.new.items ≡ text.old.items ++ tagged_text tag.now (reply_to acting seat reply.now)) }
     ensures counted { OnOk result (tally.new ≡ with_sent tally.old (reply_to acting seat reply.now)) }
-    ensures count { O.faults_of out.old ≤ O.faults_of out.new }
-    ensures write_fault { played result ≡ Played.WriteFault → CountRose (O.faults_of out.old) (O.faults_of out.new) }
 {
     if acting.number() != seat.number() {
         return Ok(());
     }
     match reply {
         None => Ok(()),
-        Some(line) => send_ended(alloc, seat, line.bytes(), out, tally),
+        Some(line) => add_counted(tag, line.bytes(), text, tally),
     }
 }
 
 // A line that has no LF yet.
-fn send_ended<O: Sink>(
-    alloc: Global,
-    seat: SeatNo,
-    line: &[u8],
-    out: &mut O,
-    tally: &mut Tally,
-) -> Result<(), Played>
-    ensures sends { Sends result (tagged_line seat line.now) (O.written out.old) (O.written out.new) }
-    ensures counted { OnOk result (tally.new ≡ with_text tally.old 1 (length (line.now ++ 10 ∷ []))) }
-    ensures count { O.faults_of out.old ≤ O.faults_of out.new }
-    ensures write_fault { played result ≡ Played.WriteFault → CountRose (O.faults_of out.old) (O.faults_of out.new) }
+fn add_counted(tag: &[u8], line: &[u8], text: &mut Vec<u8>, tally: &mut Tally) -> Result<(), Memory>
+    ensures text { OnOk result (text.new.items ≡ text.old.items ++ tagged_text tag.now (line.now ∷ [])) }
+    ensures counted { OnOk result (tally.new ≡ with_sent tally.old (line.now ∷ [])) }
 {
-    match with_end(alloc, line) {
-        Ok(ended) => send_line(alloc, seat, ended.bytes(), out, tally),
-        Err(_) => Err(Played::Memory),
-    }
+    tally.count_sent(1, line.len() as u64 + 1)?;
+    add_line(tag, line, text)
 }
 
-// The answer is the Taken, where lines wait.
-fn send_waiting<O: Sink, E: Eye + Drop>(
-    alloc: Global,
+// The lines that wait. The answer is how many they are.
+fn add_waiting<E: Eye + Drop>(
     campaign: &Campaign<E>,
     seat: SeatNo,
-    out: &mut O,
+    tag: &[u8],
+    text: &mut Vec<u8>,
     tally: &mut Tally,
-) -> Result<Option<Entry>, Played>
-    requires there { seat < length campaign.now.origin.seats }
-    requires opening { IsOpening campaign.now.origin }
-    ensures taken { IfOk result (λ entry. option_to_list entry ≡ taken_of seat (seat_at (world_of campaign.now) seat)) }
-    ensures sends { Sends result (tagged_lines seat (waiting_lines campaign.now seat)) (O.written out.old) (O.written out.new) }
+) -> Result<u64, Memory>
+    requires { seat < length campaign.now.origin.seats }
+    ensures count { IfOk result (λ n. n ≡ length (waiting_lines campaign.now seat)) }
+    ensures text { OnOk result (text.new.items ≡ text.old.items ++ tagged_text tag.now (waiting_lines campaign.now seat)) }
     ensures counted { OnOk result (tally.new ≡ with_sent tally.old (waiting_lines campaign.now seat)) }
-    ensures count { O.faults_of out.old ≤ O.faults_of out.new }
-    ensures write_fault { played result ≡ Played.WriteFault → CountRose (O.faults_of out.old) (O.faults_of out.new) }
 {
-    let Ok(lines) = waiting_of(campaign, seat) else {
-        return Err(Played::Memory);
-    };
-    match send_lines(alloc, seat, &lines, out, tally) {
-        Ok(()) => Ok(taken_entry(campaign, seat, lines.is_empty())),
-        Err(stop) => Err(stop),
-    }
+    let before = text.len();
+    let count = add_lines(campaign, seat, tag, text)?;
+    tally.count_sent(count, without_tags(text.len() - before, count, tag.len()))?;
+    Ok(count)
 }
 
-// The lines that wait, each with its LF.
-fn waiting_of<E: Eye + Drop>(campaign: &Campaign<E>, seat: SeatNo) -> Result<Vec<LineText>, Memory>
+// The lines that wait, which aren't counted yet.
+fn add_lines<E: Eye + Drop>(
+    campaign: &Campaign<E>,
+    seat: SeatNo,
+    tag: &[u8],
+    text: &mut Vec<u8>,
+) -> Result<u64, Memory>
     requires { seat < length campaign.now.origin.seats }
-    ensures { IfOk result (λ lines. lines.items ≡ map (λ line. line ++ 10 ∷ []) (waiting_lines campaign.now seat)) }
+    ensures count { IfOk result (λ n. n ≡ length (waiting_lines campaign.now seat)) }
+    ensures text { OnOk result (text.new.items ≡ text.old.items ++ tagged_text tag.now (waiting_lines campaign.now seat)) }
 {
-    campaign.lines_for(seat, 0)
+    campaign.add_lines_for(seat, 0, tag, text)
+}
+
+// How many of the bytes of so many lines aren't their tags'.
+fn without_tags(bytes: usize, lines: u64, tag: usize) -> u64
+    requires { lines * tag ≤ bytes }
+    ensures { result ≡ bytes - lines * tag }
+{
+    bytes as u64 - lines * tag as u64
 }
 
 // The Taken, where lines wait.
@@ -206,78 +220,4 @@ fn taken_entry<E: Eye + Drop>(
         seat,
         count: campaign.queued(seat),
     })
-}
-
-// Lines that have their LFs, each in one piece.
-fn send_lines<O: Sink>(
-    alloc: Global,
-    seat: SeatNo,
-    lines: &[LineText],
-    out: &mut O,
-    tally: &mut Tally,
-) -> Result<(), Played>
-    requires { AllByRecursion (λ line. IsWholeLines (seat_tag seat ++ line)) lines.now }
-    ensures sends { Sends result (flat_map (λ line. seat_tag seat ++ line) lines.now) (O.written out.old) (O.written out.new) }
-    ensures counted { OnOk result (tally.new ≡ with_text tally.old (length lines.now) (length (flat_map (λ line. line) lines.now))) }
-    ensures count { O.faults_of out.old ≤ O.faults_of out.new }
-    ensures write_fault { played result ≡ Played.WriteFault → CountRose (O.faults_of out.old) (O.faults_of out.new) }
-{
-    for line in lines {
-        match send_line(alloc, seat, line.bytes(), out, tally) {
-            Ok(()) => {}
-            Err(stop) => return Err(stop),
-        }
-    }
-    Ok(())
-}
-
-// A line that has its LF, in one piece.
-fn send_line<O: Sink>(
-    alloc: Global,
-    seat: SeatNo,
-    line: &[u8],
-    out: &mut O,
-    tally: &mut Tally,
-) -> Result<(), Played>
-    ensures sends { Sends result (seat_tag seat ++ line.now) (O.written out.old) (O.written out.new) }
-    ensures counted { OnOk result (tally.new ≡ with_text tally.old 1 (length line.now)) }
-    ensures count { O.faults_of out.old ≤ O.faults_of out.new }
-    ensures write_fault { played result ≡ Played.WriteFault → CountRose (O.faults_of out.old) (O.faults_of out.new) }
-{
-    let Ok(text) = counted_text(alloc, seat, line, tally) else {
-        return Err(Played::Memory);
-    };
-    match write_whole(out, &text) {
-        Ok(()) => Ok(()),
-        Err(_) => Err(Played::WriteFault),
-    }
-}
-
-// A line that is sent, which is counted, behind its seat's number and TAB.
-fn counted_text(
-    alloc: Global,
-    seat: SeatNo,
-    line: &[u8],
-    tally: &mut Tally,
-) -> Result<Vec<u8>, Memory>
-    ensures text { IfOk result (λ text. text.items ≡ seat_tag seat ++ line.now) }
-    ensures counted { OnOk result (tally.new ≡ with_text tally.old 1 (length line.now)) }
-{
-    tally.count_sent(line)?;
-    tagged(alloc, seat, line)
-}
-
-// A line behind its seat's number and TAB.
-fn tagged(alloc: Global, seat: SeatNo, line: &[u8]) -> Result<Vec<u8>, Memory>
-    ensures { IfOk result (λ text. text.items ≡ seat_tag seat ++ line.now) }
-{
-    let number = seat.number();
-    let Ok(tag) = format!(in alloc; "{number}\t") else {
-        return Err(Memory);
-    };
-    let mut text = tag.into_bytes();
-    if text.extend_from_slice(line).is_err() {
-        return Err(Memory);
-    }
-    Ok(text)
 }

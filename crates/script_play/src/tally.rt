@@ -1,5 +1,5 @@
 //! What is counted of a script that is played.
-ghost use Rattle.std.specs.Prelude.{◌≡◌, ◌<◌, ◌≤◌, ◌+◌, length, IfOk, OnOk};
+ghost use Rattle.std.specs.Prelude.{◌≡◌, ◌<◌, ◌≤◌, ◌+◌, IfOk, OnOk};
 ghost use Rattle.script_play.specs.Counting.{no_tally, with_line, with_text};
 
 use crate::run::LINE_LIMIT;
@@ -41,12 +41,12 @@ impl Tally {
         self.refused += u64::from(refused);
     }
 
-    /// A line that has its line end is sent. A count past its type is taken for want of memory.
-    pub(crate) fn count_sent(&mut self, line: &[u8]) -> Result<(), Memory>
-        ensures { OnOk result (self.new ≡ with_text self.old 1 (length line.now)) }
+    /// So many lines are sent, of so many bytes with their line ends. A count past its type is taken for want of memory.
+    pub(crate) fn count_sent(&mut self, lines: u64, bytes: u64) -> Result<(), Memory>
+        ensures { OnOk result (self.new ≡ with_text self.old lines bytes) }
     {
-        self.sent = sum(self.sent, 1)?;
-        self.bytes = sum(self.bytes, line.len() as u64)?;
+        self.sent = sum(self.sent, lines)?;
+        self.bytes = sum(self.bytes, bytes)?;
         Ok(())
     }
 }

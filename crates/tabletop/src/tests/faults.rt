@@ -42,21 +42,22 @@ fn each_read_fails_once(rt: HostRuntime) {
 }
 
 // The write of this number fails, before which so many lines were written.
-fn write_fails(rt: &impl Abort, alloc: Global, number: usize, whole: &str) {
+fn write_fails(rt: &impl Abort, alloc: Global, number: u64, lines: usize, whole: &str) {
     let run = Run {
-        out_fails: &[number as u64],
+        out_fails: &[number],
         ..plain_run(TWO_SEATS, SCRIPT)
     };
     let (status, output) = played(rt, alloc, &WORDS, &run);
     assert!(rt; status == 5 && is_front(&output, whole), "{number}");
-    assert_eq!(rt; output.lines().count(), number);
+    assert_eq!(rt; output.lines().count(), lines);
 }
 
 #[test]
 fn each_write_fails_once(rt: HostRuntime) {
     let (_, whole) = printed(&rt, rt.alloc(), SCRIPT);
-    for number in 0..whole.lines().count() {
-        write_fails(&rt, rt.alloc(), number, &whole);
+    // (all that a line of the script sends is one write)
+    for (number, lines) in [(0, 0), (1, 2), (2, 4), (3, 6)] {
+        write_fails(&rt, rt.alloc(), number, lines, &whole);
     }
 }
 

@@ -64,12 +64,12 @@ tabletop: bad script line 2
         ..PLAIN
     },
     Run {
-        name: "an output whose third write fails",
+        name: "an output whose second write fails",
         campaign: THREE_SEATS,
         script: r#"1 {"do":"hello","seat":1,"key":"a"}
 1 {"do":"look"}
 "#,
-        out_fails: &[2],
+        out_fails: &[1],
         status: 5,
         output: r#"1 {"n":1,"ok":"hello","seat":1,"seats":3}
 1 {"full":{"lights":{},"maps":[],"sights":{},"tokens":[]}}
