@@ -12,14 +12,13 @@ use Rattle.campaign_law.specs.State.{world_in, state_of}
 use Rattle.campaign_law.specs.Law.{IsOpening}
 use Rattle.campaign_core.specs.declared.next.Prepared.{Prepared}
 use Rattle.campaign_core.specs.declared.campaign.Made.{Made}
-use Rattle.campaign_core.specs.declared.campaign.Made.TheVariants.{Whole, Alone, Taking}
+use Rattle.campaign_core.specs.declared.campaign.Made.TheVariants.{Whole, Alone}
 use Rattle.campaign_core.specs.declared.campaign.Staged.{Staged}
 use Rattle.campaign_core.specs.CutList.{AreCuts, Ledger}
 use Rattle.campaign_core.specs.Leaving.{due, cut_due}
 use Rattle.campaign_core.specs.Places.{Standing, law, HaveRoom}
 use Rattle.campaign_core.specs.Shown.{AreShown}
 use Rattle.campaign_core.specs.Prepared.{IsPrepared}
-use Rattle.campaign_core.specs.Taking.{is_taken}
 
 abbrev pub entry_in : Staged → Entry
 entry_in staged = staged.entry
@@ -33,17 +32,10 @@ pub record IsWhole (ledger : Ledger) (before : Standing) (kept : Kept) (e : Entr
   pub room : HaveRoom p.nexts.items before.posts
   pub prepared : IsPrepared (law before) kept e p
 
--- there is a place for a Taken, as for any other entry
-pub record IsTaking (ledger : Ledger) (e : Entry) : Type 0 where
-  pub taken : is_taken e ≡ true
-  pub enough : 67 ≤ ledger.places
-  pub enough_cuts : 33 ≤ ledger.cut_places
-
--- an entry stages itself alone only as a Leave that changes its seat's state, or as a Cut of a Joined seat, and as a Taken
+-- an entry stages itself alone only as a Leave that changes its seat's state, or as a Cut of a Joined seat
 abbrev pub IsMade : Ledger → Standing → Kept → Entry → Made → Type 0
 IsMade ledger before kept e (Whole p) = IsWhole ledger before kept e p
 IsMade ledger before kept e Alone = changes_state (world_in (law before)) e ≡ true
-IsMade ledger before kept e Taking = IsTaking ledger e
 
 abbrev pub IsStaged : Ledger → Standing → Kept → Staged → Type 0
 IsStaged ledger before kept s = IsMade ledger before kept s.entry s.made

@@ -1,5 +1,5 @@
 //! A campaign as its callers see it: the world that it opened with, and its history.
-ghost use Rattle.std.specs.Prelude.{◌+◌, None, IfSome, ◌≡◌, ◌<◌, ◌≤◌, ◌++◌, ◌∷◌, [], ℕ, length, Some, IfOk, IsOk, OnOk, IfErr, OnErr, map, flat_map, drop, option_map, is_some, true, ◌-◌, vec_len, vec_capacity};
+ghost use Rattle.std.specs.Prelude.{◌+◌, None, IfSome, ◌≡◌, ◌<◌, ◌≤◌, ◌++◌, ◌∷◌, [], ℕ, length, Some, IfOk, IsOk, OnOk, IfErr, OnErr, map, flat_map, drop, option_map, is_some, true, false, ◌-◌, vec_len, vec_capacity};
 ghost use Rattle.campaign_file.specs.Campaign.{IsOpening as IsOpeningList};
 ghost use Rattle.mails.specs.Texts.{tagged_text, text_of};
 ghost use Rattle.campaign_law.specs.Worlds.{opening_world};
@@ -55,8 +55,6 @@ pub(crate) enum Made {
     Whole(Prepared),
     /// Nothing: a Leave that changes its seat's state, or a Cut of a Joined seat, is done in place.
     Alone,
-    /// Nothing: a Taken is done in place too.
-    Taking,
 }
 
 /// An entry with what is made of it.
@@ -214,11 +212,6 @@ impl<E: Eye + Drop> Campaign<E> {
         if make_places(&mut self.history, &mut self.cuts).is_err() {
             return Err(entry);
         }
-        if is_taken(&entry) {
-            let made = Made::Taking;
-            self.staged = Some(Staged { entry, made });
-            return Ok(());
-        }
         let Ok(prepared) = made_by(self.alloc, &self.state, &self.keep, &mut self.eye, &entry)
         else {
             return Err(entry);
@@ -264,15 +257,35 @@ impl<E: Eye + Drop> Campaign<E> {
                 self.history.push_reserved(entry);
                 return answer;
             }
-            Made::Taking => {
-                let answer = take(&mut self.state, &entry);
-                self.history.push_reserved(entry);
-                return answer;
-            }
         };
         let answer = act(&mut self.state, &mut self.keep, &entry, prepared);
         self.history.push_reserved(entry);
         answer
+    }
+
+    /// Applies a Taken in place and appends it to the history, as `step` does.
+    fn take(&mut self, entry: Entry) -> Result<Answer, Entry>
+        requires taken { is_taken_lem entry ≡ true }
+        ensures origin { self.new.origin ≡ self.old.origin }
+        ensures history { OnOk result (self.new.history ≡ self.old.history ++ entry ∷ []) }
+        ensures answer { IfOk result (λ a. a ≡ answer_after self.old entry) }
+        ensures back { IfErr result (λ e. e ≡ entry) }
+        ensures unchanged { OnErr result (self.new ≡ record self.old { staged = None; looks = self.new.looks }) }
+        ensures staged { self.new.staged ≡ None }
+        ensures looks { self.new.looks ≡ self.old.looks }
+        ensures refused { IfOk result (λ a. is_some a.refusal ≡ true → ChangesLittle (world_of self.old) entry) }
+        ensures sure { changes_state (world_of self.old) entry ≡ false }
+
+        // What each player was sent is what the machine without a world prints.
+        ensures sent { (p : ℕ) → IsSentAsMachine self.new.origin self.new.history p }
+    {
+        clear_staged(&mut self.staged);
+        if make_places(&mut self.history, &mut self.cuts).is_err() {
+            return Err(entry);
+        }
+        let answer = take(&mut self.state, &entry);
+        self.history.push_reserved(entry);
+        Ok(answer)
     }
 
     /// Applies an entry and appends it to the history. The entry comes back only for want of memory, and
@@ -292,6 +305,9 @@ impl<E: Eye + Drop> Campaign<E> {
         // What each player was sent is what the machine without a world prints.
         ensures sent { (p : ℕ) → IsSentAsMachine self.new.origin self.new.history p }
     {
+        if is_taken(&entry) {
+            return self.take(entry);
+        }
         match self.prepare(entry) {
             Ok(()) => Ok(self.commit()),
             Err(entry) => Err(entry),
@@ -438,6 +454,15 @@ impl<E: Eye + Drop> Campaign<E> {
     {
         let post = self.post(seat);
         add_past(&post.mail, first.saturating_sub(post.taken), tag, text)
+    }
+}
+
+/// Nothing is staged then. Where nothing was, nothing is written: it has much room.
+fn clear_staged(staged: &mut Option<Staged>)
+    ensures { staged.new ≡ None }
+{
+    if staged.is_some() {
+        *staged = None;
     }
 }
 

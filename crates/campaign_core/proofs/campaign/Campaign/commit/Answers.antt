@@ -10,15 +10,14 @@ use Rattle.campaign_law.specs.Session.{changes_state}
 use Rattle.campaign_law.proofs.Lists.{append_nil}
 use Rattle.campaign_law.proofs.Simulation.{sent_is_machine}
 use Rattle.campaign_law.proofs.Refused.{refused_changes_little}
-use Rattle.campaign_core.specs.declared.campaign.Made.TheVariants.{Whole, Alone, Taking}
+use Rattle.campaign_core.specs.declared.campaign.Made.TheVariants.{Whole, Alone}
 use Rattle.campaign_core.specs.CutList.{cut_by}
 use Rattle.campaign_core.specs.Places.{law, world_at}
-use Rattle.campaign_core.specs.Running.{IsRunning, IsTaking, IsWhole, entry_in}
+use Rattle.campaign_core.specs.Running.{IsRunning, IsWhole, entry_in}
 use Rattle.campaign_core.proofs.Cutting.{moved_cuts}
 use Rattle.campaign_core.proofs.CutLists.{none_cut}
 use Rattle.campaign_core.proofs.Laws.{world_law}
 use Rattle.campaign_core.proofs.Shows.{left_shown}
-use Rattle.campaign_core.proofs.Taking.{taken_shown, taken_still}
 use Rattle.campaign_core.proofs.Running.{advances, if_is, made_is, owed_cuts_most, owed_most, running_settled, running_sound, world_now}
 use Rattle.campaign_core.proofs.campaign.Campaign.commit.Goals as goal
 
@@ -90,64 +89,6 @@ returns-in-Alone-clause-refused g c =
 
 pub returns-in-Alone-clause-sent : goal.returns-in-Alone-clause-sent
 returns-in-Alone-clause-sent g c = λ p. sent_is_machine _ _ p c.self.invariant.opening
-
--- ---- a Taken
-
-pub take-answer-requires-clause-settled : goal.take-answer-requires-clause-settled
-take-answer-requires-clause-settled g c = running_settled _ _ _ _ _ _ c.self.invariant
-
-pub take-answer-requires-clause-sound : goal.take-answer-requires-clause-sound
-take-answer-requires-clause-sound g c = running_sound _ _ _ _ _ _ c.self.invariant
-
-pub take-answer-requires-clause-taken : goal.take-answer-requires-clause-taken
-take-answer-requires-clause-taken g c =
-    let taking : IsTaking _ c.in-Some.staged.entry = made_is _ c.self.inside.state c.self.inside.keep c.self.inside.staged c.in-Some.staged Taking c.in-Some.ensures.value c.in-Taking.is c.self.invariant.staged in
-    taking.taken
-
-pub push_reserved-requires-in-Taking : goal.push_reserved-requires-in-Taking
-push_reserved-requires-in-Taking g c =
-    let taking : IsTaking _ c.in-Some.staged.entry = made_is _ c.self.inside.state c.self.inside.keep c.self.inside.staged c.in-Some.staged Taking c.in-Some.ensures.value c.in-Taking.is c.self.invariant.staged in
-    let enough = taking.enough in
-    omega (arith, enough)
-
-pub invariant_of-self-in-Taking : goal.invariant_of-self-in-Taking
-invariant_of-self-in-Taking g c =
-    let e = c.in-Some.staged.entry in
-    let taking : IsTaking _ e = made_is _ c.self.inside.state c.self.inside.keep c.self.inside.staged c.in-Some.staged Taking c.in-Some.ensures.value c.in-Taking.is c.self.invariant.staged in
-    let enough = taking.enough in
-    let few = owed_most _ _ _ c.self.inside.state c.take-answer.new.state _ _ c.self.invariant c.take-answer.ensures.seats in
-    let enough_cuts = taking.enough_cuts in
-    let few_cuts = owed_cuts_most _ _ _ c.self.inside.state c.take-answer.new.state _ _ c.self.invariant c.take-answer.ensures.seats in
-    let still : changes_state (replay (world_in (law c.self.inside.origin)) c.self.inside.history.items) e ≡ false = taken_still (replay (world_in (law c.self.inside.origin)) c.self.inside.history.items) e taking.taken in
-    let len = c.push_reserved-in-Taking.ensures.len in
-    let capacity = c.push_reserved-in-Taking.ensures.capacity in
-    subst (IsRunning (world_in (law c.self.inside.origin)) c.push_reserved-in-Taking.new.self.items _ c.take-answer.new.state c.self.inside.keep) (sym c.in-Some.ensures.after)
-    (advances _ _ _ _ _ c.self.inside.state c.take-answer.new.state c.self.inside.keep c.self.inside.keep c.self.inside.staged e c.self.invariant
-    c.take-answer.ensures.state c.take-answer.ensures.seats (subst (λ (s : Scene). AreKept s c.self.inside.keep.fields) (sym c.take-answer.ensures.scene) c.self.invariant.fields)
-    (taken_shown (world_in (law c.self.inside.state)) e c.self.inside.keep.views taking.taken (running_settled _ _ _ _ _ _ c.self.invariant) c.self.invariant.views) refl
-    (omega (arith, enough, few, len, capacity)) (omega (arith, enough_cuts, few_cuts)) c.push_reserved-in-Taking.ensures.items
-    (sym (append_nil c.self.inside.cuts.items)
-    ∙ ap (λ more. c.self.inside.cuts.items ++ more) (sym (none_cut (replay (world_in (law c.self.inside.origin)) c.self.inside.history.items) (length c.self.inside.history.items) e still))))
-
-pub returns-in-Taking-clause-answer : goal.returns-in-Taking-clause-answer
-returns-in-Taking-clause-answer g c =
-    let e = c.in-Some.staged.entry in
-    if_is c.args.self.now.staged e _ (sym (ap (λ (x : Course). x.staged) c.self.view_is) ∙ ap (option_map entry_in) (sym c.in-Some.ensures.value))
-    (c.take-answer.ensures.answer
-    ∙ ap (λ (w : World). answer_of (steps_of w e) (outcome_of w e)) (world_now (world_in (law c.self.inside.origin)) c.self.inside.history.items _ c.self.inside.state c.self.inside.keep c.self.inside.staged c.self.invariant)
-    ∙ ap (λ (x : Course). answer_of (steps_of (replay x.origin x.history) e) (outcome_of (replay x.origin x.history) e)) c.self.view_is)
-
-pub returns-in-Taking-clause-refused : goal.returns-in-Taking-clause-refused
-returns-in-Taking-clause-refused g c =
-    let e = c.in-Some.staged.entry in
-    let now = world_now (world_in (law c.self.inside.origin)) c.self.inside.history.items _ c.self.inside.state c.self.inside.keep c.self.inside.staged c.self.invariant in
-    if_is c.args.self.now.staged e _ (sym (ap (λ (x : Course). x.staged) c.self.view_is) ∙ ap (option_map entry_in) (sym c.in-Some.ensures.value))
-    (λ is. subst (λ (x : Course). ChangesLittle (replay x.origin x.history) e) c.self.view_is
-    (refused_changes_little (world_in (law c.self.inside.origin)) c.self.inside.history.items e c.self.invariant.opening
-    (sym (ap (λ (a : Answer). is_some a.refusal) c.take-answer.ensures.answer ∙ ap (λ (w : World). is_some (outcome_of w e).refusal) now) ∙ is)))
-
-pub returns-in-Taking-clause-sent : goal.returns-in-Taking-clause-sent
-returns-in-Taking-clause-sent g c = λ p. sent_is_machine _ _ p c.self.invariant.opening
 
 -- ---- all that an entry makes
 

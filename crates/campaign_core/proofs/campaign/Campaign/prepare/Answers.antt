@@ -10,7 +10,7 @@ use Rattle.campaign_law.specs.State.{State, world_in}
 use Rattle.campaign_law.proofs.Simulation.{sent_is_machine}
 use Rattle.campaign_core.specs.CutList.{Ledger}
 use Rattle.campaign_core.specs.Places.{law, posted, HaveRoom}
-use Rattle.campaign_core.specs.declared.campaign.Made.TheVariants.{Whole, Taking}
+use Rattle.campaign_core.specs.declared.campaign.Made.TheVariants.{Whole}
 use Rattle.campaign_core.specs.declared.campaign.Staged.{Staged}
 use Rattle.campaign_core.specs.Prepared.{IsPrepared}
 use Rattle.campaign_core.specs.Running.{IsRunning}
@@ -83,14 +83,6 @@ returns-then-is_err-clause-looks g c =
 pub returns-then-is_err-clause-sent : goal.returns-then-is_err-clause-sent
 returns-then-is_err-clause-sent g c = λ p. sent_is_machine _ _ p c.self.invariant.opening
 
-pub returns-then-is_taken-clause-looks : goal.returns-then-is_taken-clause-looks
-returns-then-is_taken-clause-looks g c =
-    let before = ap (λ (x : Course). x.looks) c.self.view_is in
-    omega (arith, before)
-
-pub returns-then-is_taken-clause-sent : goal.returns-then-is_taken-clause-sent
-returns-then-is_taken-clause-sent g c = λ p. sent_is_machine _ _ p c.self.invariant.opening
-
 pub returns-then-is_err-2-clause-sure : goal.returns-then-is_err-2-clause-sure
 returns-then-is_err-2-clause-sure g c =
     let same = world_law c.self.inside.state ∙ world_now (world_in (law c.self.inside.origin)) c.self.inside.history.items _ c.self.inside.state c.self.inside.keep c.self.inside.staged c.self.invariant in
@@ -125,21 +117,6 @@ invariant_of-self g c =
     restaged (world_in (law c.self.inside.origin)) c.self.inside.history.items _ _ c.self.inside.state c.self.inside.state c.self.inside.keep c.self.inside.staged _ c.self.invariant
     refl refl refl (omega arith) (omega arith)
     (sym (ap (λ (w : World). changes_state w c.args.entry) (world_law c.self.inside.state)) ∙ sym c.is_changed_by.ensures ∙ c.if-is_changed_by.true)
-
--- a Taken has a place
-pub invariant_of-self-then-is_taken : goal.invariant_of-self-then-is_taken
-invariant_of-self-then-is_taken g c =
-    let ledger : Ledger = record { cuts = c.make_places.new.cuts.items; places = vec_capacity c.make_places.new.history - vec_len c.make_places.new.history; cut_places = vec_capacity c.make_places.new.cuts - vec_len c.make_places.new.cuts } in
-    let stage : Option Staged = Some (record { entry = c.args.entry; made = Taking }) in
-    let done = sym c.is_err.ensures.value ∙ c.if-is_err.false in
-    subst (λ h. IsRunning (world_in (law c.self.inside.origin)) h ledger c.self.inside.state c.self.inside.keep stage) (sym c.make_places.ensures.history)
-    (restaged (world_in (law c.self.inside.origin)) c.self.inside.history.items _ ledger c.self.inside.state c.self.inside.state c.self.inside.keep c.self.inside.staged stage c.self.invariant
-    refl refl c.make_places.ensures.cuts c.make_places.ensures.kept c.make_places.ensures.kept_cuts
-    (record {
-      taken = sym c.is_taken.ensures ∙ c.if-is_taken.true;
-      enough = on_ok c.make_places.result _ done c.make_places.ensures.enough;
-      enough_cuts = on_ok c.make_places.result _ done c.make_places.ensures.enough_cuts;
-    }))
 
 -- all that another entry makes, and room for it
 pub invariant_of-self-2 : goal.invariant_of-self-2
