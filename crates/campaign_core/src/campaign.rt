@@ -203,7 +203,7 @@ impl<E: Eye + Drop> Campaign<E> {
         // What each player was sent is what the machine without a world prints.
         ensures sent { (p : ℕ) → IsSentAsMachine self.new.origin self.new.history p }
     {
-        self.staged = None;
+        clear_staged(&mut self.staged);
         if self.state.is_changed_by(&entry) {
             let made = Made::Alone;
             self.staged = Some(Staged { entry, made });
