@@ -22,6 +22,9 @@ use names::{LineText, Memory, SeatNo};
 use std::alloc::Global;
 use topology::Eye;
 
+/// Room for what most entries send, which is made at once.
+const TEXT_ROOM: usize = 1_024;
+
 /// Writes the direct reply to the seat that acted and the lines that wait for each seat, in ascending
 /// order of seats and in one piece. The answer has a Taken for each seat with waiting lines.
 pub(crate) fn send_all<O: Sink, E: Eye + Drop>(
@@ -68,11 +71,21 @@ fn add_all<E: Eye + Drop>(
     ensures text { OnOk result (text.new.items ≡ text.old.items ++ sent_below campaign.now acting reply.now (length campaign.now.origin.seats)) }
     ensures counted { OnOk result (tally.new ≡ with_sent tally.old (lines_below campaign.now acting reply.now (length campaign.now.origin.seats))) }
 {
+    make_room(text)?;
     let mut entries = Vec::new(alloc);
     for number in 0..seats {
         add_next(campaign, number, acting, reply, text, tally, &mut entries)?;
     }
     Ok(entries)
+}
+
+fn make_room(text: &mut Vec<u8>) -> Result<(), Memory>
+    ensures { text.new.items ≡ text.old.items }
+{
+    match text.reserve(TEXT_ROOM) {
+        Ok(()) => Ok(()),
+        Err(_) => Err(Memory),
+    }
 }
 
 // What is sent to the seat of this number, whose Taken is added where lines wait.
