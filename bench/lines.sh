@@ -25,10 +25,11 @@ import subprocess
 import sys
 
 PROGRAM, YARDSTICK, WORK = sys.argv[1:4]
-ROUNDS = 3
+ROUNDS = 5
 LINES = 2000
-# A short line is told from none by more of them; a seat has 16,384 lines at most.
-SHORT_LINES = 16000
+# A short line is told from none by many of them. A seat has 16,384 lines at most, so all four players say them in turn.
+SHORT_LINES = 64000
+PLAYERS = 4
 
 
 def processor_time(command, script):
@@ -64,12 +65,17 @@ def there_and_back(seat, token, cell, count):
     return [line(seat, do="move", token=token, path=[other if k % 2 == 0 else [x, y]]) for k in range(count)]
 
 
+def in_turn(**fields):
+    """A short line of each player in turn."""
+    return [line(1 + k % PLAYERS, **fields) for k in range(SHORT_LINES)]
+
+
 def kinds(campaign):
     """The lines of each kind, which are played behind the seats' hellos."""
     tokens = {token["id"]: token for token in json.load(open(campaign))["tokens"]}
     unowned = tokens["0:t37"]  # on the layer hidden, so that no player's view changes
-    yield "say to all", [line(1, do="say", text="hello", to="all")] * SHORT_LINES, True
-    yield "roll to oneself", [line(1, do="roll", dice="4d6k3", to="self")] * SHORT_LINES, True
+    yield "say to all", in_turn(do="say", text="hello", to="all"), True
+    yield "roll to oneself", in_turn(do="roll", dice="4d6k3", to="self"), True
     yield "move of a hidden token", [
         line(0, do="place", token="0:t37", map="drill", cell=[k % 2 + unowned["cell"][0] % 90, 3]) for k in range(LINES)], True
     yield "move of a player's token", there_and_back(1, "0:t4", tokens["0:t4"]["cell"], LINES), True
@@ -114,5 +120,5 @@ for lines in (2000, 10000):
         campaign, script = make(seed, lines)
         ours = processor_time([PROGRAM, "play", campaign], script)
         theirs = processor_time([YARDSTICK, "play", campaign], script)
-        row(f"seed {seed}, {lines} lines", None if ours is None else ours * 1e3, None if theirs is None else theirs * 1e3)
+        row(f"seed {seed}, {lines:,} lines", None if ours is None else ours * 1e3, None if theirs is None else theirs * 1e3)
 PYTHON
