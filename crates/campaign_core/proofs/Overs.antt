@@ -1,16 +1,16 @@
 -- The least seat for which too much waits.
-use Rattle.std.proofs.Common.{◌≡◌, ◌<◌, ℕ, zero, suc, ◌+◌, ◌-◌, Bool, true, false, cond, ◌&&◌, List, [], ◌∷◌, length, drop, Some, None, refl, sym, ◌∙◌, ap, arith, subst}
-use Rattle.std.specs.Prelude.{Option, slice_get, nat_lt, flat_map, IfSome}
+use Rattle.std.proofs.Common.{◌≡◌, ◌<◌, ℕ, suc, ◌+◌, ◌-◌, Bool, true, false, cond, ◌&&◌, List, [], ◌∷◌, length, drop, Some, None, refl, ◌∙◌, ap, arith}
+use Rattle.std.specs.Prelude.{Option, slice_get, nat_lt, IfSome}
 use Rattle.std.proofs.lemmas.Option.{slice_get_within}
 use Rattle.mails.specs.Texts.{text_of}
 use Rattle.seats.specs.SeatState.{is_joined}
 use Rattle.campaign_law.specs.declared.entry.Entry.{Entry}
 use Rattle.campaign_law.specs.Seat.{Seat}
 use Rattle.campaign_law.specs.World.{World, mapped_from, replay, seat_at}
-use Rattle.campaign_law.specs.Session.{session, waiting, standing}
-use Rattle.campaign_law.specs.State.{Post, State, post_of, state_of}
+use Rattle.campaign_law.specs.Session.{session, standing}
+use Rattle.campaign_law.specs.State.{State, post_of, state_of}
 use Rattle.campaign_law.proofs.States.{length-replay}
-use Rattle.campaign_core.specs.Over.{byte_limit, waiting_text, is_over, least_over, over_of, is_post_over, least_post_over}
+use Rattle.campaign_core.specs.Over.{byte_limit, waiting_text, is_over, least_over, over_of, least_post_over}
 use Rattle.campaign_core.proofs.Laws.{text_waits}
 
 -- ---- by the posts

@@ -39,10 +39,10 @@ seat_is o true s n count book queued taken = λ i. next_seat (record n { book = 
 seat_is o false s n count book queued taken = λ i. next_seat (record n { book = book i; queued = queued i; taken = taken i }) s
 
 -- where something was made
-pub some_is : (seat : ℕ) (acts : Bool) (o : Outcome) (v v' : View) (post : Post) (n : NextPost) → n.book ≡ cond acts o.book None → n.queued ≡ post.seat.queued + length n.lines.items
-    → n.taken ≡ (changed o acts post.seat).taken → n.lines.items ≡ queued_lines seat acts (Some post.seat) o v v' → moved n post ≡ post_by seat acts o v v' post
+pub some_is : (seat : ℕ) (acts : Bool) (o : Outcome) (v v' : View) (post : Post) (n : NextPost) → n.book ≡ cond acts o.book None → n.queued ≡ post.seat.queued + length n.lines
+    → n.taken ≡ (changed o acts post.seat).taken → n.lines ≡ queued_lines seat acts (Some post.seat) o v v' → moved n post ≡ post_by seat acts o v v' post
 some_is seat acts o v v' post n book queued taken lines =
-    let next : next_seat n post.seat ≡ seat_by seat acts o v v' post.seat = seat_is o acts post.seat n (length n.lines.items) book queued taken ∙ ap (λ ls. settled (length ls) (changed o acts post.seat)) lines in
+    let next : next_seat n post.seat ≡ seat_by seat acts o v v' post.seat = seat_is o acts post.seat n (length n.lines) book queued taken ∙ ap (λ ls. settled (length ls) (changed o acts post.seat)) lines in
     λ i. record { seat = next i; mail = mail_after post.seat (next i) (lines i) post.mail }
 
 -- where nothing was made
@@ -59,8 +59,8 @@ taken_same true o book s = refl
 taken_same false o book s = refl
 
 -- where something was made, with this book, if the seat acts
-pub some_own : (seat : ℕ) (acts : Bool) (o : Outcome) (book : Option Book) (v v' : View) (post : Post) (n : NextPost) → n.book ≡ cond acts book None → n.queued ≡ post.seat.queued + length n.lines.items
-    → n.taken ≡ (changed o acts post.seat).taken → n.lines.items ≡ queued_lines seat acts (Some post.seat) o v v' → moved n post ≡ post_by seat acts (with_book o (cond acts book None)) v v' post
+pub some_own : (seat : ℕ) (acts : Bool) (o : Outcome) (book : Option Book) (v v' : View) (post : Post) (n : NextPost) → n.book ≡ cond acts book None → n.queued ≡ post.seat.queued + length n.lines
+    → n.taken ≡ (changed o acts post.seat).taken → n.lines ≡ queued_lines seat acts (Some post.seat) o v v' → moved n post ≡ post_by seat acts (with_book o (cond acts book None)) v v' post
 unfolding with_book
 some_own seat acts o book v v' post n is queued taken lines =
     some_is seat acts (record o { book = cond acts book None }) v v' post n (is ∙ own_cond acts book) queued (taken ∙ taken_same acts o (cond acts book None) post.seat) lines

@@ -26,6 +26,7 @@ ghost use Rattle.campaign_core.specs.Steps.{with_book};
 ghost use Rattle.campaign_core.specs.Prepared.{IsPrepared};
 ghost use Rattle.campaign_core.specs.Shown.{AreShown, is_none, made_or, made_view, view_then};
 
+use crate::boxed::Boxed;
 use crate::outcome::{Outcome, decide};
 use crate::queues::{Glances, NextSeats, next_seats};
 use crate::state::{NextPost, State};
@@ -56,8 +57,8 @@ pub(crate) struct Changed {
 #[derive(Drop)]
 pub(crate) struct Prepared {
     pub(crate) nexts: Vec<Option<NextPost>>,
-    pub(crate) views: Vec<Option<View>>,
-    pub(crate) changed: Option<Changed>,
+    pub(crate) views: Vec<Option<Boxed<View>>>,
+    pub(crate) changed: Option<Boxed<Changed>>,
     pub(crate) answer: Answer,
 }
 
@@ -174,7 +175,7 @@ pub(crate) fn changed_scene<E: Eye>(
     entry: &Entry,
     outcome: &Outcome,
     steps: u32,
-) -> Result<Option<Changed>, Memory>
+) -> Result<Option<Boxed<Changed>>, Memory>
     requires fits { FitsTogether (world_at state.now) }
     requires settled { IsSettled state.now.scene }
     requires fields { AreKept state.now.scene keep.now.fields }
@@ -199,11 +200,12 @@ pub(crate) fn changed_scene<E: Eye>(
     let _count = scene.tokens().len();
     let fields = next_fields(alloc, &scene, command, keep.fields(), eye)?;
     let after = settled(alloc, scene, &fields, keep.fields())?;
-    Ok(Some(Changed {
+    let changed = Changed {
         scene: after.0,
         fields,
         seen: after.1,
-    }))
+    };
+    Boxed::some(alloc, changed)
 }
 
 // ---- the seats
@@ -216,7 +218,7 @@ pub(crate) fn seats_after(
     entry: &Entry,
     outcome: &Outcome,
     book: Option<SeatBook>,
-    changed: &Option<Changed>,
+    changed: &Option<Boxed<Changed>>,
 ) -> Result<NextSeats, Memory>
     requires fits { FitsTogether (world_at state.now) }
     requires tables { HasTables state.now.scene }
@@ -239,7 +241,7 @@ fn glances<'s>(
     state: &'s State,
     keep: &'s Keep,
     entry: &Entry,
-    changed: &'s Option<Changed>,
+    changed: &'s Option<Boxed<Changed>>,
 ) -> Glances<'s>
     requires fields { AreKept state.now.scene keep.now.fields }
     requires changed { IsChanged (world_at state.now) entry.now keep.now.fields changed.now }
@@ -252,7 +254,7 @@ fn glances<'s>(
 {
     let _entry = entry;
     match changed {
-        Some(changed) => glances_at(state, keep, changed),
+        Some(changed) => glances_at(state, keep, changed.get()),
         None => glances_still(state, keep),
     }
 }
@@ -308,19 +310,19 @@ fn glances_at<'s>(state: &'s State, keep: &'s Keep, changed: &'s Changed) -> Gla
 
 // ---- what is made is put in its place
 
-fn put_made(keep: &mut Keep, seat: SeatNo, made: Option<View>)
+fn put_made(keep: &mut Keep, seat: SeatNo, made: Option<Boxed<View>>)
     requires { seat < length keep.old.views }
     ensures fields { keep.new.fields ≡ keep.old.fields }
     ensures count { length keep.new.views ≡ length keep.old.views }
     ensures views { (other : ℕ) → view_at other keep.new.views ≡ (if seat == other then made_or made (view_at other keep.old.views) else view_at other keep.old.views) }
 {
     if let Some(view) = made {
-        keep.put_view(seat, view);
+        keep.put_view(seat, view.into_inner());
     }
 }
 
 /// Puts in the views that were made.
-fn put_views(keep: &mut Keep, views: Vec<Option<View>>)
+fn put_views(keep: &mut Keep, views: Vec<Option<Boxed<View>>>)
     requires count { length views.items ≤ length keep.old.views }
     requires seats { length keep.old.views ≤ 33 }
     ensures fields { keep.new.fields ≡ keep.old.fields }
@@ -342,8 +344,8 @@ fn go_on(
     state: &mut State,
     keep: &mut Keep,
     nexts: Vec<Option<NextPost>>,
-    views: Vec<Option<View>>,
-    changed: Option<Changed>,
+    views: Vec<Option<Boxed<View>>>,
+    changed: Option<Boxed<Changed>>,
 )
     requires count { length nexts.items ≤ length state.old.posts }
     requires room { HaveRoom nexts.items state.old.posts }
@@ -359,6 +361,7 @@ fn go_on(
     put_views(keep, views);
     match changed {
         Some(changed) => {
+            let changed = changed.into_inner();
             state.go_on(nexts, Some(changed.scene));
             put_fields(keep, changed.fields);
         }

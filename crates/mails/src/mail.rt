@@ -1,8 +1,9 @@
 //! The lines that wait for a seat.
 ghost use Rattle.std.specs.Prelude.{◌≡◌, ◌≤◌, ◌++◌, ◌-◌, [], ◌∷◌, IfOk, IfSome, OnOk, drop, length, map, nat_lt};
 ghost use Rattle.mails.specs.Texts.{tagged_text, text_of};
-ghost use Rattle.mails.specs.Waiting.{IsSum};
+ghost use Rattle.std.specs.VecDeque.{deque_len, deque_capacity};
 
+use crate::lines::{Lines, sum_of};
 use names::{LineText, Memory};
 use std::alloc::Global;
 use std::collections::VecDeque;
@@ -172,16 +173,16 @@ impl Mail {
     }
 
     /// Puts in further lines, for which there are places. It takes no memory.
-    pub fn put_in(&mut self, lines: Vec<LineText>)
-        requires { length lines.items ≤ self.old.room }
-        ensures { self.new.lines ≡ self.old.lines ++ lines.items }
+    pub fn put_in(&mut self, lines: Lines)
+        requires { length lines ≤ self.old.room }
+        ensures { self.new.lines ≡ self.old.lines ++ lines }
     {
-        let size = sum_of(self.size, size_of(&lines));
-        let mut further = VecDeque::from_vec(lines);
-        match self.lines.append(&mut further) {
-            Ok(()) => {}
-            Err(_) => unreachable!(),
+        let size = sum_of(self.size, lines.size());
+        let Lines { first, rest } = lines;
+        if let Some(line) = first {
+            self.lines.push_back_reserved(line);
         }
+        append(&mut self.lines, rest);
         self.size = size;
     }
 
@@ -212,21 +213,19 @@ impl Mail {
     }
 }
 
-/// How many bytes these lines have, with their LFs; none, where they are more than can be counted.
-fn size_of(lines: &[LineText]) -> Option<u64>
-    ensures { IfSome result (λ n. n ≡ length (text_of lines.now)) }
+/// Puts in lines behind these, for which there are places. It takes no memory.
+fn append(lines: &mut VecDeque<LineText>, further: Vec<LineText>)
+    requires { length further.items ≤ deque_capacity lines.old - deque_len lines.old }
+    ensures { lines.new.items ≡ lines.old.items ++ further.items }
 {
-    let mut size: u64 = 0;
-    for line in lines {
-        size = size.checked_add(line.bytes().len() as u64)?.checked_add(1)?;
+    if further.is_empty() {
+        return;
     }
-    Some(size)
-}
-
-fn sum_of(first: Option<u64>, second: Option<u64>) -> Option<u64>
-    ensures { IfSome result (IsSum first second) }
-{
-    first?.checked_add(second?)
+    let mut further = VecDeque::from_vec(further);
+    match lines.append(&mut further) {
+        Ok(()) => {}
+        Err(_) => unreachable!(),
+    }
 }
 
 /// The line with its LF.

@@ -1,5 +1,4 @@
-use Rattle.std.proofs.Common.{◌≡◌, ◌∙◌, ap, sym, subst, Some, ℕ}
-use Rattle.std.specs.Prelude.{Option}
+use Rattle.std.proofs.Common.{◌∙◌, ap, sym}
 use Rattle.campaign_law.specs.State.{world_in}
 use Rattle.campaign_law.specs.Law.{Course}
 use Rattle.campaign_core.specs.Over.{over_of}

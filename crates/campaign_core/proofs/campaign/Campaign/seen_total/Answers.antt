@@ -1,4 +1,4 @@
-use Rattle.std.proofs.Common.{◌≡◌, ◌∙◌, sym, ap, subst}
+use Rattle.std.proofs.Common.{◌∙◌, sym, ap, subst}
 use Rattle.world.specs.Scene.{Scene}
 use Rattle.command_looks.specs.Fields.{AreKept}
 use Rattle.campaign_law.specs.World.{World, replay}

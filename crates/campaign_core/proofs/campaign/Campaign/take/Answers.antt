@@ -1,4 +1,4 @@
-use Rattle.std.proofs.Common.{◌≡◌, ◌≤◌, ◌+◌, ◌++◌, ◌∷◌, [], ◌∙◌, refl, sym, ap, subst, length, false, arith, ℕ}
+use Rattle.std.proofs.Common.{◌≡◌, ◌++◌, ◌∷◌, [], ◌∙◌, refl, sym, ap, subst, length, false, arith}
 use Rattle.world.specs.Scene.{Scene}
 use Rattle.command_looks.specs.Fields.{AreKept}
 use Rattle.campaign_law.specs.World.{replay}

@@ -1,6 +1,6 @@
 use Rattle.std.proofs.Common.{◌≡◌, ◌+◌, length, drop}
 use Rattle.mails.specs.Texts.{text_of}
-use Rattle.mails.proofs.mail.size_of.Given as goal
+use Rattle.mails.proofs.lines.size_of.Given as goal
 
 -- what was counted and what is left make the whole
 abbrev pub invariant-loop-line : goal.invariant-loop-line
