@@ -1,28 +1,25 @@
 //! Lines of messages.
-ghost use Rattle.std.specs.Prelude.{◌≡◌, codes, IfOk};
+ghost use Rattle.std.specs.Prelude.{◌≡◌, IfOk};
 ghost use Rattle.json_fields.specs.Lines.{IsOneLine};
-ghost use Rattle.serde_json.specs.View.{view};
-ghost use Rattle.chat.specs.Messages.{message_tree, message_line as message_text};
+ghost use Rattle.json_lines.specs.Objects.{plain_data};
+ghost use Rattle.chat.specs.Messages.{address as address_data, message_line as message_text};
 
 use crate::to::To;
-use json_fields::compact_line;
+use json_lines::{Plain, object_line};
 use names::{LineText, Memory, SeatNo};
-use serde_json::{Value, json};
-use std::alloc::{AllocError, Global};
+use std::alloc::Global;
 
-fn message_value(alloc: Global, from: u8, to: To, text: &str) -> Result<Value, AllocError>
-    ensures { IfOk result (λ v. view v ≡ message_tree from to text.now) }
+/// The address as a message shows it.
+fn address(to: To) -> Plain<'static>
+    ensures { plain_data result ≡ address_data to }
 {
-    let word = match to {
-        To::SelfOnly => "self",
-        To::Gm => "gm",
-        To::GmSelf => "gmself",
-        To::All => "all",
-        To::Seat(seat) => {
-            return json!(in alloc; {"from": from, "text": text, "to": seat.number()});
-        }
-    };
-    json!(in alloc; {"from": from, "text": text, "to": word})
+    match to {
+        To::SelfOnly => Plain::Text("self"),
+        To::Gm => Plain::Text("gm"),
+        To::GmSelf => Plain::Text("gmself"),
+        To::All => Plain::Text("all"),
+        To::Seat(seat) => Plain::Whole(u64::from(seat.number())),
+    }
 }
 
 /// The line of a message: compact JSON with the sender's number, the text and the address, which is
@@ -32,8 +29,12 @@ pub fn message_line(alloc: Global, from: SeatNo, to: To, text: &str) -> Result<L
     ensures text { IfOk result (λ line. line ≡ message_text from to text.now) }
     ensures one_line { IfOk result (λ line. IsOneLine line) }
 {
-    match message_value(alloc, from.number(), to, text) {
-        Ok(value) => compact_line(alloc, &value),
-        Err(_) => Err(Memory),
-    }
+    object_line(
+        alloc,
+        &[
+            ("from", Plain::Whole(u64::from(from.number()))),
+            ("text", Plain::Text(text)),
+            ("to", address(to)),
+        ],
+    )
 }
