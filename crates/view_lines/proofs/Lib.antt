@@ -1,2 +1,3 @@
 pub mod NoFloat
+pub mod Ordered
 pub mod RowLemmas

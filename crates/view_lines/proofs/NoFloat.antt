@@ -20,7 +20,7 @@ use Rattle.views.specs.declared.view.View.{View}
 use Rattle.views.specs.declared.change.Change.{Change}
 use Rattle.views.specs.declared.change.MapChange.{MapChange}
 use Rattle.views.specs.Keys.{Named}
-use Rattle.view_lines.specs.Lines.{with_member, whole, list_data, wholes_data, text_or_null, put_list, put_some, put_named, radius_data, lights_data, sights_data, put_lights, put_sights, prop_data, props_data, run_data, runs_data, terrain_run_data, terrain_data, mode_data, map_data, put_owned, put_whole, token_data, maps_data, tokens_data, cell_data, view_data, lettered, map_change_data, change_data, full_tree, change_tree}
+use Rattle.view_lines.specs.Lines.{with_member, whole, list_data, wholes_data, text_or_null, put_list, put_some, put_named, radius_data, lights_data, sights_data, put_lights, put_sights, prop_data, props_data, run_data, runs_data, terrain_run_data, terrain_data, mode_data, map_data, put_owned, put_whole, token_members, token_data, maps_data, tokens_data, cell_data, view_data, lettered, map_change_data, change_data, full_tree, change_tree}
 
 none : (a b : Bool) → a ≡ false → b ≡ false → (a || b) ≡ false
 none a b e f = λ i. e i || f i
@@ -87,27 +87,48 @@ props ps = items prop_data (λ p. refl) ps
 map_none : (m : MapView) → has_float (map_data m) ≡ false
 unfolding map_data
 map_none m =
-    put_some-none (codes "shown") (boolean) (λ b. refl) (m.shown) (with_member (codes "w") (whole m.size.w) (with_member (codes "seen") (list_data (runs_data m.seen)) (with_member (codes "name") (string m.name) (with_member (codes "mode") (mode_data m.mode) (with_member (codes "h") (whole m.size.h) (with_member (codes "ground") (list_data (terrain_data m.exposed m.letters)) (no_members))))))) (with_member-none (codes "w") (whole m.size.w) (with_member (codes "seen") (list_data (runs_data m.seen)) (with_member (codes "name") (string m.name) (with_member (codes "mode") (mode_data m.mode) (with_member (codes "h") (whole m.size.h) (with_member (codes "ground") (list_data (terrain_data m.exposed m.letters)) (no_members)))))) (refl) (with_member-none (codes "seen") (list_data (runs_data m.seen)) (with_member (codes "name") (string m.name) (with_member (codes "mode") (mode_data m.mode) (with_member (codes "h") (whole m.size.h) (with_member (codes "ground") (list_data (terrain_data m.exposed m.letters)) (no_members))))) (items run_data (λ r. refl) (runs_of m.seen)) (with_member-none (codes "name") (string m.name) (with_member (codes "mode") (mode_data m.mode) (with_member (codes "h") (whole m.size.h) (with_member (codes "ground") (list_data (terrain_data m.exposed m.letters)) (no_members)))) (refl) (with_member-none (codes "mode") (mode_data m.mode) (with_member (codes "h") (whole m.size.h) (with_member (codes "ground") (list_data (terrain_data m.exposed m.letters)) (no_members))) (refl) (with_member-none (codes "h") (whole m.size.h) (with_member (codes "ground") (list_data (terrain_data m.exposed m.letters)) (no_members)) (refl) (with_member-none (codes "ground") (list_data (terrain_data m.exposed m.letters)) (no_members) (items (terrain_run_data m.letters) (λ r. refl) (runs_of m.exposed)) refl))))))
+    with_member-none (codes "w") (whole m.size.w) _ refl
+    (put_some-none (codes "shown") boolean (λ b. refl) m.shown _
+    (with_member-none (codes "seen") (list_data (runs_data m.seen)) _ (items run_data (λ r. refl) (runs_of m.seen))
+    (with_member-none (codes "name") (string m.name) _ refl
+    (with_member-none (codes "mode") (mode_data m.mode) _ refl
+    (with_member-none (codes "h") (whole m.size.h) _ refl
+    (with_member-none (codes "ground") (list_data (terrain_data m.exposed m.letters)) no_members (items (terrain_run_data m.letters) (λ r. refl) (runs_of m.exposed)) refl))))))
 
 owned_none : (o : Option OwnedPart) (ms : Members) → members_have_float ms ≡ false → members_have_float (put_owned o ms) ≡ false
 owned_none None ms e = e
 owned_none (Some part) ms e =
-    with_member-none (codes "sight") (text_or_null part.sight) (with_member (codes "own") (props_data part.own) (with_member (codes "light") (text_or_null part.light) (ms))) (name_or_null part.sight) (with_member-none (codes "own") (props_data part.own) (with_member (codes "light") (text_or_null part.light) (ms)) (props part.own) (with_member-none (codes "light") (text_or_null part.light) (ms) (name_or_null part.light) e))
+    with_member-none (codes "sight") (text_or_null part.sight) _ (name_or_null part.sight)
+    (with_member-none (codes "own") (props_data part.own) _ (props part.own)
+    (with_member-none (codes "light") (text_or_null part.light) ms (name_or_null part.light) e))
 
 whole_none : (o : Option GmPart) (ms : Members) → members_have_float ms ≡ false → members_have_float (put_whole o ms) ≡ false
 whole_none None ms e = e
 whole_none (Some part) ms e =
-    with_member-none (codes "visible") (boolean part.visible) (with_member (codes "secret") (props_data part.secret) (with_member (codes "owners") (wholes_data part.owners) (ms))) (refl) (with_member-none (codes "secret") (props_data part.secret) (with_member (codes "owners") (wholes_data part.owners) (ms)) (props part.secret) (with_member-none (codes "owners") (wholes_data part.owners) (ms) (wholes part.owners) e))
+    with_member-none (codes "visible") (boolean part.visible) _ refl
+    (with_member-none (codes "secret") (props_data part.secret) _ (props part.secret)
+    (with_member-none (codes "owners") (wholes_data part.owners) ms (wholes part.owners) e))
 
 token_none : (t : TokenView) → has_float (token_data t) ≡ false
 unfolding token_data
 token_none t =
-    whole_none (t.whole) (put_owned (t.owned) (with_member (codes "size") (whole t.size) (with_member (codes "props") (props_data t.props) (with_member (codes "name") (string t.name) (with_member (codes "map") (string t.map) (with_member (codes "layer") (string (layer_word t.layer)) (with_member (codes "id") (string (id_text t.id)) (with_member (codes "cell") (cell_data t.cell) (no_members))))))))) (owned_none (t.owned) (with_member (codes "size") (whole t.size) (with_member (codes "props") (props_data t.props) (with_member (codes "name") (string t.name) (with_member (codes "map") (string t.map) (with_member (codes "layer") (string (layer_word t.layer)) (with_member (codes "id") (string (id_text t.id)) (with_member (codes "cell") (cell_data t.cell) (no_members)))))))) (with_member-none (codes "size") (whole t.size) (with_member (codes "props") (props_data t.props) (with_member (codes "name") (string t.name) (with_member (codes "map") (string t.map) (with_member (codes "layer") (string (layer_word t.layer)) (with_member (codes "id") (string (id_text t.id)) (with_member (codes "cell") (cell_data t.cell) (no_members))))))) (refl) (with_member-none (codes "props") (props_data t.props) (with_member (codes "name") (string t.name) (with_member (codes "map") (string t.map) (with_member (codes "layer") (string (layer_word t.layer)) (with_member (codes "id") (string (id_text t.id)) (with_member (codes "cell") (cell_data t.cell) (no_members)))))) (props t.props) (with_member-none (codes "name") (string t.name) (with_member (codes "map") (string t.map) (with_member (codes "layer") (string (layer_word t.layer)) (with_member (codes "id") (string (id_text t.id)) (with_member (codes "cell") (cell_data t.cell) (no_members))))) (refl) (with_member-none (codes "map") (string t.map) (with_member (codes "layer") (string (layer_word t.layer)) (with_member (codes "id") (string (id_text t.id)) (with_member (codes "cell") (cell_data t.cell) (no_members)))) (refl) (with_member-none (codes "layer") (string (layer_word t.layer)) (with_member (codes "id") (string (id_text t.id)) (with_member (codes "cell") (cell_data t.cell) (no_members))) (refl) (with_member-none (codes "id") (string (id_text t.id)) (with_member (codes "cell") (cell_data t.cell) (no_members)) (refl) (with_member-none (codes "cell") (cell_data t.cell) (no_members) (refl) refl))))))))
+    whole_none t.whole (put_owned t.owned (token_members t))
+    (owned_none t.owned (token_members t)
+    (with_member-none (codes "size") (whole t.size) _ refl
+    (with_member-none (codes "props") (props_data t.props) _ (props t.props)
+    (with_member-none (codes "name") (string t.name) _ refl
+    (with_member-none (codes "map") (string t.map) _ refl
+    (with_member-none (codes "layer") (string (layer_word t.layer)) _ refl
+    (with_member-none (codes "id") (string (id_text t.id)) _ refl
+    (with_member-none (codes "cell") (cell_data t.cell) no_members refl refl))))))))
 
 pub view_none : (v : View) → has_float (view_data v) ≡ false
 unfolding view_data
 view_none v =
-    with_member-none (codes "tokens") (list_data (tokens_data v.tokens)) (with_member (codes "sights") (sights_data v.sights) (with_member (codes "maps") (list_data (maps_data v.maps)) (with_member (codes "lights") (lights_data v.lights) (no_members)))) (items token_data token_none v.tokens) (with_member-none (codes "sights") (sights_data v.sights) (with_member (codes "maps") (list_data (maps_data v.maps)) (with_member (codes "lights") (lights_data v.lights) (no_members))) (sights v.sights) (with_member-none (codes "maps") (list_data (maps_data v.maps)) (with_member (codes "lights") (lights_data v.lights) (no_members)) (items map_data map_none v.maps) (with_member-none (codes "lights") (lights_data v.lights) (no_members) (lights v.lights) refl)))
+    with_member-none (codes "tokens") (list_data (tokens_data v.tokens)) _ (items token_data token_none v.tokens)
+    (with_member-none (codes "sights") (sights_data v.sights) _ (sights v.sights)
+    (with_member-none (codes "maps") (list_data (maps_data v.maps)) _ (items map_data map_none v.maps)
+    (with_member-none (codes "lights") (lights_data v.lights) no_members (lights v.lights) refl)))
 
 put_lights-none : (ls : List (Named ℤ)) (ms : Members) → members_have_float ms ≡ false → members_have_float (put_lights ls ms) ≡ false
 put_lights-none [] ms e = e
@@ -120,12 +141,24 @@ put_sights-none (s ∷ ss) ms e = with_member-none (codes "sights") (sights_data
 map_change_none : (c : MapChange) → has_float (map_change_data c) ≡ false
 unfolding map_change_data
 map_change_none c =
-    put_some-none (codes "shown") (boolean) (λ b. refl) (c.shown) (put_some (codes "mode") (mode_data) (c.mode) (put_list (codes "lit") (map (run_data) (runs_of c.lit)) (put_list (codes "hidden") (map (run_data) (runs_of c.hidden)) (put_list (codes "ground") (map (terrain_run_data c.letters) (runs_of (lettered c))) (put_list (codes "dark") (map (run_data) (runs_of c.dark)) (with_member (codes "name") (string c.name) (no_members))))))) (put_some-none (codes "mode") (mode_data) (λ m. refl) (c.mode) (put_list (codes "lit") (map (run_data) (runs_of c.lit)) (put_list (codes "hidden") (map (run_data) (runs_of c.hidden)) (put_list (codes "ground") (map (terrain_run_data c.letters) (runs_of (lettered c))) (put_list (codes "dark") (map (run_data) (runs_of c.dark)) (with_member (codes "name") (string c.name) (no_members)))))) (put_list-none (codes "lit") (run_data) (λ r. refl) (runs_of c.lit) (put_list (codes "hidden") (map (run_data) (runs_of c.hidden)) (put_list (codes "ground") (map (terrain_run_data c.letters) (runs_of (lettered c))) (put_list (codes "dark") (map (run_data) (runs_of c.dark)) (with_member (codes "name") (string c.name) (no_members))))) (put_list-none (codes "hidden") (run_data) (λ r. refl) (runs_of c.hidden) (put_list (codes "ground") (map (terrain_run_data c.letters) (runs_of (lettered c))) (put_list (codes "dark") (map (run_data) (runs_of c.dark)) (with_member (codes "name") (string c.name) (no_members)))) (put_list-none (codes "ground") (terrain_run_data c.letters) (λ r. refl) (runs_of (lettered c)) (put_list (codes "dark") (map (run_data) (runs_of c.dark)) (with_member (codes "name") (string c.name) (no_members))) (put_list-none (codes "dark") (run_data) (λ r. refl) (runs_of c.dark) (with_member (codes "name") (string c.name) (no_members)) (with_member-none (codes "name") (string c.name) (no_members) (refl) refl))))))
+    put_some-none (codes "shown") boolean (λ b. refl) c.shown _
+    (with_member-none (codes "name") (string c.name) _ refl
+    (put_some-none (codes "mode") mode_data (λ m. refl) c.mode _
+    (put_list-none (codes "lit") run_data (λ r. refl) (runs_of c.lit) _
+    (put_list-none (codes "hidden") run_data (λ r. refl) (runs_of c.hidden) _
+    (put_list-none (codes "ground") (terrain_run_data c.letters) (λ r. refl) (runs_of (lettered c)) _
+    (put_list-none (codes "dark") run_data (λ r. refl) (runs_of c.dark) no_members refl))))))
 
 pub change_none : (c : Change) → has_float (change_data c) ≡ false
 unfolding change_data
 change_none c =
-    put_list-none (codes "unmapped") (string) (λ s. refl) (c.unmapped) (put_list (codes "tokens") (map (token_data) (c.tokens)) (put_sights (c.sights) (put_list (codes "maps") (map (map_data) (c.maps)) (put_lights (c.lights) (put_list (codes "gone") (map (λ i. string (id_text i)) (c.gone)) (put_list (codes "changed") (map (map_change_data) (c.changed)) (no_members))))))) (put_list-none (codes "tokens") (token_data) (token_none) (c.tokens) (put_sights (c.sights) (put_list (codes "maps") (map (map_data) (c.maps)) (put_lights (c.lights) (put_list (codes "gone") (map (λ i. string (id_text i)) (c.gone)) (put_list (codes "changed") (map (map_change_data) (c.changed)) (no_members)))))) (put_sights-none (c.sights) (put_list (codes "maps") (map (map_data) (c.maps)) (put_lights (c.lights) (put_list (codes "gone") (map (λ i. string (id_text i)) (c.gone)) (put_list (codes "changed") (map (map_change_data) (c.changed)) (no_members))))) (put_list-none (codes "maps") (map_data) (map_none) (c.maps) (put_lights (c.lights) (put_list (codes "gone") (map (λ i. string (id_text i)) (c.gone)) (put_list (codes "changed") (map (map_change_data) (c.changed)) (no_members)))) (put_lights-none (c.lights) (put_list (codes "gone") (map (λ i. string (id_text i)) (c.gone)) (put_list (codes "changed") (map (map_change_data) (c.changed)) (no_members))) (put_list-none (codes "gone") (λ i. string (id_text i)) (λ i. refl) (c.gone) (put_list (codes "changed") (map (map_change_data) (c.changed)) (no_members)) (put_list-none (codes "changed") (map_change_data) (map_change_none) (c.changed) (no_members) refl))))))
+    put_list-none (codes "unmapped") string (λ s. refl) c.unmapped _
+    (put_list-none (codes "tokens") token_data token_none c.tokens _
+    (put_sights-none c.sights _
+    (put_list-none (codes "maps") map_data map_none c.maps _
+    (put_lights-none c.lights _
+    (put_list-none (codes "gone") (λ i. string (id_text i)) (λ i. refl) c.gone _
+    (put_list-none (codes "changed") map_change_data map_change_none c.changed no_members refl))))))
 
 pub full_none : (v : View) → has_float (full_tree v) ≡ false
 full_none v = none (has_float (view_data v)) false (view_none v) refl

@@ -1,13 +1,16 @@
 -- The letters of runs, row by row.
-use Rattle.std.proofs.Common.{◌≡◌, ℕ, suc, zero, ◌+◌, ◌<◌, ◌≤◌, ◌⊎◌, inl, inr, Bool, true, false, cond, ◌&&◌, ◌==◌, List, [], ◌∷◌, ◌++◌, map, append_assoc, length, take, drop, get_or, refl, sym, ◌∙◌, ap, subst, arith}
+use Rattle.std.proofs.Common.{◌≡◌, ℕ, suc, zero, ◌+◌, ◌<◌, ◌≤◌, inl, inr, Bool, true, false, cond, ◌&&◌, ◌==◌, List, [], ◌∷◌, ◌++◌, map, append_assoc, length, take, drop, get_or, refl, sym, ◌∙◌, ap, subst, arith}
 use Rattle.std.specs.Prelude.{Some, None, unwrap_or, not, nat_le, nat_lt, All, AllPairs}
 use Rattle.std.specs.List.{filter, flat_map, list_all, position, position_or_len, AllAdjacentBelow}
 use Rattle.std.proofs.lemmas.Bool.Decides.{nat_tests}
 use Rattle.std.proofs.lemmas.List.{map-append}
 use Rattle.std.specs.Char.{encode_utf8}
-use Rattle.serde_json.specs.Data.{string}
+use Rattle.json.specs.Token.{Token}
+use Rattle.serde_json.specs.Data.{Data, string}
+use Rattle.serde_json.specs.View.{items_of}
 use Rattle.cells.specs.declared.cell.Run.{Run}
 use Rattle.cells.specs.Runs.{StandsBefore}
+use Rattle.json_lines.specs.Tokens.{value_tokens, items_tokens}
 use Rattle.views.specs.Keys.{Letter}
 use Rattle.view_lines.specs.Lines.{is_of_run, list_data, terrain_run_data, whole}
 use Rattle.view_lines.specs.Rows.{are_by_rows}
@@ -192,3 +195,10 @@ one_more view f old new v iter rest all r is_new is_v is_iter told =
 pub same_data : (letters row : List Letter) (run : Run) → filter (is_of_run run) row ≡ filter (is_of_run run) letters → terrain_run_data row run ≡ terrain_run_data letters run
 same_data letters row run e =
     ap (λ ls. list_data (whole run.y ∷ whole run.x0 ∷ string (flat_map (λ letter. encode_utf8 letter.1) ls) ∷ [])) e
+
+-- the tokens so far, with those of one more item
+pub one_more_written : {B : Type 0} (f : B → Data) (old new whole : List Token) (d : Data) (iter rest : List B) (r : B) → new ≡ old ++ value_tokens d → d ≡ f r → iter ≡ r ∷ rest
+    → old ++ items_tokens (items_of (map f iter)) ≡ whole → new ++ items_tokens (items_of (map f rest)) ≡ whole
+one_more_written f old new whole d iter rest r is_new is_d is_iter told =
+    ap (λ ts. ts ++ items_tokens (items_of (map f rest))) is_new ∙ append_assoc old (value_tokens d) (items_tokens (items_of (map f rest)))
+    ∙ ap (λ e. old ++ (value_tokens e ++ items_tokens (items_of (map f rest)))) is_d ∙ ap (λ rs. old ++ items_tokens (items_of (map f rs))) (sym is_iter) ∙ told

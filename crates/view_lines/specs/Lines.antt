@@ -121,8 +121,8 @@ mode_data mode = string (mode_word mode)
 
 unfoldable pub map_data : MapView → Data
 map_data m = object
-    (put_some (codes "shown") boolean m.shown
     (with_member (codes "w") (whole m.size.w)
+    (put_some (codes "shown") boolean m.shown
     (with_member (codes "seen") (list_data (runs_data m.seen))
     (with_member (codes "name") (string m.name)
     (with_member (codes "mode") (mode_data m.mode)
@@ -143,17 +143,19 @@ put_whole (Some part) members =
     (with_member (codes "secret") (props_data part.secret)
     (with_member (codes "owners") (wholes_data part.owners) members))
 
-unfoldable pub token_data : TokenView → Data
-token_data t = object
-    (put_whole t.whole
-    (put_owned t.owned
-    (with_member (codes "size") (whole t.size)
+-- what everyone sees of a token
+abbrev pub token_members : TokenView → Members
+token_members t =
+    with_member (codes "size") (whole t.size)
     (with_member (codes "props") (props_data t.props)
     (with_member (codes "name") (string t.name)
     (with_member (codes "map") (string t.map)
     (with_member (codes "layer") (string (layer_word t.layer))
     (with_member (codes "id") (string (id_text t.id))
-    (with_member (codes "cell") (cell_data t.cell) no_members)))))))))
+    (with_member (codes "cell") (cell_data t.cell) no_members))))))
+
+unfoldable pub token_data : TokenView → Data
+token_data t = object (put_whole t.whole (put_owned t.owned (token_members t)))
 
 abbrev pub maps_data : List MapView → List Data
 maps_data maps = map map_data maps
@@ -185,12 +187,12 @@ lettered c = cells_where c.dark.extent (has_letter c.letters)
 unfoldable pub map_change_data : MapChange → Data
 map_change_data c = object
     (put_some (codes "shown") boolean c.shown
+    (with_member (codes "name") (string c.name)
     (put_some (codes "mode") mode_data c.mode
     (put_list (codes "lit") (runs_data c.lit)
     (put_list (codes "hidden") (runs_data c.hidden)
     (put_list (codes "ground") (terrain_data (lettered c) c.letters)
-    (put_list (codes "dark") (runs_data c.dark)
-    (with_member (codes "name") (string c.name) no_members)))))))
+    (put_list (codes "dark") (runs_data c.dark) no_members)))))))
 
 unfoldable pub change_data : Change → Data
 change_data c = object

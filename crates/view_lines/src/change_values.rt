@@ -64,17 +64,17 @@ fn map_change_value(alloc: Global, change: &MapChange) -> Result<Value, AllocErr
     ensures { IfOk result (λ v. view v ≡ map_change_data change.now) }
 {
     let mut members = Map::new(alloc);
+    put_list(&mut members, alloc, "dark", runs(alloc, &change.dark)?)?;
+    put_list(&mut members, alloc, "ground", new_terrain(alloc, change)?)?;
+    put_list(&mut members, alloc, "hidden", runs(alloc, &change.hidden)?)?;
+    put_list(&mut members, alloc, "lit", runs(alloc, &change.lit)?)?;
+    put_mode(&mut members, alloc, change.mode)?;
     put_member(
         &mut members,
         alloc,
         "name",
         json!(in alloc; change.name.text())?,
     )?;
-    put_list(&mut members, alloc, "dark", runs(alloc, &change.dark)?)?;
-    put_list(&mut members, alloc, "ground", new_terrain(alloc, change)?)?;
-    put_list(&mut members, alloc, "hidden", runs(alloc, &change.hidden)?)?;
-    put_list(&mut members, alloc, "lit", runs(alloc, &change.lit)?)?;
-    put_mode(&mut members, alloc, change.mode)?;
     put_shown(&mut members, alloc, change.shown)?;
     Ok(Value::Object(members))
 }

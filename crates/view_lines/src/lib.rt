@@ -7,5 +7,6 @@ mod lines;
 mod terrain;
 mod values;
 mod view_values;
+mod written;
 
 pub use lines::{change_line, full_line};

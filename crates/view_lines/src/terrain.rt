@@ -1,5 +1,5 @@
 //! Sets of cells as JSON: their maximal runs, alone and with letters.
-ghost use Rattle.std.specs.Prelude.{◌≡◌, true, map, take, drop, length, unwrap_or, nat_le, nat_lt, string_bytes, IfOk, IsTrue};
+ghost use Rattle.std.specs.Prelude.{◌≡◌, true, map, take, drop, length, unwrap_or, nat_le, nat_lt, string_bytes, IfOk, OnOk, IsTrue};
 ghost use Rattle.std.specs.List.{position};
 ghost use Rattle.serde_json.specs.View.{view};
 ghost use Rattle.view_lines.specs.Lines.{is_of_run as is_of_run_test, letters_of_run as letters_of_run_list, run_data, runs_data, terrain_run_data, terrain_data};
@@ -32,27 +32,33 @@ fn is_of_run(run: Run, cell: Cell, letter: u8) -> bool
     cell.y == run.y && run.x0 <= cell.x && cell.x <= run.x1
 }
 
-fn letters_of_run(alloc: Global, letters: &[(Cell, u8)], run: Run) -> Result<String, AllocError>
-    ensures { IfOk result (λ text. string_bytes text ≡ letters_of_run_list letters.now run) }
+/// Makes the text the letters of the run's cells, in order.
+pub(crate) fn fill_letters(
+    text: &mut String,
+    letters: &[(Cell, u8)],
+    run: Run,
+) -> Result<(), AllocError>
+    ensures { OnOk result (string_bytes text.new ≡ letters_of_run_list letters.now run) }
 {
-    let mut text = String::new(alloc);
+    text.clear();
     for (cell, letter) in letters {
         if is_of_run(run, *cell, *letter) {
             text.push(char::from(*letter))?;
         }
     }
-    Ok(text)
+    Ok(())
 }
 
 fn terrain_run(alloc: Global, letters: &[(Cell, u8)], run: Run) -> Result<Value, AllocError>
     ensures { IfOk result (λ v. view v ≡ terrain_run_data letters.now run) }
 {
-    let text = letters_of_run(alloc, letters, run)?;
+    let mut text = String::new(alloc);
+    fill_letters(&mut text, letters, run)?;
     json!(in alloc; [run.y, run.x0, text.as_str()])
 }
 
 /// Whether the letters stand by rows.
-fn are_by_rows(letters: &[(Cell, u8)]) -> bool
+pub(crate) fn are_by_rows(letters: &[(Cell, u8)]) -> bool
     ensures { IsTrue result → are_by_rows letters.now ≡ true }
 {
     for i in 1..letters.len() {
@@ -78,7 +84,7 @@ fn row_end(letters: &[(Cell, u8)], y: u8) -> Option<usize>
 }
 
 /// What is left of the letters from row `y` on.
-fn from_row(letters: &[(Cell, u8)], y: u8) -> &[(Cell, u8)]
+pub(crate) fn from_row(letters: &[(Cell, u8)], y: u8) -> &[(Cell, u8)]
     ensures { result.now ≡ drop (unwrap_or (position (λ letter. nat_le y letter.0.y) letters.now) (length letters.now)) letters.now }
 {
     let place = row_start(letters, y).unwrap_or(letters.len());
@@ -86,7 +92,7 @@ fn from_row(letters: &[(Cell, u8)], y: u8) -> &[(Cell, u8)]
 }
 
 /// The letters before the first one that is of a row behind row `y`.
-fn to_row(letters: &[(Cell, u8)], y: u8) -> &[(Cell, u8)]
+pub(crate) fn to_row(letters: &[(Cell, u8)], y: u8) -> &[(Cell, u8)]
     ensures { result.now ≡ take (unwrap_or (position (λ letter. nat_lt y letter.0.y) letters.now) (length letters.now)) letters.now }
 {
     let place = row_end(letters, y).unwrap_or(letters.len());

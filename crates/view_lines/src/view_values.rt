@@ -73,8 +73,8 @@ fn map_value(alloc: Global, map: &MapView) -> Result<Value, AllocError>
         "seen",
         Value::Array(runs(alloc, &map.seen)?),
     )?;
-    put_member(&mut members, alloc, "w", Value::from(map.size.w()))?;
     put_shown(&mut members, alloc, map.shown)?;
+    put_member(&mut members, alloc, "w", Value::from(map.size.w()))?;
     Ok(Value::Object(members))
 }
 
