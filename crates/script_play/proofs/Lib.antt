@@ -1,6 +1,7 @@
 pub mod WholeLines
 pub mod Fronts
 pub mod EntryLines
+pub mod ScriptLines
 pub mod Takens
 pub mod Scripts
 pub mod Reading

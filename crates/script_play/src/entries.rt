@@ -1,5 +1,5 @@
 //! The entry of a script line.
-ghost use Rattle.std.specs.Prelude.{◌≡◌, ◌<◌, ◌==◌, length, IfOk, Ok, Some};
+ghost use Rattle.std.specs.Prelude.{◌≡◌, ◌<◌, ◌≤◌, ◌==◌, ◌-◌, drop, length, IfOk, Ok, Some};
 ghost use Rattle.command_json.specs.Commands.{command_of};
 ghost use Rattle.campaign_law.specs.Law.{world_of};
 ghost use Rattle.campaign_law.specs.Seat.{was_joined};
@@ -23,33 +23,45 @@ pub(crate) fn entry_of_line<E: Eye + Drop>(
     alloc: Global,
     campaign: &Campaign<E>,
     seats: u8,
-    line: &[u8],
+    line: LineText,
 ) -> Result<Option<Entry>, Memory>
     requires { seats ≡ length campaign.now.origin.seats }
-    ensures { IfOk result (λ entry. entry ≡ entry_of_line_lem (world_of campaign.now) line.now) }
+    ensures { IfOk result (λ entry. entry ≡ entry_of_line_lem (world_of campaign.now) line) }
 {
-    let Some((seat, bytes)) = split_script_line(line) else {
+    let Some((seat, command)) = split_script_line(line.bytes()) else {
         return Ok(None);
     };
     if seat.number() >= seats {
         return Ok(None);
     }
-    match entry_of(alloc, campaign, seat, bytes) {
+    let front = length_before(line.bytes(), command);
+    match entry_of(alloc, campaign, seat, line, front) {
         Ok(entry) => Ok(Some(entry)),
         Err(_) => Err(Memory),
     }
 }
 
+// How many bytes of the line stand before the command.
+fn length_before(line: &[u8], command: &[u8]) -> usize
+    requires { length command.now ≤ length line.now }
+    ensures { result ≡ length line.now - length command.now }
+{
+    line.len() - command.len()
+}
+
+// The entry of the command that stands behind so many bytes of the line.
 fn entry_of<E: Eye + Drop>(
     alloc: Global,
     campaign: &Campaign<E>,
     seat: SeatNo,
-    bytes: &[u8],
+    line: LineText,
+    front: usize,
 ) -> Result<Entry, Memory>
-    requires { seat < length campaign.now.origin.seats }
-    ensures { IfOk result (λ entry. entry ≡ entry_of_lem (world_of campaign.now) seat bytes.now) }
+    requires seat { seat < length campaign.now.origin.seats }
+    requires front { front ≤ length line }
+    ensures { IfOk result (λ entry. entry ≡ entry_of_lem (world_of campaign.now) seat (drop front line)) }
 {
-    match joining_key(alloc, campaign, seat, bytes)? {
+    match joining_key(alloc, campaign, seat, &line.bytes()[front..])? {
         Some(key) => Ok(Entry::Join {
             seat,
             key,
@@ -58,9 +70,19 @@ fn entry_of<E: Eye + Drop>(
         }),
         None => Ok(Entry::Line {
             seat,
-            bytes: LineText::copy(alloc, bytes)?,
+            bytes: without_front(line, front),
         }),
     }
+}
+
+// The line without so many bytes at its front. It takes no memory.
+fn without_front(line: LineText, front: usize) -> LineText
+    requires { front ≤ length line }
+    ensures { result ≡ drop front line }
+{
+    let mut bytes = line.into_bytes();
+    drop(bytes.drain(..front));
+    LineText::new(bytes)
 }
 
 // The key of a line by which the seat joins.

@@ -72,7 +72,7 @@ fn add_all<E: Eye + Drop>(
     ensures counted { OnOk result (tally.new ≡ with_sent tally.old (lines_below campaign.now acting reply.now (length campaign.now.origin.seats))) }
 {
     make_room(text)?;
-    let mut entries = Vec::new(alloc);
+    let mut entries = places_for(alloc, seats)?;
     for number in 0..seats {
         add_next(campaign, number, acting, reply, text, tally, &mut entries)?;
     }
@@ -84,6 +84,16 @@ fn make_room(text: &mut Vec<u8>) -> Result<(), Memory>
 {
     match text.reserve(TEXT_ROOM) {
         Ok(()) => Ok(()),
+        Err(_) => Err(Memory),
+    }
+}
+
+// Places for a Taken of each seat.
+fn places_for(alloc: Global, seats: u8) -> Result<Vec<Entry>, Memory>
+    ensures { IfOk result (λ entries. entries.items ≡ []) }
+{
+    match Vec::with_capacity(alloc, usize::from(seats)) {
+        Ok(entries) => Ok(entries),
         Err(_) => Err(Memory),
     }
 }

@@ -6,16 +6,16 @@ use Rattle.script_play.proofs.LineRuns.{line_played, bad_line_played, too_many_p
 use Rattle.script_play.proofs.run.play_line.Goals as goal
 
 pub returns-then-number-gt-LINE_LIMIT-clause-entered : goal.returns-then-number-gt-LINE_LIMIT-clause-entered
-returns-then-number-gt-LINE_LIMIT-clause-entered g c = too_many_played (world_of c.args.campaign.now) c.args.number c.args.line.now _ c.if-number-gt-LINE_LIMIT.true (nothing_since c.args.campaign.now)
+returns-then-number-gt-LINE_LIMIT-clause-entered g c = too_many_played (world_of c.args.campaign.now) c.args.number c.args.line _ c.if-number-gt-LINE_LIMIT.true (nothing_since c.args.campaign.now)
 
 pub returns-in-Ok-Some-clause-entered : goal.returns-in-Ok-Some-clause-entered
 returns-in-Ok-Some-clause-entered g c =
-    line_played c.enter_with_takens.result (world_of c.args.campaign.now) c.args.number c.args.line.now c.in-Ok-Some.entry _ c.if-number-gt-LINE_LIMIT.false c.requires.short
+    line_played c.enter_with_takens.result (world_of c.args.campaign.now) c.args.number c.args.line c.in-Ok-Some.entry _ c.if-number-gt-LINE_LIMIT.false c.requires.short
     (sym c.in-Ok-Some.ensures ∙ c.in-Ok-Some.field-0-is) c.enter_with_takens.ensures.entered c.enter_with_takens.ensures.stopped c.enter_with_takens.ensures.stop
 
 pub returns-in-Ok-None-clause-entered : goal.returns-in-Ok-None-clause-entered
 returns-in-Ok-None-clause-entered g c =
-    bad_line_played (world_of c.args.campaign.now) c.args.number c.args.line.now _ c.if-number-gt-LINE_LIMIT.false c.requires.short
+    bad_line_played (world_of c.args.campaign.now) c.args.number c.args.line _ c.if-number-gt-LINE_LIMIT.false c.requires.short
     (sym c.in-Ok-None.field-0-is ∙ c.in-Ok-None.ensures) (nothing_since c.args.campaign.now)
 
 pub returns-in-Err-clause-entered : goal.returns-in-Err-clause-entered

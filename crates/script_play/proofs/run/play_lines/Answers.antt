@@ -40,7 +40,7 @@ lines-preserved g c =
     let inv = c.lines.invariant in
     let going : c.lines.reader.ended ≡ false = not_so c.lines.reader.ended (λ e. let z : Line c.in-Line.line ≡ End = (c.in-Line.ensures.stays_ended e).0 in cc) in
     let entered : HasEntered Done (script_from (world_of now) c.lines.number (c.in-Line.line ∷ [])) (entries_since now new) =
-    subst (λ l. HasEntered Done (script_from (world_of now) c.lines.number (l ∷ [])) (entries_since now new)) c.bytes.ensures c.in-Ok.ensures.entered in
+    c.in-Ok.ensures.entered in
     record {
       campaign = goes_both old now new inv.campaign c.in-Ok.ensures.campaign;
       quiet = c.in-Ok.ensures.waits;
@@ -81,7 +81,7 @@ returns-in-Err-clause-entered g c =
     let now = c.lines.campaign in
     let new = c.play_line.new.campaign in
     let entered : HasEntered c.in-Err.stop (script_from (world_of now) c.lines.number (c.in-Line.line ∷ [])) (entries_since now new) =
-    subst (λ l. HasEntered c.in-Err.stop (script_from (world_of now) c.lines.number (l ∷ [])) (entries_since now new)) c.bytes.ensures c.in-Err.ensures.entered in
+    c.in-Err.ensures.entered in
     stops_at c.in-Err.stop c.args.campaign.now now new c.lines.number c.lines.reader.cap c.lines.reader.ended c.next.new.self c.in-Line.line _ _ _ c.in-Err.ensures.stop c.lines.invariant.campaign c.in-Err.ensures.campaign c.lines.invariant.came c.in-Line.ensures.answer entered
 
 pub returns-in-Err-clause-written : goal.returns-in-Err-clause-written
