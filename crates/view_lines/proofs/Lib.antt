@@ -1,3 +1,5 @@
-pub mod NoFloat
+pub mod InOrder
+pub mod NoLetters
 pub mod Ordered
 pub mod RowLemmas
+pub mod Texts

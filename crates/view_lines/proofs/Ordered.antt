@@ -1,26 +1,22 @@
--- The tokens of the objects of a change line: their members stand in the order of their keys' bytes.
-use Rattle.std.proofs.Common.{◌≡◌, ℕ, ℤ, List, [], ◌∷◌, ◌++◌, refl, sym, subst, decimal}
+-- The tokens of the objects of a line: their members stand in the order of their keys' bytes.
+use Rattle.std.proofs.Common.{◌≡◌, ℕ, List, [], ◌∷◌, ◌++◌, refl, decimal}
 use Rattle.std.specs.Prelude.{Option, Some, None, map, codes}
-use Rattle.json.specs.Print.{print}
 use Rattle.json.specs.Token.{Token, begin_object, end_object, key, string, number}
 use Rattle.serde_json.specs.Data.{Data, boolean, string as string_data, object, Members}
-use Rattle.serde_json.specs.Written.{compact_text}
-use Rattle.json_fields.specs.Lines.{IsOneLine}
-use Rattle.json_fields.proofs.OneLine.{IsOneLine-compact_text}
 use Rattle.names.specs.TokenId.{id_text}
 use Rattle.names.specs.Words.{mode_word, layer_word}
 use Rattle.views.specs.declared.view.MapView.{MapView}
 use Rattle.views.specs.declared.view.TokenView.{TokenView}
 use Rattle.views.specs.declared.view.OwnedPart.{OwnedPart}
 use Rattle.views.specs.declared.view.GmPart.{GmPart}
+use Rattle.views.specs.declared.view.View.{View}
 use Rattle.views.specs.declared.change.Change.{Change}
 use Rattle.views.specs.declared.change.MapChange.{MapChange}
 use Rattle.views.specs.Keys.{Named}
 use Rattle.json_lines.specs.Tokens.{value_tokens}
-use Rattle.json_lines.proofs.Printed.{value_text}
 use Rattle.json_lines.proofs.Behind.{IsBehind, Stand, none, one_more, no_more, whole_object}
-use Rattle.view_lines.specs.Lines.{with_member, whole, list_data, wholes_data, text_or_null, put_list, put_some, put_lights, put_sights, props_data, cell_data, runs_data, terrain_data, mode_data, map_data, put_owned, put_whole, token_members, token_data, maps_data, tokens_data, lettered, map_change_data, change_data, change_tree}
-use Rattle.view_lines.specs.Tokens.{list_tokens, some_tokens}
+use Rattle.view_lines.specs.Lines.{with_member, whole, list_data, wholes_data, text_or_null, put_list, put_some, named_data, radius_data, lights_data, sights_data, put_types, props_data, cell_data, runs_data, terrain_data, mode_data, map_data, put_owned, put_whole, token_members, token_data, maps_data, tokens_data, lettered, map_change_data, change_data, view_data}
+use Rattle.view_lines.specs.Tokens.{list_tokens, some_tokens, types_tokens}
 
 module _ (name next : List ℕ) (ms : Members) (before : List Token → List Token) (h : IsBehind next name) (s : Stand name ms before) where
   member_more : (d : Data) → Stand next (with_member name d ms) (λ rest. before (key name ∷ (value_tokens d ++ rest)))
@@ -34,6 +30,10 @@ module _ (name next : List ℕ) (ms : Members) (before : List Token → List Tok
   some_more : {A : Type 0} (f : A → Data) (o : Option A) → Stand next (put_some name f o ms) (λ rest. before (some_tokens name f o ++ rest))
   some_more f None = no_more name next ms before h s
   some_more f (Some x) = member_more (f x)
+
+  types_more : {V : Type 0} (f : V → Data) (types : List (Named V)) → Stand next (put_types name f types ms) (λ rest. before (types_tokens name f types ++ rest))
+  types_more f [] = no_more name next ms before h s
+  types_more f (t ∷ ts) = member_more (named_data f (t ∷ ts))
 
 -- ---- maps
 
@@ -95,8 +95,6 @@ pub token_tokens : (t : TokenView) → value_tokens (token_data t)
 unfolding token_data
 token_tokens t = parts t t.owned t.whole
 
--- ---- changes
-
 pub map_change_tokens : (c : MapChange) → value_tokens (map_change_data c)
     ≡ begin_object ∷ (list_tokens (codes "dark") (runs_data c.dark)
     ++ (list_tokens (codes "ground") (terrain_data (lettered c) c.letters)
@@ -123,36 +121,47 @@ map_change_tokens c =
     (string_data c.name))
     boolean c.shown)
 
-no_light : {lights : List (Named ℤ)} {next : List ℕ} {ms : Members} {before : List Token → List Token} → lights ≡ [] → Stand next ms before → Stand next (put_lights lights ms) before
-no_light {lights} {next} {ms} {before} e s = subst (λ lights. Stand next (put_lights lights ms) before) (sym e) s
+-- ---- changes and views
 
-no_sight : {sights : List (Named (List ℕ))} {next : List ℕ} {ms : Members} {before : List Token → List Token} → sights ≡ [] → Stand next ms before → Stand next (put_sights sights ms) before
-no_sight {sights} {next} {ms} {before} e s = subst (λ sights. Stand next (put_sights sights ms) before) (sym e) s
-
-pub change_tokens : (c : Change) → c.lights ≡ [] → c.sights ≡ [] → value_tokens (change_data c)
+pub change_tokens : (c : Change) → value_tokens (change_data c)
     ≡ begin_object ∷ (list_tokens (codes "changed") (map map_change_data c.changed)
     ++ (list_tokens (codes "gone") (map (λ id. string_data (id_text id)) c.gone)
+    ++ (types_tokens (codes "lights") radius_data c.lights
     ++ (list_tokens (codes "maps") (maps_data c.maps)
+    ++ (types_tokens (codes "sights") wholes_data c.sights
     ++ (list_tokens (codes "tokens") (tokens_data c.tokens)
-    ++ (list_tokens (codes "unmapped") (map string_data c.unmapped) ++ end_object ∷ [])))))
+    ++ (list_tokens (codes "unmapped") (map string_data c.unmapped) ++ end_object ∷ [])))))))
 unfolding change_data
-change_tokens c no_lights no_sights =
+change_tokens c =
     whole_object (codes "v") _ _
     (list_more (codes "unmapped") (codes "v") _ _ refl
     (list_more (codes "tokens") (codes "unmapped") _ _ refl
-    (no_sight no_sights
-    (list_more (codes "maps") (codes "tokens") _ _ refl
-    (no_light no_lights
-    (list_more (codes "gone") (codes "maps") _ _ refl
+    (types_more (codes "sights") (codes "tokens") _ _ refl
+    (list_more (codes "maps") (codes "sights") _ _ refl
+    (types_more (codes "lights") (codes "maps") _ _ refl
+    (list_more (codes "gone") (codes "lights") _ _ refl
     (list_more (codes "changed") (codes "gone") _ _ refl (none (codes "changed"))
     (map map_change_data c.changed))
-    (map (λ id. string_data (id_text id)) c.gone)))
-    (maps_data c.maps)))
+    (map (λ id. string_data (id_text id)) c.gone))
+    radius_data c.lights)
+    (maps_data c.maps))
+    wholes_data c.sights)
     (tokens_data c.tokens))
     (map string_data c.unmapped))
 
-pub change_tree_text : (c : Change) → print (value_tokens (change_tree c)) ≡ compact_text (change_tree c)
-change_tree_text c = value_text (change_tree c)
-
-pub change_tree_is_one_line : (c : Change) → IsOneLine (compact_text (change_tree c))
-change_tree_is_one_line c = IsOneLine-compact_text (change_tree c)
+pub view_tokens : (v : View) → value_tokens (view_data v)
+    ≡ begin_object ∷ key (codes "lights") ∷ (value_tokens (lights_data v.lights)
+    ++ key (codes "maps") ∷ (value_tokens (list_data (maps_data v.maps))
+    ++ key (codes "sights") ∷ (value_tokens (sights_data v.sights)
+    ++ key (codes "tokens") ∷ (value_tokens (list_data (tokens_data v.tokens)) ++ end_object ∷ []))))
+unfolding view_data
+view_tokens v =
+    whole_object (codes "u") _ _
+    (member_more (codes "tokens") (codes "u") _ _ refl
+    (member_more (codes "sights") (codes "tokens") _ _ refl
+    (member_more (codes "maps") (codes "sights") _ _ refl
+    (member_more (codes "lights") (codes "maps") _ _ refl (none (codes "lights"))
+    (lights_data v.lights))
+    (list_data (maps_data v.maps)))
+    (sights_data v.sights))
+    (list_data (tokens_data v.tokens)))

@@ -3,7 +3,6 @@ use Rattle.std.proofs.Common.{◌≡◌, ℕ, suc, zero, ◌+◌, ◌<◌, ◌�
 use Rattle.std.specs.Prelude.{Some, None, unwrap_or, not, nat_le, nat_lt, All, AllPairs}
 use Rattle.std.specs.List.{filter, flat_map, list_all, position, position_or_len, AllAdjacentBelow}
 use Rattle.std.proofs.lemmas.Bool.Decides.{nat_tests}
-use Rattle.std.proofs.lemmas.List.{map-append}
 use Rattle.std.specs.Char.{encode_utf8}
 use Rattle.json.specs.Token.{Token}
 use Rattle.serde_json.specs.Data.{Data, string}
@@ -183,14 +182,6 @@ further letters left now row run rest runs ordered enough by_rows is is_now is_r
           ∙ kept_from run.y (get_or rest k d) left (not_above run (get_or rest k d) (before zero (suc k) d (omega arith) (omega arith)))
           ∙ all (suc k) d (omega arith);
     }
-
--- the values so far, with one more
-pub one_more : {A B D : Type 0} (view : A → D) (f : B → D) (old new : List A) (v : A) (iter rest all : List B) (r : B) → new ≡ old ++ v ∷ [] → view v ≡ f r
-    → iter ≡ r ∷ rest → map view old ++ map f iter ≡ map f all → map view new ++ map f rest ≡ map f all
-one_more view f old new v iter rest all r is_new is_v is_iter told =
-    ap (λ zs. map view zs ++ map f rest) is_new ∙ ap (λ zs. zs ++ map f rest) (map-append view old (v ∷ []))
-    ∙ append_assoc (map view old) (view v ∷ []) (map f rest) ∙ ap (λ d. map view old ++ d ∷ map f rest) is_v
-    ∙ ap (λ rs. map view old ++ map f rs) (sym is_iter) ∙ told
 
 pub same_data : (letters row : List Letter) (run : Run) → filter (is_of_run run) row ≡ filter (is_of_run run) letters → terrain_run_data row run ≡ terrain_run_data letters run
 same_data letters row run e =

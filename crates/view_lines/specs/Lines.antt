@@ -74,13 +74,10 @@ lights_data = named_data radius_data
 abbrev pub sights_data : List (Named (List ℕ)) → Data
 sights_data = named_data wholes_data
 
-abbrev pub put_lights : List (Named ℤ) → Members → Members
-put_lights [] members = members
-put_lights (light ∷ lights) members = with_member (codes "lights") (lights_data (light ∷ lights)) members
-
-abbrev pub put_sights : List (Named (List ℕ)) → Members → Members
-put_sights [] members = members
-put_sights (sight ∷ sights) members = with_member (codes "sights") (sights_data (sight ∷ sights)) members
+-- a member that is there where there are types
+abbrev pub put_types : {V : Type 0} → List ℕ → (V → Data) → List (Named V) → Members → Members
+put_types key data_of [] members = members
+put_types key data_of (named ∷ types) members = with_member key (named_data data_of (named ∷ types)) members
 
 abbrev pub prop_data : Named (List ℕ) → Data
 prop_data prop = list_data (string prop.0 ∷ string prop.1 ∷ [])
@@ -198,9 +195,9 @@ unfoldable pub change_data : Change → Data
 change_data c = object
     (put_list (codes "unmapped") (map string c.unmapped)
     (put_list (codes "tokens") (tokens_data c.tokens)
-    (put_sights c.sights
+    (put_types (codes "sights") wholes_data c.sights
     (put_list (codes "maps") (maps_data c.maps)
-    (put_lights c.lights
+    (put_types (codes "lights") radius_data c.lights
     (put_list (codes "gone") (map (λ id. string (id_text id)) c.gone)
     (put_list (codes "changed") (map map_change_data c.changed) no_members)))))))
 

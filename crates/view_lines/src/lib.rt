@@ -1,12 +1,17 @@
 //! The lines that tell what one seat sees of a game: the full line tells a view whole, the change line how it became
-//! another.
+//! another. Both are written token by token, with no tree of what they tell.
 #![tactic(auto)]
 
-mod change_values;
+mod changes;
+mod ground;
 mod lines;
-mod terrain;
+mod map_views;
+mod parts;
+mod rows;
+mod runs;
+mod token_views;
+mod types;
 mod values;
-mod view_values;
-mod written;
+mod views_whole;
 
 pub use lines::{change_line, full_line};

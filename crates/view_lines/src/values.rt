@@ -1,128 +1,106 @@
-//! The small JSON values that lines are made of.
-ghost use Rattle.std.specs.Prelude.{◌≡◌, map, IfOk, OnOk};
-ghost use Rattle.serde_json.specs.Data.{string};
-ghost use Rattle.serde_json.specs.View.{view, members_view};
+//! The small parts.
+ghost use Rattle.std.specs.Prelude.{◌∷◌, [], decimal, OnOk};
+ghost use Rattle.json.specs.Token.{key as key_token, string as string_token, number as number_token};
+ghost use Rattle.serde_json.specs.Data.{boolean, string};
 ghost use Rattle.names.specs.TokenId.{id_text};
-ghost use Rattle.view_lines.specs.Lines.{with_member, wholes_data, text_or_null as text_or_null_data, put_list as put_list_data, cell_data, prop_data, props_data};
+ghost use Rattle.json_lines.specs.Added.{Adds};
+ghost use Rattle.json_lines.specs.Tokens.{value_tokens};
+ghost use Rattle.view_lines.specs.Lines.{whole, text_or_null, cell_data, prop_data};
+ghost use Rattle.view_lines.specs.Tokens.{some_tokens};
 
+use crate::parts::Part;
 use cells::Cell;
-use names::{Tag, Text, TokenId};
-use serde_json::{Map, Value, json};
+use json::Writer;
+use names::{SeatNo, Tag, Text, TokenId};
 use std::alloc::{AllocError, Global};
-use views::{PropTexts, SeatNos};
 
-/// Puts a member in.
-#[tactic(auto, unfolding(crate::specs::Lines::with_member))]
-pub(crate) fn put_member(
-    members: &mut Map<String, Value>,
-    alloc: Global,
-    key: &str,
-    value: Value,
-) -> Result<(), AllocError>
-    ensures { OnOk result (members_view members.new.entries ≡ with_member key.now (view value) (members_view members.old.entries)) }
-{
-    serde_json::put(members, alloc, key, value)
+/// A name as a text.
+impl Part for Tag {
+    ghost data_of = { string };
+
+    fn put(&self, writer: &mut Writer, _alloc: Global) -> Result<(), AllocError> {
+        writer.string(self.text())
+    }
 }
 
-/// Puts a list in, where it has items.
-pub(crate) fn put_list(
-    members: &mut Map<String, Value>,
-    alloc: Global,
-    key: &str,
-    list: Vec<Value>,
-) -> Result<(), AllocError>
-    ensures { OnOk result (members_view members.new.entries ≡ put_list_data key.now (map view list.items) (members_view members.old.entries)) }
+/// An id as its text.
+impl Part for TokenId {
+    ghost data_of = { λ id. string (id_text id) };
+
+    fn put(&self, writer: &mut Writer, alloc: Global) -> Result<(), AllocError> {
+        match self.text(alloc) {
+            Ok(text) => writer.string(text.text()),
+            Err(_) => Err(AllocError),
+        }
+    }
+}
+
+/// A seat as its number.
+impl Part for SeatNo {
+    ghost data_of = { whole };
+
+    fn put(&self, writer: &mut Writer, _alloc: Global) -> Result<(), AllocError> {
+        writer.u64(u64::from(self.number()))
+    }
+}
+
+/// A property as a pair of its name and its value.
+impl Part for (Tag, Text) {
+    ghost data_of = { prop_data };
+
+    fn put(&self, writer: &mut Writer, _alloc: Global) -> Result<(), AllocError> {
+        writer.begin_array()?;
+        writer.string(self.0.text())?;
+        writer.string(self.1.text())?;
+        writer.end_array()
+    }
+}
+
+/// A cell as a pair of its column and its row.
+impl Part for Cell {
+    ghost data_of = { cell_data };
+
+    fn put(&self, writer: &mut Writer, _alloc: Global) -> Result<(), AllocError> {
+        writer.begin_array()?;
+        writer.u64(u64::from(self.x))?;
+        writer.u64(u64::from(self.y))?;
+        writer.end_array()
+    }
+}
+
+/// Writes a member that is a text.
+pub(crate) fn put_text(writer: &mut Writer, key: &str, text: &str) -> Result<(), AllocError>
+    ensures { OnOk result (Adds writer.old writer.new (key_token key.now ∷ string_token text.now ∷ [])) }
 {
-    if list.is_empty() {
+    writer.key(key)?;
+    writer.string(text)
+}
+
+/// Writes a member that is a whole number.
+pub(crate) fn put_whole(writer: &mut Writer, key: &str, whole: u8) -> Result<(), AllocError>
+    ensures { OnOk result (Adds writer.old writer.new (key_token key.now ∷ number_token (decimal whole) ∷ [])) }
+{
+    writer.key(key)?;
+    writer.u64(u64::from(whole))
+}
+
+/// Writes a member that is true or false, where there is one.
+pub(crate) fn put_flag(writer: &mut Writer, key: &str, flag: Option<bool>) -> Result<(), AllocError>
+    ensures { OnOk result (Adds writer.old writer.new (some_tokens key.now boolean flag)) }
+{
+    let Some(flag) = flag else {
         return Ok(());
-    }
-    put_member(members, alloc, key, Value::Array(list))
+    };
+    writer.key(key)?;
+    writer.boolean(flag)
 }
 
-/// A list of whole numbers.
-pub(crate) fn wholes(alloc: Global, numbers: &[u8]) -> Result<Value, AllocError>
-    ensures { IfOk result (λ v. view v ≡ wholes_data numbers.now) }
-{
-    let mut list = Vec::new(alloc);
-    for number in numbers {
-        list.push(Value::from(*number))?;
-    }
-    Ok(Value::Array(list))
-}
-
-/// A list of seats' numbers.
-pub(crate) fn seats(alloc: Global, seats: &SeatNos) -> Result<Value, AllocError>
-    ensures { IfOk result (λ v. view v ≡ wholes_data seats.now) }
-{
-    let mut list = Vec::new(alloc);
-    for seat in &seats.list {
-        list.push(Value::from(seat.number()))?;
-    }
-    Ok(Value::Array(list))
-}
-
-/// The name as a text, or null.
-pub(crate) fn text_or_null(alloc: Global, name: Option<Tag>) -> Result<Value, AllocError>
-    ensures { IfOk result (λ v. view v ≡ text_or_null_data name) }
+/// Writes the name as a text, or null.
+pub(crate) fn put_text_or_null(writer: &mut Writer, name: Option<Tag>) -> Result<(), AllocError>
+    ensures { OnOk result (Adds writer.old writer.new (value_tokens (text_or_null name))) }
 {
     match name {
-        None => Ok(Value::Null),
-        Some(name) => json!(in alloc; name.text()),
+        None => writer.null(),
+        Some(name) => writer.string(name.text()),
     }
-}
-
-/// A cell as a list of its column and its row.
-pub(crate) fn cell(alloc: Global, cell: Cell) -> Result<Value, AllocError>
-    ensures { IfOk result (λ v. view v ≡ cell_data cell) }
-{
-    json!(in alloc; [cell.x, cell.y])
-}
-
-fn prop(alloc: Global, name: &Tag, value: &Text) -> Result<Value, AllocError>
-    ensures { IfOk result (λ v. view v ≡ prop_data (name.now, value.now)) }
-{
-    json!(in alloc; [name.text(), value.text()])
-}
-
-/// Properties as a list of pairs of name and value.
-pub(crate) fn props(alloc: Global, props: &PropTexts) -> Result<Value, AllocError>
-    ensures { IfOk result (λ v. view v ≡ props_data props.now) }
-{
-    let mut list = Vec::new(alloc);
-    for (name, value) in &props.list {
-        list.push(prop(alloc, name, value)?)?;
-    }
-    Ok(Value::Array(list))
-}
-
-/// The id's text.
-pub(crate) fn id(alloc: Global, id: TokenId) -> Result<Value, AllocError>
-    ensures { IfOk result (λ v. view v ≡ string (id_text id)) }
-{
-    match id.text(alloc) {
-        Ok(text) => json!(in alloc; text.text()),
-        Err(_) => Err(AllocError),
-    }
-}
-
-/// Ids as texts.
-pub(crate) fn ids(alloc: Global, ids: &[TokenId]) -> Result<Vec<Value>, AllocError>
-    ensures { IfOk result (λ vs. map view vs.items ≡ map (λ i. string (id_text i)) ids.now) }
-{
-    let mut list = Vec::new(alloc);
-    for item in ids {
-        list.push(id(alloc, *item)?)?;
-    }
-    Ok(list)
-}
-
-/// Names as texts.
-pub(crate) fn names(alloc: Global, names: &[Tag]) -> Result<Vec<Value>, AllocError>
-    ensures { IfOk result (λ vs. map view vs.items ≡ map string names.now) }
-{
-    let mut list = Vec::new(alloc);
-    for name in names {
-        list.push(json!(in alloc; name.text())?)?;
-    }
-    Ok(list)
 }
