@@ -10,7 +10,6 @@ use Rattle.campaign_law.specs.Seat.{Seat}
 use Rattle.campaign_law.specs.State.{Post, world_in}
 use Rattle.campaign_law.specs.World.{World, replay}
 use Rattle.campaign_law.specs.Worlds.{opened_of}
-use Rattle.campaign_law.specs.Written.{IsWritten as IsWrittenByLaw}
 use Rattle.campaign_law.proofs.WrittenWorlds.{written_always}
 use Rattle.campaign_core.specs.declared.campaign.Staged.{Staged}
 use Rattle.campaign_core.specs.CutList.{Ledger}
@@ -48,4 +47,4 @@ module _ (origin : World) (h : List Entry) (ledger : Ledger) (s : Standing) (kep
 
   -- it is one that the campaign text takes
   pub now_written : IsWritten (opened_of (replay origin h))
-  now_written = let is : IsWrittenByLaw (opened_of (replay origin h)) = written_always origin h r.written in record { tokens = is.tokens; keys = is.keys; macros = is.macros }
+  now_written = written_always origin h r.written

@@ -6,7 +6,7 @@ use Rattle.command_looks.specs.Fields.{AreKept}
 use Rattle.campaign_law.specs.declared.entry.Entry.{Entry}
 use Rattle.campaign_law.specs.World.{World}
 use Rattle.campaign_law.specs.Worlds.{FitsTogether, opened_of}
-use Rattle.campaign_law.specs.Written.{IsWritten}
+use Rattle.campaign_writing.specs.Written.{IsWritten}
 use Rattle.campaign_law.specs.Session.{changes_state}
 use Rattle.campaign_law.specs.State.{world_in, state_of}
 use Rattle.campaign_law.specs.Law.{IsOpening}

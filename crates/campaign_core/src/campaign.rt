@@ -3,7 +3,7 @@ ghost use Rattle.std.specs.Prelude.{◌+◌, None, IfSome, ◌≡◌, ◌<◌, �
 ghost use Rattle.campaign_file.specs.Campaign.{IsOpening as IsOpeningList};
 ghost use Rattle.mails.specs.Texts.{tagged_text, text_of};
 ghost use Rattle.campaign_law.specs.Worlds.{opening_world};
-ghost use Rattle.campaign_law.specs.Written.{IsWritten};
+ghost use Rattle.campaign_writing.specs.Written.{IsWritten};
 ghost use Rattle.campaign_core.specs.Opening.{world_of_text, IsOpenFault};
 ghost use Rattle.std.specs.Option.{option_copied};
 ghost use Rattle.command_looks.specs.Fields.{field_for};
@@ -274,7 +274,7 @@ impl<E: Eye + Drop> Campaign<E> {
         ensures staged { self.new.staged ≡ None }
         ensures looks { self.new.looks ≡ self.old.looks }
         ensures refused { IfOk result (λ a. is_some a.refusal ≡ true → ChangesLittle (world_of self.old) entry) }
-        ensures sure { changes_state (world_of self.old) entry ≡ false }
+        ensures still { changes_state (world_of self.old) entry ≡ false }
 
         // What each player was sent is what the machine without a world prints.
         ensures sent { (p : ℕ) → IsSentAsMachine self.new.origin self.new.history p }

@@ -19,7 +19,7 @@ use Rattle.command_effects.specs.GmEffects.{gm_scene_by}
 use Rattle.macro_eval.specs.declared.intent.Intent.{Intent}
 use Rattle.command_effects.specs.MacroEffects.{with_intent, with_intents}
 use Rattle.command_effects.specs.Effects.{own_token, after_steps, scene_by, cell_after}
-use Rattle.campaign_law.specs.Written.{is_written_token, are_written_tokens}
+use Rattle.campaign_writing.specs.Written.{is_written_token, are_written_tokens}
 
 -- the same name and size
 abbrev pub KeepsForm : (Made → Made) → Type 0

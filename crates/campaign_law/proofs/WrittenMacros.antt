@@ -35,7 +35,7 @@ use Rattle.player_view.specs.Asked.{Asked}
 use Rattle.campaign_law.specs.declared.entry.Entry.{Entry}
 use Rattle.campaign_law.specs.declared.entry.Entry.TheVariants.{Join, Line, Leave, Taken, Cut}
 use Rattle.campaign_law.specs.Outcome.{Report, Outcome, nothing, join_outcome, present_outcome, read_outcome, roll_rule, dice_in, macro_rule, broken_rule, called_by, accepted_with, decided, refused_direct, book_done}
-use Rattle.campaign_law.specs.Written.{is_written_text, are_written_texts}
+use Rattle.campaign_writing.specs.Written.{is_written_text, are_written_texts}
 
 -- ---- texts under names
 

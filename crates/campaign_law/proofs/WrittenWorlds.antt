@@ -15,7 +15,7 @@ use Rattle.campaign_law.specs.declared.entry.Entry.{Entry}
 use Rattle.campaign_law.specs.Seat.{Seat, let_go, is_let_go, freed_seat}
 use Rattle.campaign_law.specs.Outcome.{outcome_at, seat_of}
 use Rattle.campaign_law.specs.World.{World, seat_at, asked_of, steps_of, report_of, outcome_of, changed, queued_lines, made_by, scene_after, mapped_from, step, replay}
-use Rattle.campaign_law.specs.Written.{is_written_key, are_written_keys, are_written_tokens, are_written_texts, are_written_macros, IsWritten}
+use Rattle.campaign_writing.specs.Written.{is_written_key, are_written_keys, are_written_tokens, are_written_texts, are_written_macros, IsWritten}
 use Rattle.campaign_law.specs.Worlds.{opened_of, opening_world}
 use Rattle.campaign_law.proofs.Allowed.{outcome_none}
 use Rattle.campaign_law.proofs.TokenForms.{written_after}

@@ -11,6 +11,5 @@ pub mod Law
 pub mod Hellos
 pub mod Cuts
 pub mod SessionLaws
-pub mod Written
 pub mod Worlds
 pub mod Client

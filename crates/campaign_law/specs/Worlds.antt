@@ -10,7 +10,7 @@ use Rattle.campaign_law.specs.Seat.{fresh_seat}
 use Rattle.campaign_law.specs.Outcome.{seat_of}
 use Rattle.campaign_law.specs.World.{World, outcome_of, replay}
 pub use Rattle.campaign_law.specs.World.{opened_of}
-use Rattle.campaign_law.specs.Written.{IsWritten}
+use Rattle.campaign_writing.specs.Written.{IsWritten}
 
 -- it has 1 to 33 seats, numbered by their places, all but the first are players, and they made its tokens
 abbrev pub FitsTogether : World → Type 0

@@ -8,7 +8,7 @@ use Rattle.command_looks.specs.Touched.{looks_of_opening}
 use Rattle.campaign_law.specs.State.{State, world_in, state_of, opening_post, opening_state}
 use Rattle.campaign_law.specs.World.{World}
 use Rattle.campaign_law.specs.Worlds.{FitsTogether, opened_of}
-use Rattle.campaign_law.specs.Written.{IsWritten}
+use Rattle.campaign_writing.specs.Written.{IsWritten}
 use Rattle.player_view.specs.Tables.{HasTables}
 use Rattle.command_effects.proofs.KeptScenes.{settled_kept}
 use Rattle.campaign_law.proofs.Worlds.{fits_opened}
