@@ -1,5 +1,7 @@
 -- The words that name commands.
 use Rattle.std.specs.Prelude.{ℕ, List, [], ◌∷◌, codes}
+use Rattle.command_json.specs.declared.command.Command.{Command}
+use Rattle.command_json.specs.declared.command.Command.TheVariants.{Hello, Bye, Look, Say, Roll, Macro, Setmacro, Move, Setprop, Light, Make, Remove, Map, Mode, Show, Terrain, Wall, Unwall, Lighttype, Sighttype, Token, Own, Layer, Visible, Sight, Place, Secret, Expose, Hide, Dump}
 use Rattle.command_json.specs.declared.verbs.Verb.{Verb}
 use Rattle.command_json.specs.declared.verbs.Verb.TheVariants as V
 use Rattle.command_json.specs.declared.verbs.GmVerb.{GmVerb}
@@ -42,6 +44,40 @@ gm_verbs =
     (codes "expose", G.Expose) ∷
     (codes "hide", G.Hide) ∷
     (codes "dump", G.Dump) ∷ []
+
+-- ---- the name of a command, which the reply to it has where it is accepted
+
+abbrev pub name_of : Command → List ℕ
+name_of (Hello named key) = codes "hello"
+name_of Bye = codes "bye"
+name_of Look = codes "look"
+name_of (Say text to) = codes "say"
+name_of (Roll dice to) = codes "roll"
+name_of (Macro name args to) = codes "macro"
+name_of (Setmacro name text) = codes "setmacro"
+name_of (Setprop token class name value) = codes "setprop"
+name_of (Light token light) = codes "light"
+name_of (Make tag map cell name) = codes "make"
+name_of (Remove token) = codes "remove"
+name_of (Map name w h) = codes "map"
+name_of (Mode map mode) = codes "mode"
+name_of (Show map on) = codes "show"
+name_of (Terrain map rect kind) = codes "terrain"
+name_of (Wall map kind a b) = codes "wall"
+name_of (Unwall map kind a b) = codes "unwall"
+name_of (Lighttype name radius) = codes "lighttype"
+name_of (Sighttype name range night mult) = codes "sighttype"
+name_of (Token tag map cell name size layer) = codes "token"
+name_of (Own token seat on) = codes "own"
+name_of (Layer token layer) = codes "layer"
+name_of (Visible token on) = codes "visible"
+name_of (Sight token sight) = codes "sight"
+name_of (Place token map cell) = codes "place"
+name_of (Secret token name value) = codes "secret"
+name_of (Expose seat map rect) = codes "expose"
+name_of (Hide seat map rect) = codes "hide"
+name_of Dump = codes "dump"
+name_of (Move token path) = codes "move"
 
 -- ---- the keys of the fields that each command has, in their order
 

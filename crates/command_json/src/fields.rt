@@ -1,6 +1,6 @@
 //! The fields of a command. Each function gives the value at a key, of its kind; where the key is missing or its
 //! value is of another kind, the fault names the key.
-ghost use Rattle.std.specs.Prelude.{◌≡◌, [], ◌∷◌, codes, map, option_map, IfOk};
+ghost use Rattle.std.specs.Prelude.{◌≡◌, [], map, option_map, IfOk};
 ghost use Rattle.serde_json.specs.View.{view, items_view};
 ghost use Rattle.chat.specs.declared.to.To.TheVariants.{All, Seat};
 ghost use Rattle.serde_json.specs.Find.{as_bool};

@@ -138,44 +138,9 @@ static LINES: [(&str, &str, &str); 40] = [
     (r#"{}"#, "BadCommand", ""),
 ];
 
-fn word(command: &Command) -> &'static str {
-    match command {
-        Command::Hello { .. } => "hello",
-        Command::Bye => "bye",
-        Command::Look => "look",
-        Command::Say { .. } => "say",
-        Command::Roll { .. } => "roll",
-        Command::Macro { .. } => "macro",
-        Command::Setmacro { .. } => "setmacro",
-        Command::Move { .. } => "move",
-        Command::Setprop { .. } => "setprop",
-        Command::Light { .. } => "light",
-        Command::Make { .. } => "make",
-        Command::Remove { .. } => "remove",
-        Command::Map { .. } => "map",
-        Command::Mode { .. } => "mode",
-        Command::Show { .. } => "show",
-        Command::Terrain { .. } => "terrain",
-        Command::Wall { .. } => "wall",
-        Command::Unwall { .. } => "unwall",
-        Command::Lighttype { .. } => "lighttype",
-        Command::Sighttype { .. } => "sighttype",
-        Command::Token { .. } => "token",
-        Command::Own { .. } => "own",
-        Command::Layer { .. } => "layer",
-        Command::Visible { .. } => "visible",
-        Command::Sight { .. } => "sight",
-        Command::Place { .. } => "place",
-        Command::Secret { .. } => "secret",
-        Command::Expose { .. } => "expose",
-        Command::Hide { .. } => "hide",
-        Command::Dump => "dump",
-    }
-}
-
 fn told(answer: &Result<Command, LineFault>) -> (&str, &str) {
     match answer {
-        Ok(command) => (word(command), ""),
+        Ok(command) => (command.name(), ""),
         Err(LineFault::BadJson) => ("BadJson", ""),
         Err(LineFault::BadCommand) => ("BadCommand", ""),
         Err(LineFault::GmOnly) => ("GmOnly", ""),

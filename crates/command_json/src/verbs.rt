@@ -2,8 +2,9 @@
 ghost use Rattle.std.specs.Prelude.{◌≡◌, codes};
 ghost use Rattle.serde_json.specs.View.{view};
 ghost use Rattle.json_fields.specs.Fields.{word_in};
-ghost use Rattle.command_json.specs.Verbs.{verbs, gm_verbs};
+ghost use Rattle.command_json.specs.Verbs.{name_of, verbs, gm_verbs};
 
+use crate::command::Command;
 use json_fields::fields::word;
 use serde_json::Value;
 
@@ -91,4 +92,44 @@ pub(crate) fn read_gm_verb(value: &Value) -> Option<GmVerb>
         ("dump", GmVerb::Dump),
     ];
     word(value, "do", &table)
+}
+
+impl Command {
+    /// The word that names the command; where the command is accepted, the reply has it as `ok`.
+    pub fn name(&self) -> &'static str
+        ensures { result.now ≡ name_of self.now }
+    {
+        match self {
+            Command::Hello { .. } => "hello",
+            Command::Bye => "bye",
+            Command::Look => "look",
+            Command::Say { .. } => "say",
+            Command::Roll { .. } => "roll",
+            Command::Macro { .. } => "macro",
+            Command::Setmacro { .. } => "setmacro",
+            Command::Move { .. } => "move",
+            Command::Setprop { .. } => "setprop",
+            Command::Light { .. } => "light",
+            Command::Make { .. } => "make",
+            Command::Remove { .. } => "remove",
+            Command::Map { .. } => "map",
+            Command::Mode { .. } => "mode",
+            Command::Show { .. } => "show",
+            Command::Terrain { .. } => "terrain",
+            Command::Wall { .. } => "wall",
+            Command::Unwall { .. } => "unwall",
+            Command::Lighttype { .. } => "lighttype",
+            Command::Sighttype { .. } => "sighttype",
+            Command::Token { .. } => "token",
+            Command::Own { .. } => "own",
+            Command::Layer { .. } => "layer",
+            Command::Visible { .. } => "visible",
+            Command::Sight { .. } => "sight",
+            Command::Place { .. } => "place",
+            Command::Secret { .. } => "secret",
+            Command::Expose { .. } => "expose",
+            Command::Hide { .. } => "hide",
+            Command::Dump => "dump",
+        }
+    }
 }

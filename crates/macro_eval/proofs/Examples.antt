@@ -1,5 +1,5 @@
 -- Worked examples of runs, over given words.
-use Rattle.std.proofs.Common.{◌≡◌, ℕ, [], ◌∷◌, refl}
+use Rattle.std.proofs.Common.{◌≡◌, [], ◌∷◌, refl}
 use Rattle.std.specs.Prelude.{Ok, Err, codes}
 use Rattle.std.specs.Fmt.{digits}
 use Rattle.macro_eval.specs.declared.stop.MacroStop.TheVariants.{Fault}
@@ -10,7 +10,7 @@ use Rattle.reading.specs.Number.{number_at}
 use Rattle.dice_parse.specs.Readers.{die_at, explode_at, again_at, tail_at}
 use Rattle.dice_parse.specs.Groups.{suffixes_at, counted_at}
 use Rattle.macro_parse.specs.Answers.{macro_of}
-use Rattle.macro_eval.specs.Runs.{Ran, run_of}
+use Rattle.macro_eval.specs.Runs.{run_of}
 use Rattle.macro_eval.specs.Examples.{to_all, shown_to_all, hit, by_zero, decided_by_the_left, remainder_below_zero, whispered_rounds}
 
 pub hit_shows : run_of to_all (λ k. 2917185654) hit ≡ Ok (record { texts = codes "14 hit " ∷ (codes " hit 14" ∷ (codes " hit " ∷ [])); intents = []; used = 1 })

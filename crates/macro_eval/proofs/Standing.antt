@@ -1,26 +1,19 @@
 -- A node that stands means what its tree means, and its parts stand.
-use Rattle.std.proofs.Common.{◌≡◌, ℕ, zero, suc, ◌<◌, List, [], ◌∷◌, length, get_or, Some, None, refl, sym, ◌∙◌, ap, ap₂, subst, arith}
-use Rattle.std.specs.Prelude.{slice_get, All, Ok, Err, Result}
+use Rattle.std.proofs.Common.{◌≡◌, ℕ, suc, ◌<◌, List, length, Some, sym, ◌∙◌, ap, ap₂, subst, arith}
+use Rattle.std.specs.Prelude.{slice_get, Err}
 use Rattle.std.proofs.lemmas.List.Elements.{All-get_or}
 use Rattle.std.proofs.lemmas.Option.{slice_get_within, get_or_from_slice_get}
-use Rattle.macro_grammar.specs.declared.words.Operator.{Operator}
-use Rattle.macro_grammar.specs.declared.words.Function.{Function}
 use Rattle.macro_parse.specs.declared.nodes.Node.{Node}
 use Rattle.macro_parse.specs.declared.nodes.Node.TheVariants.{Number as NumberNode, Dice as DiceNode, Quoted as QuotedNode, Name as NameNode, Call as CallNode, Negated as NegatedNode, Inverted as InvertedNode, Binary as BinaryNode, Assigned as AssignedNode}
-use Rattle.macro_parse.specs.declared.nodes.Arguments.{Arguments}
 use Rattle.macro_parse.specs.declared.nodes.Arguments.TheVariants.{Nothing, One, Two, Three}
 use Rattle.macro_grammar.specs.Tree.{Tree, Number, Dice, Quoted, Name, Call0, Call1, Call2, Call3, Negated, Inverted, Binary, Assigned}
 use Rattle.macro_parse.specs.Flat.{Shows, NodeFits, NodesFit}
-use Rattle.macro_eval.specs.declared.value.Value.{Value}
-use Rattle.macro_eval.specs.declared.stop.MacroStop.{MacroStop}
 use Rattle.macro_eval.specs.declared.stop.MacroStop.TheVariants.{Budget}
 use Rattle.macro_eval.specs.Steps.{State, Step, spending, spend}
 use Rattle.macro_eval.specs.Functions.{Setting}
 use Rattle.macro_eval.specs.Nodes.{value_of}
 use Rattle.macro_parse.specs.Trees.{tree_with, tree_or_none, tree_within, tree_at, Stands}
-use Rattle.macro_eval.specs.Held.{Held, running}
-use Rattle.macro_eval.specs.Flat.{value_at, called_of, spent_of, IsPart, ArgumentsStand, NodeStands}
-use Rattle.macro_eval.specs.Answers.{Answers}
+use Rattle.macro_eval.specs.Flat.{value_at, spent_of, IsPart, NodeStands}
 use Rattle.macro_parse.proofs.Trees.{tree_is, stands}
 
 -- ---- the tree of a node is made of those of its parts

@@ -5,7 +5,7 @@ use Rattle.macro_eval.specs.declared.value.Value.TheVariants.{Whole, Text}
 use Rattle.macro_eval.specs.declared.stop.FaultKind.TheVariants.{NotNumber, NotText}
 use Rattle.macro_eval.specs.declared.stop.MacroStop.{MacroStop}
 use Rattle.macro_eval.specs.declared.stop.MacroStop.TheVariants.{Budget, Fault, Overflow, Memory}
-use Rattle.macro_eval.specs.Steps.{State, Step}
+use Rattle.macro_eval.specs.Steps.{Step}
 use Rattle.std.specs.Borrow.{Bor}
 use Rattle.seat_random.specs.Stream.{Stream, after}
 use Rattle.macro_eval.specs.declared.outcome.Outcome.{Outcome}

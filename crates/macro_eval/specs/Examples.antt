@@ -1,9 +1,9 @@
 -- Macros whose runs are worked out by hand.
-use Rattle.std.specs.Prelude.{ℕ, false, List, [], ◌∷◌, Some, None, codes}
+use Rattle.std.specs.Prelude.{false, List, [], ◌∷◌, None, codes}
 use Rattle.chat.specs.declared.to.To.TheVariants.{All}
 use Rattle.dice_parse.specs.declared.parts.Group.{Group}
 use Rattle.macro_grammar.specs.declared.words.Operator.TheVariants.{And, Divide, Remainder, Add}
-use Rattle.macro_grammar.specs.Tree.{Tree, Number, Dice, Name, Negated, Binary, Assigned, Receivers, Hidden, Master, Runner, Whisper, Count, Addressed, Branched, AddressFirst, Piece, Plain, Roll}
+use Rattle.macro_grammar.specs.Tree.{Tree, Number, Dice, Name, Negated, Binary, Assigned, Receivers, Hidden, Master, Runner, Whisper, Count, Addressed, AddressFirst, Piece, Plain, Roll}
 use Rattle.macro_eval.specs.Functions.{Setting}
 use Rattle.readable.specs.Table.{no_table}
 

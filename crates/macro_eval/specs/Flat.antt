@@ -1,5 +1,5 @@
 -- The meaning of flat nodes: that of the trees that they stand for.
-use Rattle.std.specs.Prelude.{◌≡◌, ℕ, suc, ◌<◌, List, Some, None, pos, slice_get}
+use Rattle.std.specs.Prelude.{◌≡◌, ℕ, suc, ◌<◌, List, pos}
 use Rattle.dice_parse.specs.Grammar.{GroupFits}
 use Rattle.macro_grammar.specs.declared.words.Function.{Function}
 use Rattle.macro_parse.specs.declared.nodes.Node.{Node}

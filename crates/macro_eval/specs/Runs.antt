@@ -1,5 +1,5 @@
 -- What the run of a macro comes to.
-use Rattle.std.specs.Prelude.{◌≡◌, ℕ, Bool, false, List, [], ◌∷◌, ◌++◌, map, Option, Some, None, Result, Ok, Err}
+use Rattle.std.specs.Prelude.{◌≡◌, ℕ, Bool, false, List, map, Option, Some, None, Result, Ok, Err}
 use Rattle.std.specs.List.{filter, flat_map, range_with_len}
 use Rattle.chat.specs.declared.to.To.{To}
 use Rattle.chat.specs.Addresses.{is_addressed}
@@ -9,7 +9,7 @@ use Rattle.seat_random.specs.Stream.{Stream, word_of}
 use Rattle.macro_eval.specs.declared.outcome.Outcome.{Outcome}
 use Rattle.macro_eval.specs.declared.stop.MacroStop.{MacroStop}
 use Rattle.macro_eval.specs.declared.stop.MacroStop.TheVariants.{Budget, Fault, Overflow, Memory}
-use Rattle.macro_eval.specs.Steps.{State, Step, fresh}
+use Rattle.macro_eval.specs.Steps.{Step, fresh}
 use Rattle.readable.specs.Table.{Table}
 use Rattle.macro_eval.specs.Functions.{Setting, setting_of}
 use Rattle.macro_eval.specs.Pieces.{pieces_of}

@@ -2,3 +2,4 @@ pub mod Tag
 pub mod TokenId
 pub mod Words
 pub mod Letters
+pub mod Values

@@ -5,6 +5,7 @@
 //! and a `TokenId` is the record of its maker and its tag.
 #![tactic(auto)]
 
+mod counts;
 mod kinds;
 mod letters;
 mod memory;
@@ -13,6 +14,7 @@ mod tags;
 mod texts;
 mod token_id;
 
+pub use counts::sum_of_counts;
 pub use kinds::{Layer, Mode, PropClass, WallKind};
 pub use letters::is_letter;
 pub use memory::Memory;

@@ -1,6 +1,6 @@
 //! With ample memory, what takes memory gives its text.
 
-use crate::{LineText, SeatNo, Tag, Text, TokenId};
+use crate::{LineText, Memory, SeatNo, Tag, Text, TokenId, sum_of_counts};
 use std::test::Fail;
 
 #[test]
@@ -33,4 +33,10 @@ fn a_text_is_shared(rt: HostRuntime) -> Result<(), Fail> {
     drop(text);
     assert_eq!(rt; again.text(), "Ann");
     Ok(())
+}
+
+#[test]
+fn counts_are_added(rt: HostRuntime) {
+    assert_eq!(rt; sum_of_counts(2, 3), Ok(5));
+    assert_eq!(rt; sum_of_counts(u64::MAX, 1), Err(Memory));
 }

@@ -1,16 +1,14 @@
 //! The fields that a scene needs.
-ghost use Rattle.std.specs.Prelude.{◌≡◌, ◌<◌, ◌≤◌, ◌+◌, All, IfOk, OnOk, OnErr, Some, if◌then◌else◌, take, length};
-ghost use Rattle.cells.specs.Cells.{Cells};
+ghost use Rattle.std.specs.Prelude.{◌≡◌, ◌<◌, ◌≤◌, ◌+◌, All, IfOk, OnOk, Some, if◌then◌else◌, take, length};
 ghost use Rattle.names.specs.declared.token_id.TokenId.{TokenId};
 ghost use Rattle.names.specs.TokenId.{id_eq};
-ghost use Rattle.maps.specs.Maps.{Grid, map_of};
 ghost use Rattle.topology.specs.Sight.{field_of};
 ghost use Rattle.topology.specs.WallLists.{IsOnMap};
 ghost use Rattle.tokens.specs.Tokens.{eye_of};
 ghost use Rattle.vision.specs.Fields.{field_at};
 ghost use Rattle.player_view.specs.Fields.{HasFields, IsKept, needs_field};
 
-use crate::reads::{map_at, token_at};
+use crate::reads::{map_named, token_at};
 use cells::CellSet;
 use maps::GridMap;
 use names::{Memory, TokenId};
@@ -21,14 +19,14 @@ use vision::Fields;
 use world::Scene;
 
 /// Whether the token has a sight or a light.
-fn needs_field(token: &Token) -> bool
+pub fn needs_field(token: &Token) -> bool
     ensures { result ≡ needs_field token.now }
 {
     token.sight.is_some() || token.light.is_some()
 }
 
 /// The field of the token's eye on the map, by one look.
-fn field_on<E: Eye>(
+pub fn field_on<E: Eye>(
     alloc: Global,
     map: &GridMap,
     token: &Token,
@@ -46,7 +44,7 @@ fn field_on<E: Eye>(
 }
 
 /// Keeps a field for an id.
-fn keep(fields: &mut Fields, id: TokenId, field: CellSet) -> Result<(), Memory>
+pub fn keep_field(fields: &mut Fields, id: TokenId, field: CellSet) -> Result<(), Memory>
     ensures { OnOk result ((other : TokenId) → field_at other fields.new ≡ (if id_eq id other then Some field else field_at other fields.old)) }
 {
     match fields.put(id, field) {
@@ -73,11 +71,11 @@ fn add_field<E: Eye>(
     if !needs_field(token) {
         return Ok(());
     }
-    match map_at(scene, token.map) {
+    match map_named(scene, token.map) {
         None => Ok(()),
         Some(map) => {
             let field = field_on(alloc, map, token, eye)?;
-            keep(fields, token.id, field)?;
+            keep_field(fields, token.id, field)?;
             Ok(())
         }
     }

@@ -1,5 +1,5 @@
 //! What a player sees of a map, by kept fields.
-ghost use Rattle.std.specs.Prelude.{◌≡◌, ◌<◌, ◌≤◌, ◌+◌, ◌++◌, ◌∷◌, [], Some, false, IfOk, IfSome, OnOk, OnErr, take, slice_get, length};
+ghost use Rattle.std.specs.Prelude.{◌≡◌, ◌<◌, ◌≤◌, ◌+◌, ◌++◌, ◌∷◌, [], Some, false, IfOk, IfSome, OnOk, OnErr, take, length};
 ghost use Rattle.std.specs.List.{filter_map};
 ghost use Rattle.cells.specs.Cells.{cells_where};
 ghost use Rattle.maps.specs.Maps.{map_of};
@@ -8,7 +8,7 @@ ghost use Rattle.player_view.specs.Fields.{HasFields};
 ghost use Rattle.player_view.specs.Sight.{lamp_on, lamp_with, lamps_on, named_type, visible};
 ghost use Rattle.player_view.specs.Walk.{sight_on, visible_to_first};
 
-use crate::reads::{is_hidden, map_at, owns, radius_of, sight_of, token_at};
+use crate::reads::{is_hidden, map_named, owns, radius_of, sight_of, token_at};
 use cells::CellSet;
 use maps::GridMap;
 use names::{Memory, SeatNo, Tag};
@@ -178,7 +178,7 @@ pub fn visible_of(
     ensures value { OnOk result (IfSome (map_of map scene.now.maps) (λ m. out.new ≡ visible scene.now seat m)) }
     ensures empty { OnErr result (out.new ≡ cells_where out.old.extent (λ x y. false)) }
 {
-    match map_at(scene, map) {
+    match map_named(scene, map) {
         Some(grid) => look_over(alloc, scene, seat, grid, fields, out),
         None => unreachable!(),
     }

@@ -1,5 +1,5 @@
 //! The maps of a seat's view.
-ghost use Rattle.std.specs.Prelude.{◌≡◌, ◌<◌, ◌≤◌, ◌+◌, ◌++◌, ◌∷◌, [], Some, None, true, IfOk, IfSome, OnOk, map, option_copied, take, slice_get, length, if◌then◌else◌};
+ghost use Rattle.std.specs.Prelude.{◌≡◌, ◌<◌, ◌≤◌, ◌+◌, ◌++◌, ◌∷◌, [], Some, None, true, IfOk, IfSome, OnOk, map, option_copied, take, length, if◌then◌else◌};
 ghost use Rattle.std.specs.List.{filter, find, position};
 ghost use Rattle.std.specs.Str.{bytes_eq};
 ghost use Rattle.cells.specs.Cells.{has};
@@ -14,7 +14,7 @@ ghost use Rattle.player_view.specs.View.{all_cells, exposed_to, has_map, letters
 ghost use Rattle.player_view.specs.Walk.{run_letters};
 
 use crate::looks::look_over;
-use crate::reads::{has_map, is_gm};
+use crate::reads::{has_map, is_gm, map_at};
 use cells::{Cell, CellSet, Run};
 use fog_book::Exposure;
 use maps::GridMap;
@@ -281,18 +281,6 @@ fn map_view(
         exposed,
         letters,
     })
-}
-
-/// The map at that place, which is the one of its name.
-#[tactic(auto, using(crate::proofs::ViewLemmas::map_there))]
-fn map_at(scene: &Scene, place: usize) -> &GridMap
-    requires { place < length scene.now.maps }
-    ensures value { slice_get scene.now.maps place ≡ Some result.now }
-    ensures there { map_of result.now.name scene.now.maps ≡ Some result.now }
-{
-    // The table tells with its length that no name is there twice.
-    let _count = scene.maps().len();
-    scene.maps().at(place)
 }
 
 fn add_map(

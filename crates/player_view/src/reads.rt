@@ -1,5 +1,5 @@
 //! What is read of a scene for one seat.
-ghost use Rattle.std.specs.Prelude.{◌≡◌, ◌&&◌, ◌<◌, ◌≤◌, ◌+◌, ◌↔◌, IsTrue, IfSome, Some, slice_get, length};
+ghost use Rattle.std.specs.Prelude.{◌≡◌, ◌&&◌, ◌<◌, ◌≤◌, ◌+◌, IfSome, Some, slice_get, length};
 ghost use Rattle.std.specs.Option.{option_copied};
 ghost use Rattle.std.specs.List.{find, list_any};
 ghost use Rattle.std.specs.Str.{bytes_eq};
@@ -28,7 +28,7 @@ pub(crate) fn is_hidden(layer: Layer) -> bool
 }
 
 /// The map of that name.
-pub(crate) fn map_at(scene: &Scene, name: Tag) -> Option<&GridMap>
+pub fn map_named(scene: &Scene, name: Tag) -> Option<&GridMap>
     ensures { option_copied result ≡ map_of name scene.now.maps }
 {
     scene.maps().get(name)
@@ -38,7 +38,7 @@ pub(crate) fn map_at(scene: &Scene, name: Tag) -> Option<&GridMap>
 pub(crate) fn map_shown(scene: &Scene, name: Tag) -> bool
     ensures { result ≡ map_shown scene.now name }
 {
-    match map_at(scene, name) {
+    match map_named(scene, name) {
         Some(map) => map.shown(),
         None => false,
     }
@@ -66,7 +66,7 @@ pub(crate) fn has_map(seat: SeatNo, map: &GridMap) -> bool
 }
 
 /// The token at that place, whose square is on a map.
-pub(crate) fn token_at(scene: &Scene, place: usize) -> &Token
+pub fn token_at(scene: &Scene, place: usize) -> &Token
     requires { place < length scene.now.tokens }
     ensures value { slice_get scene.now.tokens place ≡ Some result.now }
     ensures column { result.now.cell.x + result.now.size ≤ 96 }
@@ -125,10 +125,15 @@ pub fn mine(scene: &Scene, seat: SeatNo, id: TokenId) -> Option<&Token>
     None
 }
 
-fn grid_at(scene: &Scene, place: usize) -> &GridMap
+/// The map at that place, which is the one of its name.
+#[tactic(auto, using(crate::proofs::ViewLemmas::map_there))]
+pub fn map_at(scene: &Scene, place: usize) -> &GridMap
     requires { place < length scene.now.maps }
-    ensures { slice_get scene.now.maps place ≡ Some result.now }
+    ensures value { slice_get scene.now.maps place ≡ Some result.now }
+    ensures there { map_of result.now.name scene.now.maps ≡ Some result.now }
 {
+    // The table tells with its length that no name is there twice.
+    let _count = scene.maps().len();
     scene.maps().at(place)
 }
 
@@ -143,7 +148,7 @@ pub fn known(scene: &Scene, seat: SeatNo, name: Tag) -> Option<&GridMap>
     ensures { option_copied result ≡ find (λ m. has_map seat m && has_name name m) scene.now.maps }
 {
     for place in 0..scene.maps().len() {
-        let map = grid_at(scene, place);
+        let map = map_at(scene, place);
         if is_known(seat, map, name) {
             return Some(map);
         }

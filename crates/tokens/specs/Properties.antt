@@ -3,6 +3,7 @@ use Rattle.std.specs.Prelude.{◌≤◌, ℕ, ◌&&◌, nat_le, Bool, List, leng
 use Rattle.std.specs.Str.{bytes_eq}
 use Rattle.std.specs.Map.{lookup}
 use Rattle.indexmap.specs.IndexMap.{insert_entry}
+pub use Rattle.names.specs.Values.{value_limit}
 
 -- a name and its value
 abbrev pub Property : Type 0
@@ -11,10 +12,6 @@ Property = List ℕ × List ℕ
 -- how many names there are at most
 abbrev pub name_limit : ℕ
 name_limit = 64
-
--- how many bytes a value has at most
-abbrev pub value_limit : ℕ
-value_limit = 200
 
 -- the value under a name
 abbrev pub value_of : List ℕ → List Property → Option (List ℕ)

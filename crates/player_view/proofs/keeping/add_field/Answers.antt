@@ -20,8 +20,8 @@ returns-in-None-clause-kept g c =
     lost_next c.args.scene.now c.args.fields.now c.args.place c.token_at-token.result.now c.token_at-token.ensures.value (sym c.in-None.ensures)
     c.requires.so_far
 
-pub returns-in_ok-keep-in-Some-clause-kept : goal.returns-in_ok-keep-in-Some-clause-kept
-returns-in_ok-keep-in-Some-clause-kept g c =
-    kept_next c.args.scene.now c.args.fields.now c.keep.new.fields c.args.place c.token_at-token.result.now c.in-Some.map.now
+pub returns-in_ok-keep_field-in-Some-clause-kept : goal.returns-in_ok-keep_field-in-Some-clause-kept
+returns-in_ok-keep_field-in-Some-clause-kept g c =
+    kept_next c.args.scene.now c.args.fields.now c.keep_field.new.fields c.args.place c.token_at-token.result.now c.in-Some.map.now
     c.in_ok-field-in-Some.field (ap in_order (sym c.tokens.ensures.value) ∙ c.len-count.ensures.ordered) c.token_at-token.ensures.value
-    (sym c.in-Some.ensures) c.in_ok-field-in-Some.ensures.field c.in_ok-keep-in-Some.ensures c.requires.so_far
+    (sym c.in-Some.ensures) c.in_ok-field-in-Some.ensures.field c.in_ok-keep_field-in-Some.ensures c.requires.so_far
