@@ -4,13 +4,15 @@ use Rattle.serde_json.specs.Data.{Data}
 use Rattle.serde_json.specs.Events.{items_len}
 use Rattle.serde_json.specs.Data.{Items}
 use Rattle.json_fields.specs.Fields.{list_in}
-use Rattle.json_fields.specs.Objects.{◌>>=◌}
+use Rattle.json_fields.specs.Objects.{◌>>=◌, Gives}
+use Rattle.json_fields.specs.Order.{HasRisingKeys}
 use Rattle.json_fields.specs.Values.{value_of}
 use Rattle.world.specs.Scene.{bare}
 use Rattle.world.specs.World.{World}
 use Rattle.campaign_json.specs.declared.faults.Rule.TheVariants.{Json}
 use Rattle.campaign_json.specs.declared.faults.BadCampaign.{BadCampaign}
-use Rattle.campaign_json.specs.Reading.{needed, field}
+use Rattle.campaign_json.specs.declared.faults.FileFault.{FileFault}
+use Rattle.campaign_json.specs.Reading.{needed, field, Fails}
 use Rattle.campaign_json.specs.Kinds.{whole, object, only}
 use Rattle.campaign_scene.specs.Maps.{maps}
 use Rattle.campaign_file.specs.Seats.{seats}
@@ -44,3 +46,8 @@ campaign d = do
 -- the world that a campaign text opens with, or its first breach
 unfoldable pub campaign_of : List ℕ → Result World BadCampaign
 campaign_of bytes = needed Json (value_of bytes) >>= campaign
+
+-- In the value of the text the keys of each object rise in the order of bytes, and what was read is what the definition
+-- makes of that value. It goes through the members of an object as they stand: so of free keys the least comes first.
+abbrev pub IsReadInKeyOrder : Result World FileFault → Data → Type 0
+IsReadInKeyOrder result d = HasRisingKeys d × Gives Fails (λ world. world) result (campaign d)

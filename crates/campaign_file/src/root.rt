@@ -1,9 +1,10 @@
 //! The campaign text whole.
-ghost use Rattle.std.specs.Prelude.{◌≡◌, ◌≤◌, IfOk};
+ghost use Rattle.std.specs.Prelude.{◌≡◌, ◌≤◌, IfOk, IfSome};
 ghost use Rattle.serde_json.specs.View.{view};
 ghost use Rattle.json_fields.specs.Objects.{Gives};
+ghost use Rattle.json_fields.specs.Values.{value_of};
 ghost use Rattle.campaign_json.specs.Reading.{Fails};
-ghost use Rattle.campaign_file.specs.Campaign.{campaign as campaign_lem, campaign_of, players_in as players_in_lem, IsOpening};
+ghost use Rattle.campaign_file.specs.Campaign.{campaign as campaign_lem, campaign_of, players_in as players_in_lem, IsOpening, IsReadInKeyOrder};
 
 use crate::seat::read_seats;
 use campaign_json::fields::{self, check_object, check_only};
@@ -20,11 +21,13 @@ const CAMPAIGN_KEYS: [&str; 6] = ["format", "lights", "sights", "maps", "seats",
 /// The world that a campaign text opens with. Its books are 1 to 33 fresh ones, each numbered by its place. Seat 0 is
 /// the game master's.
 ///
-/// `Bad` comes exactly where the text is off the format, with the path and the rule of its first breach.
+/// `Bad` comes exactly where the text is off the format, with the path and the rule of its first breach. Free keys, such
+/// as the names of types, are read in the order of their bytes.
 /// `Memory` is want of memory.
-#[tactic(auto, unfolding(crate::specs::Campaign::campaign_of))]
+#[tactic(auto, using(json_fields::proofs::Rising::rising_keys), unfolding(crate::specs::Campaign::campaign_of))]
 pub fn read_campaign(alloc: Global, text: &[u8]) -> Result<World, FileFault>
     ensures exact { Gives Fails (λ world. world) result (campaign_of text.now) }
+    ensures key_order { IfSome (value_of text.now) (IsReadInKeyOrder result) }
     ensures opening { IfOk result (λ world. IsOpening world.books) }
 {
     match read_value(alloc, text) {

@@ -229,7 +229,7 @@ fn append(lines: &mut VecDeque<LineText>, further: Vec<LineText>)
 }
 
 /// The line with its LF.
-pub fn with_end(alloc: Global, line: &[u8]) -> Result<LineText, Memory>
+fn with_end(alloc: Global, line: &[u8]) -> Result<LineText, Memory>
     ensures { IfOk result (λ t. t ≡ line.now ++ 10 ∷ []) }
 {
     let Ok(mut bytes) = Vec::from_slice(alloc, line) else {

@@ -1,4 +1,4 @@
-//! A player that takes none of its lines: how many bytes may wait for it, and the cut.
+//! A player that takes none of its lines: what waits for it, how many bytes that may be, and the cut.
 
 use super::campaigns::THREE_SEATS;
 use super::text_of;
@@ -50,6 +50,33 @@ fn is_cut(rt: &impl Abort, campaign: &Campaign<SweepEye>, seat: SeatNo) {
     assert!(rt; seat.number() < campaign.seat_count());
     assert!(rt; campaign.state(seat).is_free() && campaign.over() == None);
     assert!(rt; campaign.cut_since(0, seat, 1, 2));
+}
+
+// From this number on so many lines wait for the seat, and this is the first of them.
+fn waits_from(
+    rt: &impl Abort,
+    campaign: &Campaign<SweepEye>,
+    seat: SeatNo,
+    number: u64,
+    count: usize,
+    first: &[u8],
+) {
+    assert!(rt; seat.number() < campaign.seat_count());
+    let lines = campaign.lines_for(seat, number).ok().expect(rt, "memory");
+    assert_eq!(rt; lines.len(), count);
+    let line = lines.first().expect(rt, "a line");
+    assert_eq!(rt; line.bytes(), first);
+}
+
+#[test]
+fn lines_wait_from_a_number_on(rt: HostRuntime) {
+    let mut campaign = opened(&rt, rt.alloc(), THREE_SEATS.as_bytes());
+    join(&rt, rt.alloc(), &mut campaign, 1, b"a");
+    let player = seat(&rt, 1);
+    let hello = b"{\"n\":1,\"ok\":\"hello\",\"seat\":1,\"seats\":3}\n";
+    waits_from(&rt, &campaign, player, 0, 2, hello);
+    let full = b"{\"full\":{\"lights\":{},\"maps\":[],\"sights\":{},\"tokens\":[]}}\n";
+    waits_from(&rt, &campaign, player, 1, 1, full);
 }
 
 #[test]
