@@ -1,7 +1,7 @@
 //! What dice are made of.
 
 ghost use Rattle.std.specs.Prelude.{◌↔◌, IsTrue};
-ghost use Rattle.dice_parse.specs.Grammar.{PartFits, IsWithin};
+ghost use Rattle.dice_parse.specs.Grammar.{GroupFits, PartFits, IsWithin};
 
 /// Which shown values of a group count.
 #[derive(Clone, Copy, Debug, PartialEq, Eq)]
@@ -29,6 +29,15 @@ pub struct Group {
     pub tail: Option<(Tail, u32)>,
 }
 
+impl Group {
+    /// Whether the group is within the limits: 1 to 100 dice of 1 to 1,000 sides.
+    pub fn fits(&self) -> bool
+        ensures { IsTrue result ↔ GroupFits self.now }
+    {
+        1 <= self.count && self.count <= 100 && 1 <= self.sides && self.sides <= 1000
+    }
+}
+
 /// Dice or a number.
 #[derive(Clone, Copy, Debug, PartialEq, Eq)]
 pub enum Part {
@@ -52,9 +61,7 @@ fn fits(term: &Term) -> bool
     ensures { IsTrue result ↔ PartFits term.now.part }
 {
     match term.part {
-        Part::Group(group) => {
-            1 <= group.count && group.count <= 100 && 1 <= group.sides && group.sides <= 1000
-        }
+        Part::Group(group) => group.fits(),
         Part::Number(_) => true,
     }
 }

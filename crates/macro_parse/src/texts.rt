@@ -31,9 +31,7 @@ fn fits(node: &Node) -> bool
     ensures { IsTrue result ↔ NodeFits node.now }
 {
     match node {
-        Node::Dice { group, .. } => {
-            1 <= group.count && group.count <= 100 && 1 <= group.sides && group.sides <= 1000
-        }
+        Node::Dice { group, .. } => group.fits(),
         _ => true,
     }
 }
