@@ -33,18 +33,23 @@ tags book d = do
 abbrev pub seat_keys : List (List ℕ)
 seat_keys = codes "key" ∷ codes "seed" ∷ codes "drawn" ∷ codes "tags" ∷ codes "macros" ∷ codes "fog" ∷ []
 
--- the book of the seat at a place, and the scene with what is exposed to it
-unfoldable pub seat : ℕ → Scene → Data → Result (Book × Scene) BadCampaign
-seat place s d = do
+-- the book of the seat at a place
+unfoldable pub seat_book : ℕ → Data → Result Book BadCampaign
+seat_book place d = do
   members ← object d
   key ← field (codes "key") (text 1 64) d
   seed ← field (codes "seed") seed d
   drawn ← field (codes "drawn") (whole 0 (drawn_limit - 1)) d
   book ← tags (fresh_book place key seed drawn) d
-  filled ← macros book d
+  macros book d
+
+-- the book of the seat at a place, and the scene with what is exposed to it
+unfoldable pub seat : ℕ → Scene → Data → Result (Book × Scene) BadCampaign
+seat place s d = do
+  book ← seat_book place d
   exposed ← fog place s d
   no_others ← only seat_keys d
-  Ok (filled, exposed)
+  Ok (book, exposed)
 
 -- a seat more, whose number is its place
 unfoldable pub seated : ℕ → World → Data → Result World BadCampaign

@@ -6,7 +6,7 @@ ghost use Rattle.campaign_json.specs.Reading.{Fails, under, each};
 ghost use Rattle.campaign_scene.specs.Kept.{kept};
 ghost use Rattle.campaign_file.specs.Campaign.{players_in};
 ghost use Rattle.campaign_file.specs.Macros.{unfilled};
-ghost use Rattle.campaign_file.specs.Seats.{seat as seat_lem, seated, seats as seats_lem, tags as tags_lem, used_tag, IsFreshAt, AreFreshFrom, IsOpening};
+ghost use Rattle.campaign_file.specs.Seats.{seat as seat_lem, seat_book as seat_book_lem, seated, seats as seats_lem, tags as tags_lem, used_tag, IsFreshAt, AreFreshFrom, IsOpening};
 
 use crate::macros::read_macros;
 use campaign_json::fields::{self, check_object, check_only};
@@ -67,7 +67,7 @@ fn each_seat(
     Ok((scene, books))
 }
 
-#[tactic(auto, using(crate::proofs::Seats::fresh_at), unfolding(crate::specs::Seats::seat))]
+#[tactic(auto, unfolding(crate::specs::Seats::seat))]
 fn read_seat(
     alloc: Global,
     seat: SeatNo,
@@ -78,16 +78,25 @@ fn read_seat(
     ensures fresh { IfOk result (λ r. IsFreshAt seat r.0) }
     ensures kept { IfOk result (λ r. kept r.1 ≡ kept scene) }
 {
+    let book = read_book(alloc, seat, value)?;
+    let scene = read_fog(alloc, seat, value, scene)?;
+    check_only(alloc, value, &SEAT_KEYS)?;
+    Ok((book, scene))
+}
+
+/// The book of a seat where nobody sat yet.
+#[tactic(auto, using(crate::proofs::Seats::fresh_at), unfolding(crate::specs::Seats::seat_book))]
+fn read_book(alloc: Global, seat: SeatNo, value: &Value) -> Result<SeatBook, FileFault>
+    ensures exact { Gives Fails (λ b. b) result (seat_book_lem seat (view value.now)) }
+    ensures fresh { IfOk result (λ b. IsFreshAt seat b) }
+{
     check_object(alloc, value)?;
     let key = fields::text(alloc, value, "key", 1, 64)?;
     let seed = fields::seed(alloc, value, "seed")?;
     let drawn = fields::whole(alloc, value, "drawn", 0, MOST_DRAWN)?;
     let book = SeatBook::new(alloc, seat, Text::copy(alloc, key)?, seed, drawn);
     let book = read_tags(alloc, value, book)?;
-    let book = read_macros(alloc, value, book)?;
-    let scene = read_fog(alloc, seat, value, scene)?;
-    check_only(alloc, value, &SEAT_KEYS)?;
-    Ok((book, scene))
+    read_macros(alloc, value, book)
 }
 
 /// The book with the tags that its seat used.

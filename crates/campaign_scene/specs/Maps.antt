@@ -102,15 +102,21 @@ walled_at name kind first second s = do
   fits ← unbroken (wall_fault grid.walls kind a b)
   Ok (with_grid name (with_wall_of kind a b) s)
 
--- the same of a value: the coordinates of the wall's ends
-unfoldable pub wall : List ℕ → WallKind → Scene → Data → Result Scene BadCampaign
-wall name kind s d = do
+-- the coordinates of a wall's ends
+unfoldable pub wall_ends : Data → Result ((ℤ × ℤ) × (ℤ × ℤ)) BadCampaign
+wall_ends d = do
   four ← exactly 4 d
   ax ← item_at 0 integer d
   ay ← item_at 1 integer d
   bx ← item_at 2 integer d
   by ← item_at 3 integer d
-  walled_at name kind (ax, ay) (bx, by) s
+  Ok ((ax, ay), (bx, by))
+
+-- the scene with a wall more, of a value
+unfoldable pub wall : List ℕ → WallKind → Scene → Data → Result Scene BadCampaign
+wall name kind s d = do
+  ends ← wall_ends d
+  walled_at name kind ends.0 ends.1 s
 
 -- the walls of that kind of the map
 unfoldable pub walls : List ℕ → WallKind → Scene → Data → Result Scene BadCampaign
@@ -135,24 +141,24 @@ new_name s d = do
 abbrev pub with_blank : List ℕ → Extent → Mode → Bool → Scene → Scene
 with_blank name size mode shown s = with_grid name (shown_if shown) (with_grid name (with_mode mode) (with_new_map name size s))
 
--- the scene with a new map, without letters and walls; its name and its size
-unfoldable pub blank_map : Scene → Data → Result (Scene × (List ℕ × Extent)) BadCampaign
-blank_map s d = do
+-- what a map says of itself before its letters and walls: its name, its size, its mode, and whether it is shown
+unfoldable pub heading : Scene → Data → Result (List ℕ × (Extent × (Mode × Bool))) BadCampaign
+heading s d = do
   members ← object d
   name ← field (codes "name") (new_name s) d
   w ← field (codes "w") (whole 1 96) d
   h ← field (codes "h") (whole 1 96) d
   mode ← field (codes "mode") mode d
   shown ← field (codes "shown") boolean d
-  Ok (with_blank name (record { w = w; h = h }) mode shown s, (name, record { w = w; h = h }))
+  Ok (name, (record { w = w; h = h }, (mode, shown)))
 
 -- a map more
 unfoldable pub map : Scene → Data → Result Scene BadCampaign
 map s d = do
-  new ← blank_map s d
-  laid ← rows new.1.0 new.1.1 new.0 d
-  veiled ← walls new.1.0 Vbl laid d
-  walled ← walls new.1.0 Mbl veiled d
+  new ← heading s d
+  laid ← rows new.0 new.1.0 (with_blank new.0 new.1.0 new.1.1.0 new.1.1.1 s) d
+  veiled ← walls new.0 Vbl laid d
+  walled ← walls new.0 Mbl veiled d
   no_others ← only map_keys d
   Ok walled
 

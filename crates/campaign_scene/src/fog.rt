@@ -5,7 +5,7 @@ ghost use Rattle.json_fields.specs.Objects.{Gives};
 ghost use Rattle.world.specs.Rules.{is_player as is_player_lem};
 ghost use Rattle.campaign_json.specs.Reading.{Fails, under, each, each_member};
 ghost use Rattle.campaign_scene.specs.Kept.{kept};
-ghost use Rattle.campaign_scene.specs.Fog.{run_from, run_on as run_on_lem, exposed_at as exposed_at_lem, run as run_lem, fog_of_map as fog_of_map_lem, fog_of_player as fog_of_player_lem, no_fog as no_fog_lem, fog as fog_lem};
+ghost use Rattle.campaign_scene.specs.Fog.{run_from, run_on as run_on_lem, exposed_at as exposed_at_lem, run as run_lem, run_numbers as run_numbers_lem, fog_of_map as fog_of_map_lem, fog_of_player as fog_of_player_lem, no_fog as no_fog_lem, fog as fog_lem};
 
 use campaign_json::fields::{self, check_count};
 use campaign_json::kinds::{self, up_to};
@@ -141,11 +141,20 @@ fn read_run(
     ensures exact { Gives Fails (λ s. s) result (run_lem seat name scene (view value.now)) }
     ensures kept { IfOk result (λ s. kept s ≡ kept scene) }
 {
+    let run = run_numbers(alloc, value)?;
+    exposed_at(alloc, seat, name, run, scene)
+}
+
+/// The row of a run, its first column and its last.
+#[tactic(auto, unfolding(crate::specs::Fog::run_numbers))]
+fn run_numbers(alloc: Global, value: &Value) -> Result<(i64, i64, i64), FileFault>
+    ensures { Gives Fails (λ n. (n.0, (n.1, n.2))) result (run_numbers_lem (view value.now)) }
+{
     check_count(alloc, value, 3)?;
     let y = fields::integer_item(alloc, value, 0)?;
     let x0 = fields::integer_item(alloc, value, 1)?;
     let x1 = fields::integer_item(alloc, value, 2)?;
-    exposed_at(alloc, seat, name, (y, x0, x1), scene)
+    Ok((y, x0, x1))
 }
 
 /// The scene with a row's cells from one column to another exposed to the player.

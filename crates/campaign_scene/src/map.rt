@@ -9,7 +9,7 @@ ghost use Rattle.maps.specs.Maps.{has_map};
 ghost use Rattle.world.specs.Rules.{size_of};
 ghost use Rattle.campaign_json.specs.Reading.{Fails, here, under, each, field};
 ghost use Rattle.campaign_scene.specs.Kept.{kept};
-ghost use Rattle.campaign_scene.specs.Maps.{frame, lettered, row as row_lem, row_letters as row_letters_lem, with_blank as with_blank_lem, rows as rows_lem, new_name as new_name_lem, blank_map as blank_map_lem, map as map_lem, maps as maps_lem};
+ghost use Rattle.campaign_scene.specs.Maps.{frame, lettered, row as row_lem, row_letters as row_letters_lem, with_blank as with_blank_lem, rows as rows_lem, new_name as new_name_lem, heading as heading_lem, map as map_lem, maps as maps_lem};
 
 use crate::wall::read_walls;
 use campaign_json::fields::{self, check_object, check_only};
@@ -24,11 +24,12 @@ use world::Scene;
 /// The keys of a map.
 const MAP_KEYS: [&str; 8] = ["name", "w", "h", "mode", "shown", "rows", "vbl", "mbl"];
 
-/// A new map, without letters and walls, and the scene that has it.
-struct BlankMap {
-    scene: Scene,
+/// What a map says of itself before its letters and walls.
+struct Heading {
     name: Tag,
     size: Size,
+    mode: Mode,
+    shown: bool,
 }
 
 /// The scene with the maps of the campaign.
@@ -60,7 +61,13 @@ fn read_map(alloc: Global, value: &Value, scene: Scene) -> Result<Scene, FileFau
     ensures exact { Gives Fails (λ s. s) result (map_lem scene (view value.now)) }
     ensures kept { IfOk result (λ s. kept s ≡ kept scene) }
 {
-    let BlankMap { scene, name, size } = read_blank_map(alloc, value, scene)?;
+    let Heading {
+        name,
+        size,
+        mode,
+        shown,
+    } = read_heading(alloc, value, &scene)?;
+    let scene = with_blank(name, size, mode, shown, scene)?;
     let scene = read_rows(alloc, name, size, value, scene)?;
     let scene = read_walls(alloc, name, WallKind::Vbl, value, scene)?;
     let scene = read_walls(alloc, name, WallKind::Mbl, value, scene)?;
@@ -68,21 +75,25 @@ fn read_map(alloc: Global, value: &Value, scene: Scene) -> Result<Scene, FileFau
     Ok(scene)
 }
 
-#[tactic(auto, unfolding(crate::specs::Maps::blank_map))]
-fn read_blank_map(alloc: Global, value: &Value, scene: Scene) -> Result<BlankMap, FileFault>
-    ensures exact { Gives Fails (λ m. (m.scene, (m.name, m.size))) result (blank_map_lem scene (view value.now)) }
-    ensures kept { IfOk result (λ m. kept m.scene ≡ kept scene) }
-    ensures size { IfOk result (λ m. size_of m.name m.scene.maps ≡ Some m.size) }
+/// The heading of a new map.
+#[tactic(auto, unfolding(crate::specs::Maps::heading))]
+fn read_heading(alloc: Global, value: &Value, scene: &Scene) -> Result<Heading, FileFault>
+    ensures exact { Gives Fails (λ m. (m.name, (m.size, (m.mode, m.shown)))) result (heading_lem scene.now (view value.now)) }
+    ensures room { IfOk result (λ m. map_fault scene.now.maps m.name ≡ None) }
 {
     check_object(alloc, value)?;
-    let name = new_name(alloc, value, &scene)?;
+    let name = new_name(alloc, value, scene)?;
     let w = fields::whole(alloc, value, "w", 1, 96)? as u8;
     let h = fields::whole(alloc, value, "h", 1, 96)? as u8;
     let mode = fields::mode(alloc, value, "mode")?;
     let shown = fields::boolean(alloc, value, "shown")?;
     let size = Size::new(w, h).unwrap();
-    let scene = with_blank(name, size, mode, shown, scene)?;
-    Ok(BlankMap { scene, name, size })
+    Ok(Heading {
+        name,
+        size,
+        mode,
+        shown,
+    })
 }
 
 /// The scene with a new map, of a name that no map has, of that mode, shown or not.

@@ -4,13 +4,13 @@ ghost use Rattle.serde_json.specs.View.{view, members_view};
 ghost use Rattle.json_fields.specs.Objects.{Gives};
 ghost use Rattle.campaign_json.specs.Reading.{Fails, under, each_member};
 ghost use Rattle.campaign_scene.specs.Kept.{kept};
-ghost use Rattle.campaign_scene.specs.Types.{light as light_lem, sight as sight_lem, lights as lights_lem, sights as sights_lem};
+ghost use Rattle.campaign_scene.specs.Types.{light as light_lem, sight as sight_lem, sight_of as sight_of_lem, lights as lights_lem, sights as sights_lem};
 
 use campaign_json::fields::{self, check_count};
 use campaign_json::{FileFault, Rule, broken, kinds};
 use lights::LightFault;
 use serde_json::{Map, Value};
-use sight_types::SightFault;
+use sight_types::{Sight, SightFault};
 use std::alloc::Global;
 use world::Scene;
 
@@ -96,13 +96,22 @@ fn read_sight(alloc: Global, key: &str, value: &Value, mut scene: Scene) -> Resu
     ensures kept { IfOk result (λ s. kept s ≡ kept scene) }
 {
     let name = fields::tag_key(alloc, key)?;
-    check_count(alloc, value, 3)?;
-    let range = fields::whole_item(alloc, value, 0, 0, 40)? as u32;
-    let night = fields::whole_item(alloc, value, 1, 0, 40)? as u32;
-    let mult = fields::whole_item(alloc, value, 2, 1, 4)? as u32;
-    match scene.set_sight_type(name, range, night, mult) {
+    let Sight { range, night, mult } = sight_of(alloc, value)?;
+    match scene.set_sight_type(name, u32::from(range), u32::from(night), u32::from(mult)) {
         Ok(()) => Ok(scene),
         Err(SightFault::Memory) => Err(FileFault::Memory),
         Err(_) => Err(broken(alloc, Rule::Range)),
     }
+}
+
+/// What a token of a sight type sees.
+#[tactic(auto, unfolding(crate::specs::Types::sight_of))]
+fn sight_of(alloc: Global, value: &Value) -> Result<Sight, FileFault>
+    ensures { Gives Fails (λ s. s) result (sight_of_lem (view value.now)) }
+{
+    check_count(alloc, value, 3)?;
+    let range = fields::whole_item(alloc, value, 0, 0, 40)? as u8;
+    let night = fields::whole_item(alloc, value, 1, 0, 40)? as u8;
+    let mult = fields::whole_item(alloc, value, 2, 1, 4)? as u8;
+    Ok(Sight { range, night, mult })
 }

@@ -5,7 +5,7 @@ ghost use Rattle.json_fields.specs.Objects.{Gives};
 ghost use Rattle.names.specs.Words.{wall_word};
 ghost use Rattle.campaign_json.specs.Reading.{Fails, under, each};
 ghost use Rattle.campaign_scene.specs.Kept.{kept};
-ghost use Rattle.campaign_scene.specs.Maps.{IsWallBreach, point_on as point_on_lem, walled_at as walled_at_lem, wall as wall_lem, walls as walls_lem};
+ghost use Rattle.campaign_scene.specs.Maps.{IsWallBreach, point_on as point_on_lem, walled_at as walled_at_lem, wall as wall_lem, wall_ends as wall_ends_lem, walls as walls_lem};
 
 use campaign_json::fields::{self, check_count};
 use campaign_json::kinds::up_to;
@@ -17,8 +17,6 @@ use serde_json::Value;
 use std::alloc::Global;
 use topology::{MOST_WALLS, WallFault};
 use world::Scene;
-
-/// How many walls of a kind a map has at most.
 
 /// The scene with the walls of that kind of the map of that name.
 #[tactic(auto, unfolding(crate::specs::Maps::walls))]
@@ -67,12 +65,21 @@ fn read_wall(
     ensures exact { Gives Fails (λ s. s) result (wall_lem name kind scene (view value.now)) }
     ensures kept { IfOk result (λ s. kept s ≡ kept scene) }
 {
+    let (first, second) = wall_ends(alloc, value)?;
+    walled_at(alloc, name, kind, first, second, scene)
+}
+
+/// The coordinates of a wall's ends.
+#[tactic(auto, unfolding(crate::specs::Maps::wall_ends))]
+fn wall_ends(alloc: Global, value: &Value) -> Result<((i64, i64), (i64, i64)), FileFault>
+    ensures { Gives Fails (λ e. ((e.0.0, e.0.1), (e.1.0, e.1.1))) result (wall_ends_lem (view value.now)) }
+{
     check_count(alloc, value, 4)?;
     let ax = fields::integer_item(alloc, value, 0)?;
     let ay = fields::integer_item(alloc, value, 1)?;
     let bx = fields::integer_item(alloc, value, 2)?;
     let by = fields::integer_item(alloc, value, 3)?;
-    walled_at(alloc, name, kind, (ax, ay), (bx, by), scene)
+    Ok(((ax, ay), (bx, by)))
 }
 
 /// The scene with a wall between two points more.

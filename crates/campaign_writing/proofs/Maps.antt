@@ -92,16 +92,16 @@ module _ (s : Scene) (m : Grid) (is : IsMapWith m) (done : List Grid) (lesser : 
   unfolding read.new_name
   name_reads = rw (tag_is m.name is.name, none_there m.name done new, room_left (length done) 8 few) refl
 
-  blank_reads : read.blank_map before (map_tree m) ≡ Ok (with_maps bare, (m.name, m.walls.extent))
-  unfolding read.blank_map map_tree
-  blank_reads =
+  heading_reads : read.heading before (map_tree m) ≡ Ok (m.name, (m.walls.extent, (m.mode, m.shown)))
+  unfolding read.heading map_tree
+  heading_reads =
       rw (
         field_reads (codes "name") (read.new_name before) (map_tree m) (string m.name) m.name refl name_reads,
         field_reads (codes "w") (kinds.whole 1 96) (map_tree m) (whole m.walls.extent.w) m.walls.extent.w refl (whole_reads 1 96 m.walls.extent.w (omega arith) (side m.walls.extent.w is.map.size.w_low is.map.size.w_high)),
         field_reads (codes "h") (kinds.whole 1 96) (map_tree m) (whole m.walls.extent.h) m.walls.extent.h refl (whole_reads 1 96 m.walls.extent.h (omega arith) (side m.walls.extent.h is.map.size.h_low is.map.size.h_high)),
         field_reads (codes "mode") kinds.mode (map_tree m) (string (mode_word m.mode)) m.mode refl (bool_reads m.mode),
       )
-      (ap (λ scene. Ok (scene, (m.name, m.walls.extent))) blank_is)
+      refl
 
   -- with its letters, and then with its walls
   abbrev lettered : Grid
@@ -110,10 +110,11 @@ module _ (s : Scene) (m : Grid) (is : IsMapWith m) (done : List Grid) (lesser : 
   abbrev veiled : Grid
   veiled = record m { walls = record { extent = m.walls.extent; vbl = m.walls.vbl; mbl = [] } }
 
-  letters_read : read.rows m.name m.walls.extent (with_maps bare) (map_tree m) ≡ Ok (with_maps lettered)
+  letters_read : read.rows m.name m.walls.extent (read.with_blank m.name m.walls.extent m.mode m.shown before) (map_tree m) ≡ Ok (with_maps lettered)
   unfolding map_tree
   letters_read =
-      rows_read m.name lettered (record { size = is.map.size; count = is.map.count; letters = is.map.letters }) same done new after_fog (map_tree m) refl
+      ap (λ scene. read.rows m.name m.walls.extent scene (map_tree m)) blank_is
+      ∙ rows_read m.name lettered (record { size = is.map.size; count = is.map.count; letters = is.map.letters }) same done new after_fog (map_tree m) refl
 
   vbl_reads : read.walls m.name Vbl (with_maps lettered) (map_tree m) ≡ Ok (with_maps veiled)
   unfolding map_tree wall_word
@@ -135,7 +136,7 @@ module _ (s : Scene) (m : Grid) (is : IsMapWith m) (done : List Grid) (lesser : 
 
   pub map_reads : read.map before (map_tree m) ≡ Ok (with_maps m)
   unfolding read.map
-  map_reads = rw (blank_reads, letters_read, vbl_reads, mbl_reads, known_keys) refl
+  map_reads = rw (heading_reads, letters_read, vbl_reads, mbl_reads, known_keys) refl
 
 -- ---- all maps
 

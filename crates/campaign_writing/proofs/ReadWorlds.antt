@@ -113,8 +113,7 @@ light_so key s d is = pass Fits (needed Form (tag_of key)) _ (λ name. pass Fits
 sight_so : (key : List ℕ) (s : Scene) (d : Data) → Fits s → IfOk (types.sight key s d) Fits
 unfolding types.sight
 sight_so key s d is =
-    pass Fits (needed Form (tag_of key)) _ (λ name. pass Fits (kinds.exactly 3 d) _ (λ three. pass Fits (item_at 0 (kinds.whole 0 40) d) _ (λ range. pass Fits (item_at 1 (kinds.whole 0 40) d) _
-    (λ night. pass Fits (item_at 2 (kinds.whole 1 4) d) _ (λ mult. pass Fits (asked Range (is_none (sight_fault s.sights name range night mult))) _ (λ room. is))))))
+    pass Fits (needed Form (tag_of key)) _ (λ name. pass Fits (types.sight_of d) _ (λ found. pass Fits (asked Range (is_none (sight_fault s.sights name found.range found.night found.mult))) _ (λ room. is)))
 
 lights_so : (s : Scene) (d : Data) → Fits s → IfOk (types.lights s d) Fits
 unfolding types.lights
@@ -145,27 +144,19 @@ walled_so name kind first second s is =
 wall_so : (name : List ℕ) (kind : WallKind) (s : Scene) (d : Data) → Fits s → IfOk (maps.wall name kind s d) Fits
 unfolding maps.wall
 wall_so name kind s d is =
-    pass Fits (kinds.exactly 4 d) _ (λ four. pass Fits (item_at 0 kinds.integer d) _ (λ ax. pass Fits (item_at 1 kinds.integer d) _ (λ ay. pass Fits (item_at 2 kinds.integer d) _
-    (λ bx. pass Fits (item_at 3 kinds.integer d) _ (λ by. walled_so name kind (ax, ay) (bx, by) s is)))))
+    pass Fits (maps.wall_ends d) _ (λ ends. walled_so name kind ends.0 ends.1 s is)
 
 walls_so : (name : List ℕ) (kind : WallKind) (s : Scene) (d : Data) → Fits s → IfOk (maps.walls name kind s d) Fits
 unfolding maps.walls
 walls_so name kind s d is = pass Fits (field (wall_word kind) (kinds.list 0 2048) d) _ (λ all. under_so Fits (wall_word kind) _ (each_so Fits (λ place. maps.wall name kind) (λ place before wall so. wall_so name kind before wall so) 0 s all is))
 
-blank_so : (s : Scene) (d : Data) → Fits s → IfOk (maps.blank_map s d) (λ new. Fits new.0)
-unfolding maps.blank_map
-blank_so s d is =
-    let New : Scene × (List ℕ × Extent) → Type 0 = λ new. Fits new.0 in
-    pass New (kinds.object d) _ (λ members. pass New (field (codes "name") (maps.new_name s) d) _ (λ name. pass New (field (codes "w") (kinds.whole 1 96) d) _
-    (λ w. pass New (field (codes "h") (kinds.whole 1 96) d) _ (λ h. pass New (field (codes "mode") kinds.mode d) _ (λ mode. pass New (field (codes "shown") kinds.boolean d) _ (λ shown. is))))))
-
 map_so : (s : Scene) (d : Data) → Fits s → IfOk (maps.map s d) Fits
 unfolding maps.map
 map_so s d is =
-    go (λ new. Fits new.0) Fits (maps.blank_map s d) _ (blank_so s d is)
-    (λ new so. go Fits Fits (maps.rows new.1.0 new.1.1 new.0 d) _ (rows_so new.1.0 new.1.1 new.0 d so)
-    (λ laid so. go Fits Fits (maps.walls new.1.0 Vbl laid d) _ (walls_so new.1.0 Vbl laid d so)
-    (λ veiled so. go Fits Fits (maps.walls new.1.0 Mbl veiled d) _ (walls_so new.1.0 Mbl veiled d so) (λ walled so. pass Fits (kinds.only maps.map_keys d) _ (λ no_others. so)))))
+    pass Fits (maps.heading s d) _
+    (λ new. let blank : Scene = maps.with_blank new.0 new.1.0 new.1.1.0 new.1.1.1 s in go Fits Fits (maps.rows new.0 new.1.0 blank d) _ (rows_so new.0 new.1.0 blank d is)
+    (λ laid so. go Fits Fits (maps.walls new.0 Vbl laid d) _ (walls_so new.0 Vbl laid d so)
+    (λ veiled so. go Fits Fits (maps.walls new.0 Mbl veiled d) _ (walls_so new.0 Mbl veiled d so) (λ walled so. pass Fits (kinds.only maps.map_keys d) _ (λ no_others. so)))))
 
 maps_so : (s : Scene) (d : Data) → Fits s → IfOk (maps.maps s d) Fits
 unfolding maps.maps
@@ -178,7 +169,7 @@ exposed_so seat name y x0 x1 s is = pass Fits (needed Cross (size_of name s.maps
 run_so : (seat : ℕ) (name : List ℕ) (s : Scene) (d : Data) → Fits s → IfOk (fogs.run seat name s d) Fits
 unfolding fogs.run
 run_so seat name s d is =
-    pass Fits (kinds.exactly 3 d) _ (λ three. pass Fits (item_at 0 kinds.integer d) _ (λ y. pass Fits (item_at 1 kinds.integer d) _ (λ x0. pass Fits (item_at 2 kinds.integer d) _ (λ x1. exposed_so seat name y x0 x1 s is))))
+    pass Fits (fogs.run_numbers d) _ (λ at. exposed_so seat name at.0 at.1.0 at.1.1 s is)
 
 fog_of_map_so : (seat : ℕ) (key : List ℕ) (s : Scene) (d : Data) → Fits s → IfOk (fogs.fog_of_map seat key s d) Fits
 unfolding fogs.fog_of_map
@@ -242,13 +233,18 @@ macros_so b d is = pass IsBook (field (codes "macros") (kinds.members 32) d) _ (
 abbrev IsSeat : Book × Scene → Type 0
 IsSeat read = IsBook read.0 × Fits read.1
 
+book_so : (place : ℕ) (d : Data) → IfOk (seats.seat_book place d) IsBook
+unfolding seats.seat_book
+book_so place d =
+    pass IsBook (kinds.object d) _ (λ members. go (λ key. is_written_key key ≡ true) IsBook (field (codes "key") (kinds.text 1 64) d) _ (field_so (λ key. is_written_key key ≡ true) (codes "key") (kinds.text 1 64) d (text_so 1 64))
+    (λ key good. pass IsBook (field (codes "seed") kinds.seed d) _ (λ seed. pass IsBook (field (codes "drawn") (kinds.whole 0 (drawn_limit - 1)) d) _ (λ drawn. go IsBook IsBook (seats.tags (fresh_book place key seed drawn) d) _ (tags_so (fresh_book place key seed drawn) d (good, refl))
+    (λ book so. macros_so book d so)))))
+
 seat_so : (place : ℕ) (s : Scene) (d : Data) → Fits s → IfOk (seats.seat place s d) IsSeat
 unfolding seats.seat
 seat_so place s d is =
-    pass IsSeat (kinds.object d) _ (λ members. go (λ key. is_written_key key ≡ true) IsSeat (field (codes "key") (kinds.text 1 64) d) _ (field_so (λ key. is_written_key key ≡ true) (codes "key") (kinds.text 1 64) d (text_so 1 64))
-    (λ key good. pass IsSeat (field (codes "seed") kinds.seed d) _ (λ seed. pass IsSeat (field (codes "drawn") (kinds.whole 0 (drawn_limit - 1)) d) _ (λ drawn. go IsBook IsSeat (seats.tags (fresh_book place key seed drawn) d) _ (tags_so (fresh_book place key seed drawn) d (good, refl))
-    (λ book so. go IsBook IsSeat (macros.macros book d) _ (macros_so book d so)
-    (λ filled full. go Fits IsSeat (fogs.fog place s d) _ (fog_so place s d is) (λ exposed stays. pass IsSeat (kinds.only seats.seat_keys d) _ (λ no_others. (full, stays)))))))))
+    go IsBook IsSeat (seats.seat_book place d) _ (book_so place d)
+    (λ book full. go Fits IsSeat (fogs.fog place s d) _ (fog_so place s d is) (λ exposed stays. pass IsSeat (kinds.only seats.seat_keys d) _ (λ no_others. (full, stays))))
 
 record AreSeats (w : World) : Type 0 where
   tokens : Fits w.scene

@@ -123,7 +123,7 @@ module _ (seat : ℕ) (name : List ℕ) (s : Scene) (cells : Cells) (sized : IsS
   with_exposed runs = record s { fog = with_change s.fog seat name (with_runs runs) }
 
   run_reads : (done : List Run) (x : Run) (left : List Run) → done ++ x ∷ left ≡ runs_of cells → read.run seat name (with_exposed done) (run_tree x) ≡ Ok (with_exposed (done ++ x ∷ []))
-  unfolding read.run read.exposed_at read.run_on
+  unfolding read.run read.run_numbers read.exposed_at read.run_on
   run_reads done x left e =
       let is = between (IsMaximalRun cells) done x left (runs_of cells) e (recursion_from_All (IsMaximalRun cells) (runs_of cells) (runs_of-maximal cells).maximal) in
       let ordered : nat_le x.x0 x.x1 ≡ true = grind (arith, nat_tests, is.some) in

@@ -125,7 +125,7 @@ drawn_fits : (n : ℕ) → n < 2 ^ 62 → (nat_le 0 n && nat_le n (2 ^ 62 - 1)) 
 drawn_fits n lt = grind (arith, nat_tests)
 
 pub seat_reads : (whole_scene before after : Scene) (b : Book) → IsBookOf b → fog b.seat before (seat_tree whole_scene b) ≡ Ok after → read.seat b.seat before (seat_tree whole_scene b) ≡ Ok (reopened_book b, after)
-unfolding read.seat seat_tree
+unfolding read.seat read.seat_book seat_tree
 seat_reads whole_scene before after b is exposed =
     rw (
       field_reads (codes "key") (kinds.text 1 64) (seat_tree whole_scene b) (string b.key) b.key refl (text_reads 1 64 b.key is.key),

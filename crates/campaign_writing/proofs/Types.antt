@@ -16,7 +16,7 @@ use Rattle.campaign_json.specs.Kinds as kinds
 use Rattle.campaign_writing.proofs.Writable.{IsLight, IsSight}
 use Rattle.campaign_writing.specs.Trees.{whole, named}
 use Rattle.campaign_writing.specs.Scenes.{lights_tree, sights_tree, sight_tree}
-use Rattle.campaign_scene.specs.Types.{light, lights, sight, sights}
+use Rattle.campaign_scene.specs.Types.{light, lights, sight, sight_of, sights}
 use Rattle.campaign_writing.proofs.Parts.{field_reads, item_reads, members_read, members_reads, whole_reads}
 use Rattle.campaign_writing.proofs.Orders.{between, fewer, room_left, lesser_entries, put_last}
 use Rattle.maps.proofs.NameLemmas.{both}
@@ -58,7 +58,7 @@ module _ (s : Scene) (all : List (List ℕ × ℕ)) (are : AllByRecursion IsLigh
 module _ (s : Scene) (all : List (List ℕ × Sight)) (are : AllByRecursion IsSight all) (few : length all ≤ 32) (sorted : is_sorted tag_cmp all ≡ true) where
   sight_reads : (done : List (List ℕ × Sight)) (x : List ℕ × Sight) (left : List (List ℕ × Sight)) → done ++ x ∷ left ≡ all
       → sight x.0 (record s { sights = done }) (sight_tree x.1) ≡ Ok (record s { sights = done ++ x ∷ [] })
-  unfolding sight
+  unfolding sight sight_of
   sight_reads done x left e =
       let is = between IsSight done x left all e are in
       let in_four = four (nat_le x.1.range 40) (nat_le x.1.night 40) (nat_le 1 x.1.mult) (nat_le x.1.mult 4) is.1 in

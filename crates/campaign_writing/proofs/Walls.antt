@@ -27,7 +27,7 @@ use Rattle.campaign_json.specs.Kinds as kinds
 use Rattle.campaign_writing.proofs.Writable.{IsWallOn, AreInOrder}
 use Rattle.campaign_writing.specs.Trees.{whole, list}
 use Rattle.campaign_writing.specs.Scenes.{wall_tree, walls_tree}
-use Rattle.campaign_scene.specs.Maps.{wall, walls, walled_at, point_on}
+use Rattle.campaign_scene.specs.Maps.{wall, wall_ends, walls, walled_at, point_on}
 use Rattle.campaign_writing.proofs.Parts.{field_reads, item_reads, each_reads, list_reads, integer_reads}
 use Rattle.campaign_writing.proofs.Orders.{between, fewer, room_left}
 
@@ -122,7 +122,7 @@ module _ (name : List ℕ) (kind : WallKind) (s : Scene) (grid : Grid) (there : 
   after done = with_grid name (with_list kind done) s
 
   wall_reads : (done : List Wall) (x : Wall) (left : List Wall) → done ++ x ∷ left ≡ all → wall name kind (after done) (wall_tree x) ≡ Ok (after (done ++ x ∷ []))
-  unfolding wall walled_at
+  unfolding wall wall_ends walled_at
   wall_reads done x left e =
       let is = between (IsWallOn grid.walls.extent) done x left all e are in
       let before = all_before done x left (subst AreInOrder (sym e) ordered) in
