@@ -2,7 +2,8 @@
 ghost use Rattle.std.specs.Prelude.{◌+◌, None, IfSome, ◌≡◌, ◌<◌, ◌≤◌, ◌++◌, ◌∷◌, [], ℕ, length, Some, IfOk, IsOk, OnOk, IfErr, OnErr, map, flat_map, drop, option_map, is_some, true, false, ◌-◌, vec_len, vec_capacity};
 ghost use Rattle.campaign_file.specs.Campaign.{IsOpening as IsOpeningList};
 ghost use Rattle.mails.specs.Texts.{tagged_text, text_of};
-ghost use Rattle.campaign_law.specs.Worlds.{opening_world};
+ghost use Rattle.campaign_law.specs.Worlds.{opening_world, FitsTogether};
+ghost use Rattle.player_view.specs.Tables.{HasTables};
 ghost use Rattle.campaign_writing.specs.Written.{IsWritten};
 ghost use Rattle.campaign_core.specs.Opening.{world_of_text, IsOpenFault};
 ghost use Rattle.std.specs.Option.{option_copied};
@@ -137,6 +138,8 @@ impl<E: Eye + Drop> Campaign<E> {
     pub fn open(alloc: Global, text: &[u8], eye: E) -> Result<Campaign<E>, OpenFault>
         ensures world { IfOk result (λ c. world_of_text text.now ≡ Some c.origin) }
         ensures opening { IfOk result (λ c. IsOpening c.origin) }
+        ensures fits { IfOk result (λ c. FitsTogether c.origin) }
+        ensures tables { IfOk result (λ c. HasTables c.origin.scene) }
         ensures history { IfOk result (λ c. c.history ≡ []) }
         ensures staged { IfOk result (λ c. c.staged ≡ None) }
         ensures seats { IfOk result (λ c. (1 ≤ length c.origin.seats) × (length c.origin.seats ≤ 33)) }
@@ -159,6 +162,8 @@ impl<E: Eye + Drop> Campaign<E> {
         requires written { IsWritten world }
         ensures world { IfOk result (λ c. c.origin ≡ opening_world world) }
         ensures opening { IfOk result (λ c. IsOpening c.origin) }
+        ensures fits { IfOk result (λ c. FitsTogether c.origin) }
+        ensures tables { IfOk result (λ c. HasTables c.origin.scene) }
         ensures history { IfOk result (λ c. c.history ≡ []) }
         ensures staged { IfOk result (λ c. c.staged ≡ None) }
         ensures looks { IfOk result (λ c. c.looks ≤ E.looks_made eye + looks_of_opening c.origin.scene) }
@@ -360,6 +365,8 @@ impl<E: Eye + Drop> Campaign<E> {
         ensures value { result ≡ length self.now.origin.seats }
         ensures bound { result ≤ 33 }
         ensures opening { IsOpening self.now.origin }
+        ensures fits { FitsTogether self.now.origin }
+        ensures tables { HasTables self.now.origin.scene }
     {
         self.origin.seats()
     }

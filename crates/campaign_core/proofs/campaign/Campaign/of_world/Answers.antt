@@ -44,6 +44,15 @@ returns-clause-opening g c =
     c.in_ok-origin.ensures ∙ (λ i. record { posts = map opening_post (c.into_parts-scene.ensures.books i); scene = (c.in_ok-settle.ensures.settled ∙ ap settled c.into_parts-scene.ensures.scene) i }) in
     subst (λ (s : State). IsOpening (world_in s)) (sym is_opened) (opening_is c.args.world.books c.args.world.scene c.requires.opening)
 
+pub returns-clause-fits : goal.returns-clause-fits
+returns-clause-fits g c =
+    let is_opened : law c.in_ok-origin.origin ≡ opening_state c.args.world.books c.args.world.scene =
+    c.in_ok-origin.ensures ∙ (λ i. record { posts = map opening_post (c.into_parts-scene.ensures.books i); scene = (c.in_ok-settle.ensures.settled ∙ ap settled c.into_parts-scene.ensures.scene) i }) in
+    subst FitsTogether (sym (ap world_in is_opened ∙ (λ i. record { seats = opened_seats c.args.world.books i; scene = settled c.args.world.scene }))) (fits_opened c.args.world c.into_parts-scene.ensures.fitting)
+
+pub returns-clause-tables : goal.returns-clause-tables
+returns-clause-tables g c = subst (λ (s : State). HasTables s.scene) (sym c.in_ok-origin.ensures) (subst HasTables (sym c.in_ok-settle.ensures.settled) (settled_kept c.into_parts-scene.result.0 c.open_tables.ensures))
+
 pub invariant_of-result : goal.invariant_of-result
 invariant_of-result g c =
     let is_opened : law c.in_ok-origin.origin ≡ opening_state c.args.world.books c.args.world.scene =
