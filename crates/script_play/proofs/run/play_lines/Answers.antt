@@ -68,7 +68,7 @@ returns-in-ReadFault-clause-entered g c = fault_at c.args.campaign.now c.lines.c
 pub returns-in-ReadFault-clause-read : goal.returns-in-ReadFault-clause-read
 returns-in-ReadFault-clause-read g c =
     let going : c.lines.reader.ended ≡ false = not_so c.lines.reader.ended (λ e. let z : ReaderFault ≡ End = (c.in-ReadFault.ensures.stays_ended e).0 in cc) in
-    read_to_fault c.args.campaign.now c.lines.campaign c.lines.number c.lines.reader.cap c.lines.reader.ended c.next.new.self _ _ _ going c.in-ReadFault.ensures.reader.1 c.in-ReadFault.ensures.reader.0 c.lines.invariant.came c.in-ReadFault.ensures.answer
+    read_to_fault c.args.campaign.now c.lines.campaign c.lines.number c.lines.reader.cap c.lines.reader.ended c.next.new.self _ _ _ going c.in-ReadFault.ensures.reader.2 c.in-ReadFault.ensures.reader.1 c.lines.invariant.came c.in-ReadFault.ensures.answer
 
 pub returns-in-Memory-clause-entered : goal.returns-in-Memory-clause-entered
 returns-in-Memory-clause-entered g c = memory_at c.args.campaign.now c.lines.campaign c.lines.number c.lines.reader.cap c.lines.reader.ended c.next.new.self _ _ _ c.lines.invariant.came c.in-Memory.ensures.answer
