@@ -35,7 +35,7 @@ __all__ = [
     "walls_text",
 ]  # fmt: skip
 
-NO_CURSES = "this system has no curses, so there is no full screen (on Windows `pip install windows-curses` gives it): it goes on as with --text"
+NO_CURSES = "this system has no curses, so there is no full screen (on Windows `pip install windows-curses` gives it); it goes on as --text"
 
 
 def words_of(words: list[str]) -> argparse.Namespace:

@@ -6,17 +6,27 @@
 import json
 import os
 import pathlib
+import re
 import socket
+import stat
 import subprocess
 import sys
+import tempfile
 import threading
+import time
 import unittest
+
+try:
+    import pty
+except ImportError:  # a system without terminals of that kind
+    pty = None
 
 HERE = pathlib.Path(__file__).resolve().parent
 sys.path.insert(0, str(HERE))
 
 import client  # noqa: E402
 from client import How  # noqa: E402
+from tabletop_client.drawing import typed_window  # noqa: E402
 
 ANN = {"cell": [0, 0], "id": "1:ann", "layer": "token", "light": None, "map": "cave", "name": "Ann", "own": [["mp", "5"]],
        "props": [["hp", "10"]], "sight": "human", "size": 1}
@@ -77,7 +87,8 @@ class FullLine(unittest.TestCase):
         self.assertEqual(table.rows()[3], "O+ Orc 0:orc at 1,1; size 2")
 
     def test_the_game_master_is_told_what_players_are_not(self):
-        orc = {**ORC, "light": "torch", "own": [], "sight": None, "owners": [], "secret": [["trap", "pit"]], "visible": False, "layer": "hidden"}
+        orc = {**ORC, "light": "torch", "own": [], "sight": None, "owners": [], "secret": [["trap", "pit"]], "visible": False,
+               "layer": "hidden"}
         ann = {**ANN, "owners": [1], "secret": [], "visible": True}
         view = {**VIEW, "maps": [{**CAVE, "shown": False}], "tokens": [orc, ann]}
         table = Table(0, {"full": view})
@@ -108,10 +119,12 @@ class ChangeLine(unittest.TestCase):
         self.assertEqual(Table().change(changed=[{"name": "cave", "dark": [[1, 0, 1]]}]).rows()[1], " 1 .'w'")
 
     def test_changed_hidden(self):
-        self.assertEqual(Table().change(changed=[{"name": "cave", "hidden": [[0, 2, 2], [2, 0, 0]]}]).rows()[:3], [" 0 A*.", " 1 . w", " 2"])
+        table = Table().change(changed=[{"name": "cave", "hidden": [[0, 2, 2], [2, 0, 0]]}])
+        self.assertEqual(table.rows()[:3], [" 0 A*.", " 1 . w", " 2"])
 
     def test_changed_mode_and_shown(self):
-        table = Table(0, {"full": {**VIEW, "maps": [{**CAVE, "shown": True}]}}).change(changed=[{"name": "cave", "mode": "night", "shown": False}])
+        table = Table(0, {"full": {**VIEW, "maps": [{**CAVE, "shown": True}]}})
+        table.change(changed=[{"name": "cave", "mode": "night", "shown": False}])
         self.assertEqual(client.map_text(table.seat.view, "cave")[0], "== cave, 4 by 3, night, not shown")
 
     def test_tokens_come_change_and_go(self):
@@ -152,7 +165,8 @@ class ChangeLine(unittest.TestCase):
 
 class MessageLine(unittest.TestCase):
     def test_who_says_it_and_to_whom(self):
-        for sender, to, words in ((0, "all", "GM: hi"), (2, "all", "seat 2: hi"), (1, "gm", "seat 1 to the GM: hi"), (1, "self", "seat 1 to self: hi"),
+        for sender, to, words in ((0, "all", "GM: hi"), (2, "all", "seat 2: hi"), (1, "gm", "seat 1 to the GM: hi"),
+                                  (1, "self", "seat 1 to self: hi"),
                                   (1, "gmself", "seat 1 to the GM and self: hi"), (2, 1, "seat 2 to seat 1: hi")):
             self.assertEqual(Table(1, {"from": sender, "text": "hi", "to": to}).notes[-1], words)
 
@@ -192,6 +206,58 @@ class ReplyLine(unittest.TestCase):
         self.assertEqual(Table(0, {"dump": {"seats": [], "maps": []}, "n": 2, "ok": "dump"}).notes[-1], '{"maps":[],"seats":[]}')
 
 
+# Two cells by two, with a wall of both kinds, one for the eyes alone across a corner, and one for the feet.
+YARD = {"format": 1,
+        "maps": [{"h": 2, "mbl": [[0, 0, 4, 0], [2, 2, 2, 4]], "mode": "day", "name": "yard", "rows": ["..", "gw"], "shown": True,
+                  "vbl": [[0, 0, 4, 0], [0, 2, 2, 4]], "w": 2}],
+        "tokens": [{"cell": [1, 0], "map": "yard", "name": "Orc", "size": 1}]}
+
+
+class Dumped(unittest.TestCase):
+    def setUp(self):
+        folder = tempfile.TemporaryDirectory()
+        self.addCleanup(folder.cleanup)
+        self.file = pathlib.Path(folder.name) / "kept.json"
+        self.table = Table(0, {"full": {**VIEW, "maps": [{**CAVE, "name": "yard"}], "tokens": []}})
+
+    def answer(self):
+        return self.table.take({"dump": {"maps": [], "a": "\u4e16"}, "n": 2, "ok": "dump"}).notes[-1]
+
+    def test_a_saved_campaign_is_its_owners_alone(self):
+        self.assertEqual(self.table.type(f"save {self.file}"), [b'{"do":"dump"}'])
+        self.assertEqual(self.answer(), f"the campaign is in {self.file}")
+        self.assertEqual(self.file.read_text(encoding="utf-8"), '{"a":"\u4e16","maps":[]}')
+        if os.name == "posix":
+            self.assertEqual(stat.S_IMODE(self.file.stat().st_mode), 0o600)
+        self.assertEqual(list(self.file.parent.iterdir()), [self.file])
+
+    def test_a_file_that_is_there_is_written_over_where_that_is_asked_for(self):
+        for answer, sent in (("no", []), ("say hi", [b'{"do":"say","text":"hi"}']), ("yes", [b'{"do":"dump"}'])):
+            self.file.write_text("old", encoding="utf-8")
+            self.assertEqual(self.table.type(f"save {self.file}"), [])
+            self.assertEqual(self.table.notes[-1], f"{self.file} is there already: yes writes over it, no leaves it")
+            self.assertEqual((self.table.type(answer), self.file.read_text(encoding="utf-8")), (sent, "old"))
+        self.assertEqual(self.answer(), f"the campaign is in {self.file}")
+        self.assertEqual(self.file.read_text(encoding="utf-8"), '{"a":"\u4e16","maps":[]}')
+        self.assertEqual(self.table.type("yes"), [])
+
+    def test_what_cannot_be_written_is_told(self):
+        self.table.type(f"save {self.file / 'within'}")
+        self.assertRegex(self.answer(), "^not saved: ")
+
+    def test_walls(self):
+        picture = ["walls of yard, in half cells", "    0", "  0 #####", "  1  . O", "  2 ~ =", "  3  ~=w", "  4   #",
+                   "# block sight and movement (vbl and mbl): 0,0 4,0", "~ block sight alone (vbl): 0,2 2,4",
+                   "= block movement alone (mbl): 2,2 2,4"]
+        for text, wanted in (("walls", picture), ("walls yard", picture), ("walls hall", ["there is no map hall"]),
+                             ("walls yard 1,0,9,1", ["walls of yard, in half cells", "    2", "  0 ###", "  1  O", "  2 =",
+                                                     picture[-3], picture[-1]])):
+            self.assertEqual(self.table.type(text), [b'{"do":"dump"}'])
+            self.assertEqual(self.table.take({"dump": YARD, "n": 2, "ok": "dump"}).notes[-1].split("\n"), wanted, text)
+        for text in ("walls yard hall", "walls 1,2", "walls yard a,b,c,d"):
+            self.assertEqual((self.table.type(text), self.table.notes[-1]), ([], "usage: walls [map] [x,y,w,h]"))
+
+
 class RefusalLine(unittest.TestCase):
     def test_in_words(self):
         for more, words in (({"refused": "OffMap", "no": 8}, "refused (OffMap): off map"),
@@ -199,7 +265,8 @@ class RefusalLine(unittest.TestCase):
                             ({"refused": "BadField", "no": 4, "field": "path"},
                              "refused (BadField): a field is missing, of another kind, out of its range or unknown, field path"),
                             ({"refused": "BadDice", "no": 18, "at": 3}, "refused (BadDice): bad dice, at byte 3"),
-                            ({"refused": "MacroFault", "no": 23, "kind": "DivZero", "at": 7}, "refused (MacroFault): macro fault, div zero, at byte 7"),
+                            ({"refused": "MacroFault", "no": 23, "kind": "DivZero", "at": 7},
+                             "refused (MacroFault): macro fault, div zero, at byte 7"),
                             ({"refused": "NoSuchMap", "no": 32}, "refused (NoSuchMap): no such map")):
             table = Table(1, {"n": 2, **more})
             self.assertEqual((table.notes[-1], table.seat.ended), (words, None))
@@ -260,7 +327,8 @@ class Typing(unittest.TestCase):
             self.assertEqual(Table().type(raw), [raw])
 
     def test_what_stands_for_no_line_is_answered_here(self):
-        for text in ("fly", "wall hall vbl 6,0", "wall hall vbl 6,0 6,4 7,4", "show hall maybe", "move 5", "move 2:bo 6", "choose 2:bo", b"say \xff"):
+        for text in ("fly", "wall hall vbl 6,0", "wall hall vbl 6,0 6,4 7,4", "show hall maybe", "move 5", "move 2:bo 6", "choose 2:bo",
+                     b"say \xff"):
             table = Table()
             self.assertEqual((table.type(text), len(table.notes), table.seat.ended), ([], 2, None), text)
 
@@ -278,7 +346,61 @@ class Typing(unittest.TestCase):
         self.assertEqual(len(table.sent), 3)
 
 
+class TypedLine(unittest.TestCase):
+    def edited(self, *calls, text="say hi all"):
+        editor = client.Editor()
+        editor.insert(text)
+        for call in calls:
+            getattr(editor, call)() if hasattr(editor, call) else editor.insert(call)
+        return editor.text[: editor.cursor] + "|" + editor.text[editor.cursor :]
+
+    def test_edits(self):
+        for calls, wanted in (((), "say hi all|"), (("left", "left", "x"), "say hi ax|ll"), (("to_begin", "left", "/"), "/|say hi all"),
+                              (("to_begin", "right", "delete"), "s|y hi all"), (("delete",), "say hi all|"),
+                              (("left", "rub_out"), "say hi a|l"), (("right", "rub_out"), "say hi al|"),
+                              (("to_begin", "rub_out"), "|say hi all"), (("left", "left", "cut_before"), "|ll"),
+                              (("left", "left", "cut_behind"), "say hi a|"), (("cut_word",), "say hi |"),
+                              (("cut_word", "cut_word"), "say |"), (("left", "cut_word"), "say hi |l"),
+                              (("to_begin", "to_end"), "say hi all|")):
+            self.assertEqual(self.edited(*calls), wanted, calls)
+
+    def test_lines_that_were_typed_before(self):
+        editor = client.Editor()
+        for line in ("one", "two", "two", ""):
+            editor.insert(line)
+            self.assertEqual(editor.enter(), line)
+        editor.insert("new")
+        shown = []
+        for call in (editor.previous, editor.previous, editor.previous, editor.next, editor.next, editor.next):
+            call()
+            shown.append(editor.text)
+        self.assertEqual(shown, ["two", "one", "one", "two", "new", "new"])
+        editor.previous()
+        editor.insert("!")
+        self.assertEqual((editor.enter(), editor.text, editor.before), ("two!", "", ["one", "two", "two!"]))
+
+
 class Screen(unittest.TestCase):
+    def test_notes_that_went_by_are_shown_again(self):
+        table = Table()
+        table.notes[:] = [f"note {number}" for number in range(30)]
+
+        def pane(back):
+            spans = client.compose(table.seat, table.notes, "", (24, 80), (0, 0), back)
+            return {row: text for row, _, text, _ in spans if row >= 16}
+
+        self.assertEqual([pane(0)[row] for row in (16, 17, 22)], ["-" * 79, "note 24", "note 29"])
+        self.assertEqual([pane(10)[row] for row in (17, 22)], ["note 14", "note 19"])
+        self.assertRegex(pane(10)[16], "^-- 10 lines further down .Ctrl-F. -+$")
+        self.assertEqual([pane(99)[row] for row in (17, 22)], ["note 0", "note 5"])
+
+    def test_the_cursor_of_a_long_line_is_seen(self):
+        long = "".join(str(number % 10) for number in range(200))
+        for cursor, column in ((0, 2), (5, 7), (200, 2 + 36)):
+            shown, at = typed_window(long, cursor, 40)
+            self.assertEqual((at, shown[at : at + 1]), (column, long[cursor : cursor + 1]))
+        self.assertEqual(typed_window("\u4e16\u754c!", 2, 40), ("> \u4e16\u754c!", 6))
+
     def test_seen_and_remembered_differ_in_brightness_and_own_tokens_are_marked(self):
         spans = {(row, column): (text, how) for row, column, text, how in Table().change(tokens=[ORC]).spans()}
         self.assertEqual([spans[2, 3], spans[2, 5], spans[2, 7], spans[3, 5], spans[4, 3]],
@@ -314,6 +436,155 @@ class Screen(unittest.TestCase):
         self.assertEqual(table.seat.chosen_token(), "1:ann")
 
 
+ENVIRONMENT = {**os.environ, "PYTHONIOENCODING": "utf-8", "PYTHONDONTWRITEBYTECODE": "1"}
+JOINED = json.dumps(HELLO).encode() + b"\n" + json.dumps({"full": VIEW}).encode() + b"\n"
+LEFT = b'{"n":3,"ok":"bye"}\n'
+
+
+class Server:
+    """Takes a connection for each list of answers, reads one line for each, and closes it then, or waits for its end."""
+
+    def __init__(self, test, sessions, close=True):
+        self.door = socket.create_server(("127.0.0.1", 0))
+        test.addCleanup(self.door.close)
+        self.sessions, self.close, self.read = sessions, close, []
+        self.thread = threading.Thread(target=self.serve, daemon=True)
+        self.thread.start()
+
+    def serve(self):
+        for answers in self.sessions:
+            end, _ = self.door.accept()
+            with end, end.makefile("rb") as lines:
+                for answer in answers:
+                    self.read.append(lines.readline())
+                    end.sendall(answer)
+                if not self.close:
+                    end.recv(1)
+
+    def words(self, *more):
+        return [sys.executable, str(HERE / "client.py"), "127.0.0.1", str(self.door.getsockname()[1]), "1", *more]
+
+    def end(self):
+        self.thread.join(60)
+        return [json.loads(line) for line in self.read]
+
+
+class Breaks(unittest.TestCase):
+    def broken(self):
+        table = Table()
+        table.seat.lose("the connection broke: timed out")
+        return table
+
+    def test_it_is_said_and_nothing_is_sent_until_somebody_sits_down_again(self):
+        table, hint = self.broken(), "again sits down once more with the same key, bye leaves"
+        self.assertEqual((table.notes[-1], table.seat.ended), (f"the connection broke: timed out; {hint}", None))
+        for text in ("say hi", '{"do":"look"}', "move 6"):
+            self.assertEqual((table.type(text), table.notes[-1]), ([], f"there is no connection: {hint}"))
+        table.type("tokens")
+        self.assertTrue(table.notes[-1].startswith("cave: Ann"))
+        table.type("bye")
+        self.assertEqual((table.seat.ended, table.seat.status), ("the connection broke: timed out", 1))
+
+    def test_again(self):
+        table, sent = self.broken(), []
+        table.type("again")
+        self.assertTrue(table.seat.wants_again)
+        table.seat.sit_down(sent.append, "k")
+        table.take({**HELLO, "n": 7}, {"full": VIEW})
+        self.assertEqual(([json.loads(line) for line in sent], table.seat.wants_again), ([{"do": "hello", "key": "k", "seat": 1}], False))
+        table.type("say hi")
+        self.assertEqual((len(sent), table.rows()[0]), (2, " 0 A*. g'"))
+        table.type("again")
+        self.assertEqual((table.notes[-1], table.seat.wants_again), ("you sit at the table", False))
+
+    def test_a_hello_that_is_refused_then_is_no_end(self):
+        table = self.broken()
+        table.seat.sit_down(table.sent.append, "k")
+        table.take({"n": 0, "no": 25, "refused": "SeatTaken"})
+        table.seat.lose("the server closed the connection")
+        self.assertRegex(table.notes[-1], "^the server refused the hello: refused .SeatTaken.: somebody sits there; again sits down")
+        self.assertIsNone(table.seat.ended)
+
+    def test_the_program_sits_down_again_and_its_log_has_each_line_as_it_came(self):
+        said = b'{"from":0, "text":"psst\xe2\x80\xae", "to":1}\n'
+        server = Server(self, [[JOINED], [JOINED + said, LEFT]])
+        with tempfile.TemporaryDirectory() as folder:
+            log = pathlib.Path(folder) / "lines"
+            log.write_bytes(b"before\n")
+            words = server.words("k", "--text", "--log", str(log))
+            with subprocess.Popen(words, stdin=subprocess.PIPE, stdout=subprocess.PIPE, env=ENVIRONMENT) as run:
+                broke = b"the server closed the connection; again sits down once more with the same key, bye leaves\n"
+                shown = list(iter(run.stdout.readline, broke))
+                rest, _ = run.communicate(b"again\n", timeout=60)
+            self.assertEqual(log.read_bytes(), b"before\n" + 2 * JOINED + said + LEFT)
+        hello = {"do": "hello", "key": "k", "seat": 1}
+        self.assertEqual((run.returncode, server.end()), (0, [hello, hello, {"do": "bye"}]))
+        self.assertEqual(shown[0].decode().rstrip(), Table().notes[0])
+        self.assertIn("GM to seat 1: psst\\u202e\nyou left the table\n", rest.decode())
+
+    def test_a_log_is_its_owners_alone(self):
+        with tempfile.TemporaryDirectory() as folder:
+            server = Server(self, [[JOINED, LEFT]], close=False)
+            log = pathlib.Path(folder) / "lines"
+            subprocess.run(server.words("k", "--log", str(log)), stdin=subprocess.DEVNULL, capture_output=True, timeout=60, env=ENVIRONMENT)
+            self.assertEqual(log.read_bytes(), JOINED + LEFT)
+            if os.name == "posix":
+                self.assertEqual(stat.S_IMODE(log.stat().st_mode), 0o600)
+
+
+@unittest.skipUnless(pty, "no terminals of that kind here")
+class Terminal(unittest.TestCase):
+    def played(self, keys, answers, environment=()):
+        """What the program shows on a terminal on which keys are typed, each piece once the server has read what the one before it made."""
+        server, shown, (ours, theirs) = Server(self, [answers], close=False), [], pty.openpty()
+        environment = {**ENVIRONMENT, "TERM": "xterm", **dict(environment)}
+        run = subprocess.Popen(server.words("k"), stdin=theirs, stdout=theirs, stderr=theirs, env=environment)
+        self.addCleanup(run.kill)
+        os.close(theirs)
+        reader = threading.Thread(target=self.read, args=(ours, shown), daemon=True)
+        reader.start()
+        self.until(lambda: b"1:ann" in b"".join(shown))
+        for count, piece in enumerate(keys, 1):
+            self.until(lambda: len(server.read) >= count)
+            os.write(ours, piece)
+        status = run.wait(60)
+        reader.join(60)
+        os.close(ours)
+        return status, server.end(), b"".join(shown).decode("utf-8", "replace")
+
+    def until(self, holds):
+        """Waits until something holds, at most a minute."""
+        for _ in range(3000):
+            if holds():
+                return
+            time.sleep(0.02)
+        self.fail("nothing came")
+
+    @staticmethod
+    def read(end, shown):
+        try:
+            while piece := os.read(end, 65536):
+                shown.append(piece)
+        except OSError:  # the other side is closed
+            pass
+
+    def test_keys(self):
+        # Ctrl-A, right and Ctrl-E in a typed line; an arrow moves where nothing is typed; Ctrl-P brings back what was typed.
+        keys = [b"ay i\x01s\x1bOC\x1bOC\x1bOC\x05h\x17hi\r", b"\x1bOC", b"\x10\x1bOD!\r", b"bye\r"]
+        answers = [JOINED, b'{"n":2,"ok":"say"}\n', b'{"moved":1,"n":3,"ok":"move"}\n', b'{"n":4,"ok":"say"}\n', b'{"n":5,"ok":"bye"}\n']
+        status, sent, shown = self.played(keys, answers)
+        self.assertEqual((status, sent[1:]), (0, [{"do": "say", "text": "hi"}, {"do": "move", "path": [[1, 0]], "token": "1:ann"},
+                                                  {"do": "say", "text": "h!i"}, {"do": "bye"}]))
+        self.assertRegex(shown, "you left the table")
+
+    def test_without_the_library_for_screens_it_says_so_and_goes_on_as_text(self):
+        with tempfile.TemporaryDirectory() as folder:
+            (pathlib.Path(folder) / "curses.py").write_text("raise ImportError\n", encoding="utf-8")
+            status, sent, shown = self.played([b"bye\n"], [JOINED, LEFT], {"PYTHONPATH": folder})
+        self.assertEqual((status, sent[1:]), (0, [{"do": "bye"}]))
+        self.assertRegex(re.sub(r"\s+", " ", shown), r"^this system has no curses, .* it goes on as --text you sit at seat 1.* 0 A\*\. g'")
+
+
 class Ends(unittest.TestCase):
     def test_a_refused_hello(self):
         seat = client.Seat(1, lambda line: None, print)
@@ -323,9 +594,11 @@ class Ends(unittest.TestCase):
     def test_lines_that_cannot_be_read(self):
         for raw in (b"", b"no json", b"\xff", b"[]", b"7", b"{}", b'{"full":{}}', b'{"n":1,"ok":7}', b'{"from":0,"text":7,"to":"all"}',
                     b'{"change":{"gone":["2:bo"]}}', b'{"change":{"unmapped":["hall"]}}', b'{"change":{"changed":[{"name":"hall"}]}}',
-                    b'{"change":{"changed":[{"name":"cave","ground":[[9,9,"."]]}]}}', b'{"change":{"changed":[{"name":"cave","hidden":[[9,9,9]]}]}}',
-                    json.dumps({"change": {"tokens": [{**ORC, "cell": [9, 9]}]}}).encode(), json.dumps({"change": {"tokens": [{**ORC, "id": "orc"}]}}).encode(),
-                    json.dumps({"change": {"tokens": [{**ORC, "layer": "sky"}]}}).encode(), b'{"full":' * 2000):
+                    *(b'{"change":{"changed":[{"name":"cave","ground":[%s]}]}}' % ground
+                      for ground in (b'[9,9,"."]', b'[0,0,"/"]', b'[0,0,"7"]', b'[0,0,"A"]', b'[0,0,"{"]')),
+                    b'{"change":{"changed":[{"name":"cave","hidden":[[9,9,9]]}]}}',
+                    *(json.dumps({"change": {"tokens": [{**ORC, **parts}]}}).encode()
+                      for parts in ({"cell": [9, 9]}, {"id": "orc"}, {"layer": "sky"}, {"props": [["hp", 7]]})), b'{"full":' * 2000):
             table = Table()
             table.seat.take(raw)
             self.assertRegex(table.seat.ended or "", r"^the server sent a line that can't be read \(.+\): ", raw)
@@ -336,45 +609,30 @@ class Ends(unittest.TestCase):
 
     def run_client(self, answers, typed=b"", close=True):
         """Runs the program with a server that reads one line for each answer."""
-        door = socket.create_server(("127.0.0.1", 0))
-
-        def serve():
-            end, _ = door.accept()
-            with end, end.makefile("rb") as lines:
-                for answer in answers:
-                    lines.readline()
-                    end.sendall(answer)
-                if not close:
-                    end.recv(1)
-
-        thread = threading.Thread(target=serve)
-        thread.start()
-        words = [sys.executable, str(HERE / "client.py"), "127.0.0.1", str(door.getsockname()[1]), "1", "k"]
-        run = subprocess.run(words, input=typed, capture_output=True, timeout=120, env={**os.environ, "PYTHONIOENCODING": "utf-8"})
-        thread.join()
-        door.close()
+        server = Server(self, [answers], close)
+        run = subprocess.run([*server.words(), "k"], input=typed, capture_output=True, timeout=120, env=ENVIRONMENT)
+        server.end()
         return run.returncode, run.stdout.decode(), run.stderr.decode()
-
-    JOINED = json.dumps(HELLO).encode() + b"\n" + json.dumps({"full": VIEW}).encode() + b"\n"
 
     def test_the_program_ends_at_a_refused_hello_though_the_connection_stays(self):
         self.assertEqual(self.run_client([b'{"n":0,"no":25,"refused":"SeatTaken"}\n'], close=False),
                          (1, "", "the server refused the hello: refused (SeatTaken): somebody sits there\n"))
 
     def test_the_program_ends_at_a_closed_connection(self):
-        status, _, words = self.run_client([self.JOINED + b'{"change'], b"")
+        status, _, words = self.run_client([JOINED + b'{"change'], b"")
         self.assertEqual((status, words), (1, "the server closed the connection within a line\n"))
 
     def test_the_program_ends_at_a_line_that_cannot_be_read(self):
-        status, _, words = self.run_client([self.JOINED + b"tabletop: out of memory\n"], close=False)
+        status, _, words = self.run_client([JOINED + b"tabletop: out of memory\n"], close=False)
         self.assertEqual(status, 1)
         self.assertRegex(words, r"^the server sent a line that can't be read \(.+\): tabletop: out of memory\n$")
 
     def test_without_a_terminal_it_prints_and_says_bye_at_the_end(self):
-        answers = [self.JOINED, b'{"n":2,"ok":"say"}\n{"from":1,"text":"hi","to":"all"}\n', b'{"n":3,"ok":"bye"}\n']
+        answers = [JOINED, b'{"n":2,"ok":"say"}\n{"from":1,"text":"hi","to":"all"}\n', LEFT]
         status, words, faults = self.run_client(answers, b"say hi", close=False)
         self.assertEqual((status, faults), (0, ""))
-        self.assertEqual(words.splitlines(), Table().notes + client.map_text(Table().seat.view, "cave") + ["seat 1: hi", "you left the table"])
+        shown = Table().notes + client.map_text(Table().seat.view, "cave")
+        self.assertEqual(words.splitlines(), [*shown, "seat 1: hi", "you left the table"])
 
 
 if __name__ == "__main__":

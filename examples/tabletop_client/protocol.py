@@ -94,7 +94,7 @@ PARAGRAPHS = (
     "Without the server: choose ID (or a map, or -), tokens, types, draw; again sits down once more after a break. The GM's: save FILE, "
     "and walls [map] [rect], which draws the walls.",
 )
-HELP = "\n".join(textwrap.fill(paragraph, 130) for paragraph in PARAGRAPHS)
+HELP = "\n".join(textwrap.fill(paragraph, 78) for paragraph in PARAGRAPHS)
 PAD = {"7": (-1, -1), "8": (0, -1), "9": (1, -1), "4": (-1, 0), "6": (1, 0), "1": (-1, 1), "2": (0, 1), "3": (1, 1)}
 
 

@@ -240,8 +240,8 @@ class Screen:
         return self.ESCAPED_PAD.get(str(self.key()), "")
 
     def take_keys(self, seat: Seat) -> None:
-        for pressed in iter(self.key, None):
-            key: Any = self.escaped() if pressed == "\x1b" else pressed
+        while (key := self.key()) is not None:
+            key = self.escaped() if key == "\x1b" else key
             does = self.edits.get(key) or self.in_line(key)
             if does:
                 does()
