@@ -497,6 +497,14 @@ class Breaks(unittest.TestCase):
         table.type("again")
         self.assertEqual((table.notes[-1], table.seat.wants_again), ("you sit at the table", False))
 
+    def test_again_waits_for_no_answer(self):
+        table = Table()
+        table.seat.typed.extend([b"say a", b"say b", b" again "])
+        table.seat.advance()
+        self.assertEqual((len(table.sent), table.seat.wants_again), (2, False))
+        table.seat.advance()
+        self.assertEqual((len(table.sent), table.seat.wants_again, len(table.seat.typed)), (2, True, 0))
+
     def test_a_hello_that_is_refused_then_is_no_end(self):
         table = self.broken()
         table.seat.sit_down(table.sent.append, "k")
@@ -576,6 +584,12 @@ class Terminal(unittest.TestCase):
         self.assertEqual((status, sent[1:]), (0, [{"do": "say", "text": "hi"}, {"do": "move", "path": [[1, 0]], "token": "1:ann"},
                                                   {"do": "say", "text": "h!i"}, {"do": "bye"}]))
         self.assertRegex(shown, "you left the table")
+
+    def test_a_long_note_is_shown_from_its_first_line(self):
+        status, _, shown = self.played([b"help\rbye\r"], [JOINED, LEFT])
+        self.assertEqual(status, 0)
+        self.assertIn("While nothing is typed", shown)
+        self.assertIn("lines further down (Ctrl-F)", shown)
 
     def test_without_the_library_for_screens_it_says_so_and_goes_on_as_text(self):
         with tempfile.TemporaryDirectory() as folder:

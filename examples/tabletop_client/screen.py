@@ -20,6 +20,7 @@ from .seat import Seat
 from .view import Cell, printable
 
 MOMENT, IDLE = 0.05, 0.25  # seconds
+PATIENCE = 20.0  # seconds until a connection is given up
 MOST_NOTES = 2000
 
 
@@ -38,7 +39,8 @@ class Connection:
     """Lines to and from the server."""
 
     def __init__(self, host: str, port: int) -> None:
-        self.socket = socket.create_connection((host, port))
+        self.socket = socket.create_connection((host, port), timeout=PATIENCE)
+        self.socket.settimeout(None)
         self.lines = Lines()
         self.fault: str | None = None
 
@@ -207,10 +209,12 @@ class Screen:
         return keys.get(key) if editor.text else None
 
     def say(self, words: str) -> None:
+        """Shows words beneath the others. What is read behind them stays where it is, and a long note is shown from its first line."""
+        height, width = self.window.getmaxyx()
         self.notes.append(words)
         del self.notes[:-MOST_NOTES]
-        if self.back:  # what is read stays where it is
-            self.back += len(folded(words, self.window.getmaxyx()[1] - 1))
+        lines = len(folded(words, width - 1))
+        self.back = self.back + lines if self.back else max(0, lines - pane_height(self.notes, (height, width)))
 
     def scroll(self, lines: int) -> None:
         height, width = self.window.getmaxyx()

@@ -16,6 +16,7 @@ from .view import Object, Token, Unreadable, View, part, printable
 from .walls import walls_text
 
 Send = Callable[[bytes], None]
+AGAIN = {b"again", b"/again"}
 HOW_TO_GO_ON = "again sits down once more with the same key, bye leaves"
 
 
@@ -155,7 +156,10 @@ class Seat:
 
     # ---- what is typed
     def advance(self) -> None:
-        """Takes what was typed, line after line, up to one that waits for an answer."""
+        """Takes what was typed, line after line, up to one that waits for an answer. Where none comes, `again` waits for none."""
+        if self.waits is not None and AGAIN.intersection(line.strip() for line in self.typed):
+            self.typed.clear()
+            self.wants_again = True
         while self.typed and self.waits is None and self.ended is None and not self.wants_again:
             raw = self.typed.popleft().strip()
             try:
