@@ -166,11 +166,12 @@ def held(folders: list[Path]) -> Iterator[None]:
 
 
 class Workshop:
-    """The folder of the small checkouts. It lies where `rt ci` looks for no sources, and on the disk of the repository."""
+    """The folder of the small checkouts. It lies on the disk of the repository, and in its .git, if there is one, where `rt ci` looks for
+    no sources."""
 
     def __init__(self, root: Path) -> None:
         self.root = root
-        self.place = (root / ".git" if (root / ".git").is_dir() else root) / "tabletop-build"
+        self.place = root / (".git" if (root / ".git").is_dir() else "out") / "tabletop-build"
 
     def checkout(self, name: str, others: list[str]) -> Path:
         """A checkout of a crate and the libraries below it; gives the crate's folder there, to which `out` has moved."""

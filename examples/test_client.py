@@ -577,12 +577,13 @@ class Terminal(unittest.TestCase):
             pass
 
     def test_keys(self):
-        # Ctrl-A, right and Ctrl-E in a typed line; an arrow moves where nothing is typed; Ctrl-P brings back what was typed.
-        keys = [b"ay i\x01s\x1bOC\x1bOC\x1bOC\x05h\x17hi\r", b"\x1bOC", b"\x10\x1bOD!\r", b"bye\r"]
-        answers = [JOINED, b'{"n":2,"ok":"say"}\n', b'{"moved":1,"n":3,"ok":"move"}\n', b'{"n":4,"ok":"say"}\n', b'{"n":5,"ok":"bye"}\n']
+        # Ctrl-A, right and Ctrl-E in a typed line; an arrow and the pad move where nothing is typed; Ctrl-P brings back what was typed.
+        keys = [b"ay i\x01s\x1bOC\x1bOC\x1bOC\x05h\x17hi\r", b"\x1bOC", b"\x1bOr", b"\x10\x1bOD!\x1bOr\r", b"bye\r"]
+        moved = b'{"moved":1,"n":3,"ok":"move"}\n'
+        answers = [JOINED, b'{"n":2,"ok":"say"}\n', moved, moved, b'{"n":5,"ok":"say"}\n', b'{"n":6,"ok":"bye"}\n']
         status, sent, shown = self.played(keys, answers)
-        self.assertEqual((status, sent[1:]), (0, [{"do": "say", "text": "hi"}, {"do": "move", "path": [[1, 0]], "token": "1:ann"},
-                                                  {"do": "say", "text": "h!i"}, {"do": "bye"}]))
+        moves = [{"do": "move", "path": [cell], "token": "1:ann"} for cell in ([1, 0], [1, 1])]
+        self.assertEqual((status, sent[1:]), (0, [{"do": "say", "text": "hi"}, *moves, {"do": "say", "text": "h!2i"}, {"do": "bye"}]))
         self.assertRegex(shown, "you left the table")
 
     def test_a_long_note_is_shown_from_its_first_line(self):

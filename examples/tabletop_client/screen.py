@@ -170,9 +170,11 @@ class TextFront:
 class Screen:
     """The terminal: draws what `compose` gives, and turns keys into steps, choices and typed lines."""
 
-    STEPS = {"UP": "8", "DOWN": "2", "LEFT": "4", "RIGHT": "6", "HOME": "7", "PPAGE": "9", "END": "1", "NPAGE": "3",
-             "A1": "7", "A3": "9", "C1": "1", "C3": "3"}  # fmt: skip
-    ESCAPED_PAD = dict(zip("qrstuvwxy", "123456789"))
+    STEPS = {"UP": "8", "DOWN": "2", "LEFT": "4", "RIGHT": "6", "HOME": "7", "PPAGE": "9", "END": "1", "NPAGE": "3"}
+    # The keys of the numeric pad, as terminals' entries name them; and what follows an escape where an entry hasn't them.
+    PAD_KEYS = {"KEY_A1": "7", "ka2": "8", "KEY_A3": "9", "kb1": "4", "KEY_B2": "5", "kb3": "6", "KEY_C1": "1", "kc2": "2", "KEY_C3": "3",
+                "kpZRO": "0"}  # fmt: skip
+    ESCAPED_PAD = dict(zip("pqrstuvwxy", "0123456789"))
 
     def __init__(self, curses: Any, window: Any) -> None:
         self.curses, self.window = curses, window
@@ -238,14 +240,16 @@ class Screen:
         with contextlib.suppress(self.curses.error):
             return self.window.get_wch()
 
-    def escaped(self) -> str:
-        """What follows an escape: O LETTER is a digit of the numeric pad of a terminal whose entry hasn't it."""
-        self.key()
-        return self.ESCAPED_PAD.get(str(self.key()), "")
+    def plain_key(self, key: Any) -> Any:
+        """The key, and a key of the numeric pad as its digit."""
+        if key == "\x1b":
+            self.key()  # the O before the letter
+            return self.ESCAPED_PAD.get(str(self.key()), "")
+        return self.PAD_KEYS.get(self.curses.keyname(key).decode(), key) if isinstance(key, int) else key
 
     def take_keys(self, seat: Seat) -> None:
-        while (key := self.key()) is not None:
-            key = self.escaped() if key == "\x1b" else key
+        while (pressed := self.key()) is not None:
+            key = self.plain_key(pressed)
             does = self.edits.get(key) or self.in_line(key)
             if does:
                 does()
