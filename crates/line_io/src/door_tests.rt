@@ -119,7 +119,7 @@ fn welcome<I: Source, O: Sink>(rt: &impl Abort, alloc: Global, input: &mut I, ou
 
 #[test]
 fn a_line_goes_each_way_over_tcp(rt: HostRuntime) {
-    let mut door = TcpDoor::new(&rt);
+    let mut door = TcpDoor::new(&rt, rt.alloc());
     let port = opened(&mut door, 47_310).expect(&rt, "a port");
     let address = SocketAddr::from((Ipv4Addr::LOCALHOST, port));
     let mut peer = TcpStream::connect(&rt, address).expect(&rt, "a peer");

@@ -22,6 +22,7 @@ pub use scripts::{COMMAND_LIMIT, split_script_line};
 pub use sinks::{Sink, write_whole};
 pub use sources::Source;
 pub use tcp_doors::TcpDoor;
+pub use tcp_ends::{TcpSink, TcpSource};
 pub use works::{Spawner, Work};
 
 mod adapters;
@@ -43,6 +44,7 @@ mod scripts;
 mod sinks;
 mod sources;
 mod tcp_doors;
+mod tcp_ends;
 #[cfg(test)]
 mod tests;
 mod works;

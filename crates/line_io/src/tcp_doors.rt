@@ -1,46 +1,70 @@
 //! A door at a TCP port.
 ghost use Rattle.std.specs.Prelude.{◌≡◌, ℕ};
 
-use crate::adapters::{ReaderSource, WriterSink};
 use crate::doors::Door;
 use crate::faults::{Failed, counted};
+use crate::tcp_ends::{TcpSink, TcpSource, ends_of};
+use std::alloc::Global;
 use std::io;
 use std::net::{Ipv4Addr, Net, SocketAddr, TcpListener, TcpStream};
+use std::thread;
+use std::time::{Clock, Duration};
+
+// How many thousandths of a second the door waits where the system refuses a connection.
+const PAUSE: u64 = 50;
+
+// What Linux tells of a listener that is none (EBADF), that doesn't listen (EINVAL) or is no socket (ENOTSOCK).
+const BROKEN: [i32; 3] = [9, 22, 88];
 
 /// A door at a port of this machine's own address, 127.0.0.1. It tells nothing of its connections.
 #[derive(Drop)]
 pub struct TcpDoor<R> {
     rt: R,
+    alloc: Global,
     listener: Option<TcpListener>,
     faults: u64,
 }
 
 impl<R> TcpDoor<R> {
     /// A door that is not open so far.
-    pub fn new(rt: R) -> TcpDoor<R> {
+    pub fn new(rt: R, alloc: Global) -> TcpDoor<R> {
         TcpDoor {
             rt,
+            alloc,
             listener: None,
             faults: 0,
         }
     }
 }
 
-// The two ends of the next connection. What is written goes out without delay; where the peer has gone already, this can't be
-// asked for, and the ends tell that it has.
-fn accepted(
-    listener: &TcpListener,
-) -> io::Result<(ReaderSource<TcpStream>, WriterSink<TcpStream>)> {
-    let (stream, _) = listener.accept()?;
-    let _asked = stream.set_nodelay(true);
-    let reader = stream.try_clone()?;
-    Ok((ReaderSource::new(reader), WriterSink::new(stream)))
+// Whether no connection can come any more. Else one alone was refused, as where the system has no descriptor left.
+fn is_broken(error: &io::Error) -> bool {
+    match error.raw_os_error() {
+        Some(code) => BROKEN.contains(&code),
+        None => false,
+    }
 }
 
-impl<R: Net<Listener = TcpListener, Stream = TcpStream>> Door for TcpDoor<R> {
-    type In = ReaderSource<TcpStream>;
+// The next connection. What is written to it goes out without delay; where the client has gone already, this can't be asked for, and
+// the ends tell that it has. While the system refuses connections, it waits.
+fn accepted<R: Clock>(rt: &R, listener: &TcpListener) -> Option<TcpStream> {
+    for _ in 0..u64::MAX {
+        match listener.accept() {
+            Ok((stream, _)) => {
+                let _asked = stream.set_nodelay(true);
+                return Some(stream);
+            }
+            Err(error) if is_broken(&error) => break,
+            Err(_) => thread::sleep(rt, Duration::from_millis(PAUSE)),
+        }
+    }
+    None
+}
 
-    type Out = WriterSink<TcpStream>;
+impl<R: Net<Listener = TcpListener, Stream = TcpStream> + Clock + Copy> Door for TcpDoor<R> {
+    type In = TcpSource<R>;
+
+    type Out = TcpSink;
 
     ghost faults_of = { λ d. d.faults };
 
@@ -58,17 +82,17 @@ impl<R: Net<Listener = TcpListener, Stream = TcpStream>> Door for TcpDoor<R> {
         }
     }
 
-    fn next(&mut self) -> Result<Option<(ReaderSource<TcpStream>, WriterSink<TcpStream>)>, Failed> {
+    fn next(&mut self) -> Result<Option<(TcpSource<R>, TcpSink)>, Failed> {
         if let Some(listener) = &self.listener
-            && let Ok(ends) = accepted(listener)
+            && let Some(stream) = accepted(&self.rt, listener)
         {
-            return Ok(Some(ends));
+            return Ok(Some(ends_of(self.rt, self.alloc, stream)));
         }
         self.faults = counted(self.faults);
         Err(Failed)
     }
 
-    fn give_back(&mut self, _input: ReaderSource<TcpStream>, _output: WriterSink<TcpStream>) {}
+    fn give_back(&mut self, _input: TcpSource<R>, _output: TcpSink) {}
 
     fn faults(&self) -> u64 {
         self.faults

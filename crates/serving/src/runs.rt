@@ -6,12 +6,12 @@ ghost use Rattle.campaign_law.specs.Law.{IsOpening};
 ghost use Rattle.serving.specs.Runs.{HasRun, IsRunOf};
 
 use crate::sittings::Sitting;
-use line_io::{MemSink, MemSource, ReaderSource, Sink, Source, Work, WriterSink};
+use line_io::{MemSink, MemSource, Sink, Source, TcpSink, TcpSource, Work};
 use session::{Sat, Table, serve_session};
 use std::alloc::Global;
-use std::net::TcpStream;
 use std::sync::Wait;
 use std::thread::Threads;
+use std::time::Clock;
 use turn_lock::{Hall, Pass};
 
 /// A source that a session reads in a thread of its own, beside another that writes a sink of this type.
@@ -56,7 +56,7 @@ impl SessionSource<MemSink> for MemSource {
 }
 
 // It tells nothing of its bytes.
-impl SessionSource<WriterSink<TcpStream>> for ReaderSource<TcpStream> {
+impl<C: Clock + Send> SessionSource<TcpSink> for TcpSource<C> {
     ghost use Rattle.std.specs.Prelude.{None};
 
     fn serve<R: Threads + Wait + Sync>(
@@ -65,8 +65,8 @@ impl SessionSource<WriterSink<TcpStream>> for ReaderSource<TcpStream> {
         hall: &Hall<Table>,
         reader: Pass<Table>,
         writer: Pass<Table>,
-        input: &mut ReaderSource<TcpStream>,
-        output: &mut WriterSink<TcpStream>,
+        input: &mut TcpSource<C>,
+        output: &mut TcpSink,
     ) -> Sat
         requires sync { IsSync R.row }
         requires passes { IsPassOf hall.now reader × IsPassOf hall.now writer }
@@ -85,7 +85,7 @@ impl<R: Threads + Wait + Sync + Drop, I: SessionSource<O> + Drop, O: Sink + Drop
 
     ghost done = { λ s r. IsRunOf I.left O.written I.faults_of O.faults_of s r };
 
-    /// Serves the session over its two ends, and gives them back.
+    /// Serves the session over its two ends, closes them, and gives them back.
     fn run(self) -> ((I, O), Sat) {
         let Sitting {
             rt,
@@ -97,6 +97,8 @@ impl<R: Threads + Wait + Sync + Drop, I: SessionSource<O> + Drop, O: Sink + Drop
             mut output,
         } = self;
         let sat = I::serve(&rt, alloc, &hall, reader, writer, &mut input, &mut output);
+        output.close();
+        input.close();
         ((input, output), sat)
     }
 }

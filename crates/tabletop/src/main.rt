@@ -19,13 +19,12 @@ mod tests;
 mod top;
 
 pub use endings::Ended;
-use line_io::{CallSpawner, Failed, FileDesk, ReaderSource, TcpDoor, WriterSink};
+use line_io::{CallSpawner, Failed, FileDesk, ReaderSource, TcpDoor, TcpSink, TcpSource, WriterSink};
 use names::Memory;
 pub use script_play::play;
 pub use serve::tabletop_serve;
 use serving::{Sitting, SittingThread, start_sitting};
 use std::env::Env;
-use std::net::TcpStream;
 use std::process::ExitCode;
 use std::{env, io};
 pub use top::tabletop;
@@ -52,16 +51,16 @@ fn asks_to_serve(words: &[String]) -> bool {
 }
 
 // A session over TCP, and a thread that serves one.
-type TcpSitting<R> = Sitting<R, ReaderSource<TcpStream>, WriterSink<TcpStream>>;
+type TcpSitting<R> = Sitting<R, TcpSource<R>, TcpSink>;
 
-type TcpThread<R> = SittingThread<R, ReaderSource<TcpStream>, WriterSink<TcpStream>>;
+type TcpThread<R> = SittingThread<R, TcpSource<R>, TcpSink>;
 
 fn main(rt: HostRuntime) -> ExitCode {
     let mut desk = FileDesk::new(&rt, rt.alloc());
     let mut out = WriterSink::new(rt.stdout());
     let status = match words_of(&rt) {
         Ok(words) if asks_to_serve(&words) => {
-            let mut door = TcpDoor::new(&rt);
+            let mut door = TcpDoor::new(rt, rt.alloc());
             let mut threads = CallSpawner::new(
                 |sitting: TcpSitting<HostRuntime>| -> Result<TcpThread<HostRuntime>, Failed>
                     ensures { IfOk result (λ task. task.promise.0.value ≡ sitting) }
