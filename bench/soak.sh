@@ -1,14 +1,21 @@
 #!/usr/bin/env bash
-# One long run of the server under hostile use: 1,024 connections at a campaign of 33 seats. The game master says thousands of long
-# lines to all. 24 players read and come and go, some in the middle of a line; 8 say hello and never read, and have to be cut while the
-# others go on; the other connections have wrong keys, say nothing, or leave at once. It ends within ten minutes.
+# Two long runs of the server under hostile use, at a campaign of 33 seats, each of 1,024 connections and with 256 descriptors.
+# The evening: the game master says thousands of long lines to all; 24 players read and come and go, some in the middle of a line; 8
+# say hello and never read, and have to be cut while the others go on; the other connections have wrong keys, say nothing, or leave at
+# once. It ends within ten minutes.
+# The silence: a session ends in each way that a client can bring about, and then all connections that are left of the count, 1,000
+# about, say nothing. It takes a minute for each 250 of them (the system gives the server no more at once), about five in all.
 #   bench/soak.sh [PROGRAM]
-# PROGRAM is crates/tabletop/out/tabletop unless given. It needs Python 3.9 or later. Checked are:
+# PROGRAM is crates/tabletop/out/tabletop unless given; DESCRIPTORS=N gives it so many instead of 256. It needs Linux and Python 3.9 or
+# later. Checked are:
 #   - each connection ends with one of the words of docs/PROTOCOL.md, and the program with status 0;
 #   - whoever doesn't read is cut: while its connection is still open, its seat takes a new hello;
 #   - for each session that reads: `n` rises by one from reply to reply; the game master's messages come each once, in order and without
 #     a gap; the view kept from change lines equals the one that a look gives at the end;
-#   - the program's memory stays within what docs/DESIGN.md tells ("Memory").
+#   - the program's memory stays within what docs/DESIGN.md tells ("Memory");
+#   - whose session is over sees the end of its stream within a second, for each word but two: who is told `WriteFault` has gone, and
+#     `Memory` is tried by bench/refused.sh;
+#   - who says nothing sees it a minute after the server took the connection, and nobody holds back the end for longer.
 set -eu
 here=$(cd "$(dirname "$0")/.." && pwd)
 program=${1:-$here/crates/tabletop/out/tabletop}
@@ -18,10 +25,12 @@ if [ ! -x "$program" ]; then
 fi
 exec python3 -B - "$program" "$here/examples" <<'PYTHON'
 import collections
+import contextlib
 import json
 import os
 import random
 import re
+import resource
 import socket
 import subprocess
 import sys
@@ -39,11 +48,20 @@ PLAYERS, SILENT = 32, 8
 READERS = PLAYERS - SILENT
 # The kernel takes some millions of bytes for a connection that nobody reads before anything waits.
 SAYS = int(os.environ.get("SAYS", "12000"))
+DESCRIPTORS = int(os.environ.get("DESCRIPTORS", "256"))
 LIMIT = 600
+# Seconds: for a first line, between the end of a session and that of its stream, and what a loaded machine may add.
+FIRST_LINE, MOMENT, SLACK = 60, 1, 5
+# The descriptors that the server has for other things than connections.
+OWN_DESCRIPTORS = 8
+LINES = 16_384
 # Bytes that may wait for a session, and what a session may take beside them while they are written.
 WAITING, COPIES = 4_194_304, 2
-WORDS = re.compile(r"\d+ (Left|Refused (BadKey|SeatTaken|Spent|NoHello)|TooLong|Spent|Cut|ReadFault|WriteFault|Memory|busy)")
+WORD = "(Left|Refused (BadKey|SeatTaken|Spent|NoHello)|TooLong|Spent|Cut|ReadFault|WriteFault|Memory|busy)"
+WORDS, NOTES = re.compile(rf"\d+ {WORD}"), re.compile(rf"connection \d+ (opened|sat down at seat \d+|{WORD})")
 FAULTS = []
+# How many connections a part has made so far.
+MADE = collections.Counter()
 
 
 def fault(words):
@@ -66,7 +84,7 @@ class Session:
 
     def __init__(self, port, seat):
         self.seat, self.count, self.view, self.heard = seat, None, None, None
-        self.socket = socket.create_connection(("127.0.0.1", port), timeout=120)
+        self.socket = connection(port)
         self.file = self.socket.makefile("rb")
 
     def send(self, **command):
@@ -257,24 +275,42 @@ def free_port():
         return door.getsockname()[1]
 
 
+def served(folder):
+    """A server of the campaign, and its port. Its notes of each connection, on standard error, go to a file."""
+    file, port = os.path.join(folder, "campaign.json"), free_port()
+    with open(file, "w", encoding="utf-8") as made:
+        json.dump(campaign(), made)
+    words = [PROGRAM, "serve", file, str(port), str(CONNECTIONS), "--end"]
+    limit = (DESCRIPTORS, DESCRIPTORS)
+    with open(os.path.join(folder, "notes"), "wb") as notes:
+        server = subprocess.Popen(words, stdout=subprocess.PIPE, stderr=notes, preexec_fn=lambda: resource.setrlimit(resource.RLIMIT_NOFILE, limit))
+    threading.Timer(LIMIT, server.kill).start()
+    listen_for(port).close()
+    return server, port
+
+
 def main():
-    begun, told = time.time(), collections.Counter()
-    with tempfile.TemporaryDirectory() as folder:
-        file = os.path.join(folder, "campaign.json")
-        with open(file, "w", encoding="utf-8") as made:
-            json.dump(campaign(), made)
-        port = free_port()
-        server = subprocess.Popen([PROGRAM, "serve", file, str(port), str(CONNECTIONS), "--end"], stdout=subprocess.PIPE)
-        listen_for(port).close()
-        base = resident(server)
-        threading.Timer(LIMIT, server.kill).start()
-        run(server, port, told, base)
-        printed, _ = server.communicate(timeout=60)
-    tell(printed.decode().splitlines(), server.returncode, told, time.time() - begun)
+    # (each silent connection is a descriptor here too)
+    most = resource.getrlimit(resource.RLIMIT_NOFILE)[1]
+    resource.setrlimit(resource.RLIMIT_NOFILE, (most, most))
+    for part in (evening, silence):
+        begun, told = time.time(), collections.Counter()
+        with tempfile.TemporaryDirectory() as folder:
+            MADE.clear()
+            server, port = served(folder)
+            part(server, port, told)
+            printed, _ = server.communicate(timeout=FIRST_LINE + 60)
+            with open(os.path.join(folder, "notes"), encoding="ascii") as notes:
+                check_notes(notes.read().splitlines())
+        told["seconds"] = int(time.time() - begun)
+        tell(part.__name__, printed.decode().splitlines(), server.returncode, told)
+    print("soak: ok" if not FAULTS else f"soak: {len(FAULTS)} faults")
+    sys.stdout.flush()
+    os._exit(1 if FAULTS else 0)
 
 
-def run(server, port, told, base):
-    over = threading.Event()
+def evening(server, port, told):
+    base, over = resident(server), threading.Event()
     # One connection looked whether the program listens, one is the game master's, and each silent seat has two.
     budget = Budget(CONNECTIONS - 2 - 2 * SILENT - CONNECTIONS // 4)
     quiet = {seat: silent(port, seat) for seat in range(READERS + 1, PLAYERS + 1)}
@@ -302,7 +338,149 @@ def run(server, port, told, base):
         made.close()
 
 
-def tell(lines, status, told, seconds):
+def seconds_to_end(made):
+    """How long it takes from the last byte that comes to the end of the stream, which the server makes."""
+    last = time.time()
+    while made.recv(65536):
+        last = time.time()
+    return time.time() - last
+
+
+def ends(word, made):
+    """The client sees the end of its stream, and closes its connection only then."""
+    try:
+        waited = seconds_to_end(made)
+    except OSError as error:
+        fault(f"{word}: no end of the stream but {error!r}")
+        return
+    finally:
+        made.close()
+    if waited > MOMENT:
+        fault(f"{word}: the stream ended {waited:.1f} s after the last byte")
+
+
+def connection(port, *parts):
+    """A connection that sends these bytes."""
+    made = socket.create_connection(("127.0.0.1", port), timeout=120)
+    MADE["now"] += 1
+    made.sendall(b"".join(parts))
+    return made
+
+
+def hello(seat, key=None):
+    return json.dumps({"do": "hello", "key": key or f"k{seat}", "seat": seat}).encode() + b"\n"
+
+
+def all_endings(server, port, told):
+    """One session for each word that a client can bring about and see."""
+    master = Session(port, 0)
+    master.hello()
+    ends("Left", connection(port, hello(1), b'{"do":"bye"}\n'))
+    half = connection(port, hello(2), b'{"do":"look"}\n')
+    half.shutdown(socket.SHUT_WR)
+    ends("Left", half)
+    ends("Refused BadKey", connection(port, hello(1, "x")))
+    ends("Refused NoHello", connection(port, b'{"do":"look"}\n'))
+    ends("Refused SeatTaken", connection(port, hello(0)))
+    ends("TooLong", connection(port, b"x" * 4097))
+    ends("TooLong", connection(port, hello(3), b"x" * 100_000))
+    ends("Spent", spent(port, 4))
+    ends("Refused Spent", connection(port, hello(4)))
+    ends("Cut", cut(port, 5, master))
+    told["busy"] = no_thread(server, port)
+    master.bye()
+
+
+def spent(port, seat):
+    """A seat that has sent its last line."""
+    made = connection(port, hello(seat))
+    sender = threading.Thread(target=lambda: made.sendall(b"{}\n" * (LINES - 1)))
+    sender.start()
+    text = b""
+    while b'"n":%d,' % LINES not in text:
+        text = text[-64:] + made.recv(65536)
+    sender.join()
+    return made
+
+
+def cut(port, seat, master):
+    """A seat that reads nothing until it is cut, and then sends one line more."""
+    made = connection(port, hello(seat))
+    for _ in range(SAYS):
+        master.send(do="say", text="x" * 1000, to=seat)
+        master.reply()
+    if not is_cut(port, seat):
+        fault("a seat that doesn't read wasn't cut")
+    made.sendall(b"{}\n")
+    return made
+
+
+def no_thread(server, port):
+    """Connections until the system gives the server no memory for a thread: the threads of sessions that are over leave it some."""
+    with open(f"/proc/{server.pid}/statm", encoding="ascii") as pages:
+        size = int(pages.read().split()[0]) * resource.getpagesize()
+    before = resource.prlimit(server.pid, resource.RLIMIT_AS, (size + (1 << 20), resource.RLIM_INFINITY))
+    kept, found = [], False
+    while not found and len(kept) < 50:
+        kept.append(connection(port))
+        kept[-1].settimeout(MOMENT)
+        with contextlib.suppress(TimeoutError):
+            found = kept[-1].recv(1) == b""
+    resource.prlimit(server.pid, resource.RLIMIT_AS, before)
+    if not found:
+        fault("busy: no connection saw the end of its stream")
+    for made in kept:
+        made.close()
+    return len(kept)
+
+
+def unheard(port, found):
+    """A connection that says nothing, until the end of its stream."""
+    while True:
+        try:
+            made = socket.create_connection(("127.0.0.1", port), timeout=LIMIT)
+            break
+        except OSError:
+            time.sleep(0.5)
+    begun = time.time()
+    try:
+        while made.recv(4096):
+            fault("a connection that says nothing is sent something")
+    except OSError as error:
+        fault(f"a connection that says nothing: {error!r}")
+    found.append(time.time() - begun)
+    made.close()
+
+
+def silence(server, port, told):
+    all_endings(server, port, told)
+    silent_ones = CONNECTIONS - MADE["now"]
+    begun, found = time.time(), []
+    threads = [threading.Thread(target=unheard, args=(port, found)) for _ in range(silent_ones)]
+    for thread in threads:
+        thread.start()
+    for thread in threads:
+        thread.join()
+    server.wait(timeout=60)
+    told["waited"] = int(time.time() - begun)
+    told["silent"], told["first"], told["last"] = silent_ones, int(min(found)), int(max(found))
+    waves = -(-silent_ones // (DESCRIPTORS - OWN_DESCRIPTORS))
+    if min(found) < FIRST_LINE - SLACK:
+        fault(f"a connection that says nothing was over after {min(found):.1f} s")
+    if told["waited"] > waves * (FIRST_LINE + SLACK):
+        fault(f"{silent_ones} connections that say nothing held back the end for {told['waited']} s")
+
+
+def check_notes(lines):
+    """The notes tell of each connection that it was opened, and nothing but what they may."""
+    for line in lines:
+        if not NOTES.fullmatch(line):
+            fault(f"a note is {line!r}")
+    if sum(line.endswith(" opened") for line in lines) != CONNECTIONS:
+        fault("the notes don't tell of each connection that it was opened")
+
+
+def tell(part, lines, status, told):
     words, last = lines[:-1], lines[-1] if lines else ""
     for number, line in enumerate(words, 1):
         if not WORDS.fullmatch(line) or not line.startswith(f"{number} "):
@@ -312,11 +490,8 @@ def tell(lines, status, told, seconds):
     if status != 0 or not last.startswith('{"format":1'):
         fault(f"status {status}, last line {last[:60]!r}")
     found = collections.Counter(line.split(" ", 1)[1] for line in words)
-    print(f"soak: {seconds:.0f} s, {told['says']} says of the game master, {told['sessions']} sessions that read, {told['cut']} silent seats cut, {told['memory'] >> 20} MiB at most")
-    print("soak: " + ", ".join(f"{word} {count}" for word, count in sorted(found.items())))
-    print("soak: ok" if not FAULTS else f"soak: {len(FAULTS)} faults")
-    sys.stdout.flush()
-    os._exit(1 if FAULTS else 0)
+    print(f"soak: {part}: " + ", ".join(f"{name} {told[name]}" for name in sorted(told)))
+    print(f"soak: {part}: " + ", ".join(f"{word} {count}" for word, count in sorted(found.items())), flush=True)
 
 
 main()

@@ -7,6 +7,7 @@ is skipped.
 import json
 import os
 import pathlib
+import resource
 import socket
 import subprocess
 import sys
@@ -45,6 +46,28 @@ CONNECTIONS = [
     ([hello("x")], [b'{"n":0,"no":24,"refused":"BadKey"}\n']),
     ([hello("a")], [b'{"n":3,"ok":"hello","seat":1,"seats":3}\n', FULL]),
 ]
+
+
+def written(*lines):
+    return "".join(f"{json.dumps(line)}\n" for line in lines).encode()
+
+
+# What a connection sends, the last line that it is sent before the end of its stream, and its word.
+ENDINGS = [
+    ([written(hello("a"), {"do": "bye"}), b"behind the bye"], b'{"n":2,"ok":"bye"}\n', "Left"),
+    ([written({"do": "look"}), b"behind it\n"], b'{"n":0,"no":27,"refused":"NoHello"}\n', "Refused NoHello"),
+    ([b"x" * 4097], b"", "TooLong"),
+    ([written(hello("a")), b"x" * 50_000], FULL, "TooLong"),
+]
+# A server with so many serves more connections.
+DESCRIPTORS = 24
+
+
+def last_line(connection):
+    """What stands last before the end of its stream."""
+    with connection.makefile("rb") as answers:
+        lines = answers.readlines()
+    return lines[-1] if lines else b""
 
 
 @unittest.skipUnless(os.access(PROGRAM, os.X_OK), "the program isn't built")
@@ -94,12 +117,42 @@ class Connections(unittest.TestCase):
             self.sat(port, [hello("a")], 2)
             self.assertEqual(server.wait(timeout=60), 5)
 
-    def started(self, *words):
-        port = free_port()
-        return self.started_at(port, *words), port
+    def test_whose_session_is_over_sees_the_end(self):
+        server, port = self.started(str(len(ENDINGS)))
+        for lines, last, _ in ENDINGS:
+            with self.subTest(lines=lines[-1][:40]), connected(port).socket as connection:
+                connection.sendall(b"".join(lines))
+                begun = time.monotonic()
+                self.assertEqual(last_line(connection), last)
+                self.assertLess(time.monotonic() - begun, MOMENT)
+                # The client hasn't closed its connection, and may still send.
+                connection.sendall(b"more")
+        told = "".join(f"{number} {word}\n" for number, (_, _, word) in enumerate(ENDINGS, 1))
+        self.assertEqual(self.ended(server), (told, 0))
 
-    def started_at(self, port, *words):
-        server = subprocess.Popen([PROGRAM, "serve", str(self.file), str(port), *words], stdin=subprocess.DEVNULL, stdout=subprocess.PIPE)
+    def test_more_connections_than_descriptors(self):
+        server, port = self.started(str(2 * DESCRIPTORS), descriptors=DESCRIPTORS)
+        connected(port).socket.close()
+        # More than there are descriptors are open at once, and then the rest come and go.
+        opened = [connected(port).socket for _ in range(DESCRIPTORS)]
+        for connection in opened:
+            connection.close()
+        for _ in range(DESCRIPTORS - 1):
+            self.assertEqual(self.sat(port, [hello("x")], 1), CONNECTIONS[1][1])
+        words, status = self.ended(server)
+        told = words.splitlines()
+        left = 1 + DESCRIPTORS
+        self.assertEqual(told, [f"{number} Left" for number in range(1, left + 1)] + [f"{number} Refused BadKey" for number in range(left + 1, 2 * DESCRIPTORS + 1)])
+        self.assertEqual(status, 0)
+
+    def started(self, *words, descriptors=None):
+        port = free_port()
+        return self.started_at(port, *words, descriptors=descriptors), port
+
+    def started_at(self, port, *words, descriptors=None):
+        limit = None if descriptors is None else lambda: resource.setrlimit(resource.RLIMIT_NOFILE, (descriptors, descriptors))
+        words = [PROGRAM, "serve", str(self.file), str(port), *words]
+        server = subprocess.Popen(words, stdin=subprocess.DEVNULL, stdout=subprocess.PIPE, preexec_fn=limit)
         self.addCleanup(server.stdout.close)
         self.addCleanup(server.kill)
         return server
@@ -112,7 +165,7 @@ class Connections(unittest.TestCase):
     def sat(port, lines, count):
         """The first so many lines that a connection is sent which sends these lines, and then goes."""
         with connected(port).socket as connection, connection.makefile("rb") as answers:
-            connection.sendall("".join(f"{json.dumps(line)}\n" for line in lines).encode())
+            connection.sendall(written(*lines))
             return [answers.readline() for _ in range(count)]
 
 

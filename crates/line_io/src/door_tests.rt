@@ -2,12 +2,16 @@
 
 ghost use Rattle.std.specs.Prelude.{◌≤◌, ◌≡◌};
 
+use crate::tcp_ends::ends_of;
 use crate::*;
 use names::LineText;
 use std::alloc::Global;
+use std::cell::Cell;
+use std::io;
 use std::io::{Read, Write};
-use std::net::{Ipv4Addr, SocketAddr, TcpStream};
+use std::net::{Ipv4Addr, Net, SocketAddr, TcpListener, TcpStream};
 use std::process::Abort;
+use std::time::{Clock, Duration};
 
 // A door with so many connections, whose call of this number fails.
 fn door(rt: &impl Abort, alloc: Global, count: u8, failing: u64) -> MemDoor {
@@ -130,4 +134,59 @@ fn a_line_goes_each_way_over_tcp(rt: HostRuntime) {
     let mut answer = [0; 7];
     peer.read_exact(&mut answer).expect(&rt, "a read");
     assert_eq!(rt; answer, *b"welcome");
+    // The peer meets the end while both ends are still there.
+    output.close("Left");
+    assert!(rt; matches!(peer.read(&mut answer), Ok(0)));
+    input.close();
+    assert!(rt; output.write(b"more").is_err() && input.read(&mut answer).is_err());
+    assert!(rt; output.faults() == 1 && input.faults() == 1);
+}
+
+/// A clock that shows the seconds to which it was set.
+#[derive(Clone, Copy)]
+struct SetClock<'a> {
+    seconds: &'a Cell<u64>,
+}
+
+impl<'a> Clock for SetClock<'a> {
+    fn monotonic(&self) -> io::Result<Duration> {
+        Ok(Duration::from_secs(self.seconds.get()))
+    }
+
+    fn since_1970(&self) -> io::Result<Duration> {
+        self.monotonic()
+    }
+}
+
+// A peer, and the stream of its connection.
+fn connection<R: Net<Listener = TcpListener, Stream = TcpStream> + Abort>(
+    rt: &R,
+) -> (TcpStream, TcpStream) {
+    let address = SocketAddr::from((Ipv4Addr::LOCALHOST, 0));
+    let listener = TcpListener::bind(rt, address).expect(rt, "a listener");
+    let address = listener.local_addr().expect(rt, "an address");
+    let peer = TcpStream::connect(rt, address).expect(rt, "a peer");
+    let (stream, _) = listener.accept().expect(rt, "a connection");
+    (peer, stream)
+}
+
+#[test]
+fn a_first_line_has_a_minute(rt: HostRuntime) {
+    for (first, seconds, wanted) in [
+        ("he", 59, Ok(1)),
+        ("he", 60, Err(Failed)),
+        ("he\n", 60, Ok(1)),
+    ] {
+        let (mut peer, stream) = connection(&rt);
+        let clock = Cell::new(0);
+        let (mut input, _output) = ends_of(SetClock { seconds: &clock }, rt.alloc(), 1, stream);
+        let mut piece = [0; 8];
+        peer.write_all(first.as_bytes()).expect(&rt, "a write");
+        assert!(rt; input.read(&mut piece) == Ok(first.len()));
+        clock.set(seconds);
+        peer.write_all(b"x").expect(&rt, "a write");
+        assert!(rt;
+            input.read(&mut piece) == wanted && input.faults() == u64::from(wanted.is_err())
+        );
+    }
 }

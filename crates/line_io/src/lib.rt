@@ -34,6 +34,7 @@ mod doors;
 mod fault_plans;
 mod faults;
 mod files;
+mod host_notes;
 mod lines;
 mod list_spawners;
 mod memory_desks;

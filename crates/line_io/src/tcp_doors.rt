@@ -3,12 +3,13 @@ ghost use Rattle.std.specs.Prelude.{◌≡◌, ℕ};
 
 use crate::doors::Door;
 use crate::faults::{Failed, counted};
+use crate::host_notes::tell;
 use crate::tcp_ends::{TcpSink, TcpSource, ends_of};
 use std::alloc::Global;
-use std::io;
+use std::io::Eprint;
 use std::net::{Ipv4Addr, Net, SocketAddr, TcpListener, TcpStream};
-use std::thread;
 use std::time::{Clock, Duration};
+use std::{io, thread};
 
 // How many thousandths of a second the door waits where the system refuses a connection.
 const PAUSE: u64 = 50;
@@ -16,12 +17,15 @@ const PAUSE: u64 = 50;
 // What Linux tells of a listener that is none (EBADF), that doesn't listen (EINVAL) or is no socket (ENOTSOCK).
 const BROKEN: [i32; 3] = [9, 22, 88];
 
-/// A door at a port of this machine's own address, 127.0.0.1. It tells nothing of its connections.
+/// A door at a port of this machine's own address, 127.0.0.1. It tells nothing of its connections, but for what their ends tell the
+/// host on standard error.
 #[derive(Drop)]
 pub struct TcpDoor<R> {
     rt: R,
     alloc: Global,
     listener: Option<TcpListener>,
+    // How many connections it gave.
+    given: u64,
     faults: u64,
 }
 
@@ -32,6 +36,7 @@ impl<R> TcpDoor<R> {
             rt,
             alloc,
             listener: None,
+            given: 0,
             faults: 0,
         }
     }
@@ -61,10 +66,11 @@ fn accepted<R: Clock>(rt: &R, listener: &TcpListener) -> Option<TcpStream> {
     None
 }
 
-impl<R: Net<Listener = TcpListener, Stream = TcpStream> + Clock + Copy> Door for TcpDoor<R> {
+impl<R: Net<Listener = TcpListener, Stream = TcpStream> + Clock + Eprint + Copy> Door
+    for TcpDoor<R> {
     type In = TcpSource<R>;
 
-    type Out = TcpSink;
+    type Out = TcpSink<R>;
 
     ghost faults_of = { λ d. d.faults };
 
@@ -82,17 +88,19 @@ impl<R: Net<Listener = TcpListener, Stream = TcpStream> + Clock + Copy> Door for
         }
     }
 
-    fn next(&mut self) -> Result<Option<(TcpSource<R>, TcpSink)>, Failed> {
+    fn next(&mut self) -> Result<Option<(TcpSource<R>, TcpSink<R>)>, Failed> {
         if let Some(listener) = &self.listener
             && let Some(stream) = accepted(&self.rt, listener)
         {
-            return Ok(Some(ends_of(self.rt, self.alloc, stream)));
+            self.given = counted(self.given);
+            tell(&self.rt, self.given, "opened");
+            return Ok(Some(ends_of(self.rt, self.alloc, self.given, stream)));
         }
         self.faults = counted(self.faults);
         Err(Failed)
     }
 
-    fn give_back(&mut self, _input: TcpSource<R>, _output: TcpSink) {}
+    fn give_back(&mut self, _input: TcpSource<R>, _output: TcpSink<R>) {}
 
     fn faults(&self) -> u64 {
         self.faults

@@ -1,13 +1,14 @@
 //! The two ends of a connection over TCP.
-ghost use Rattle.std.specs.Prelude.{◌≡◌};
+ghost use Rattle.std.specs.Prelude.{◌≡◌, ◌≤◌, ◌<◌, length, IfSome};
 ghost use Rattle.std.specs.Io.{ReadsAtMost};
 
 use crate::faults::{Failed, counted};
+use crate::host_notes::{tell, tell_seat};
 use crate::sinks::Sink;
 use crate::sources::Source;
 use std::alloc::Global;
 use std::io;
-use std::io::{ErrorKind, Read, Write};
+use std::io::{Eprint, ErrorKind, Read, Write};
 use std::marker::Model;
 use std::net::{Shutdown, TcpStream};
 use std::sync::Arc;
@@ -44,15 +45,21 @@ impl<C> Model for TcpSource<C> {
     ghost view = { λ s. s.faults };
 }
 
-/// What a client is sent. It doesn't tell what it took.
+/// What a client is sent. It doesn't tell what it took. The host is told on standard error when the client sat down, and how its
+/// session ended.
 #[derive(Drop)]
-pub struct TcpSink {
+pub struct TcpSink<R> {
+    rt: R,
+    // The connection's, in order of arrival from 1 on.
+    number: u64,
     stream: Shared,
+    // Whether something was written.
+    began: bool,
     faults: u64,
 }
 
 // Contracts see the count of its faults.
-impl Model for TcpSink {
+impl<R> Model for TcpSink<R> {
     ghost use Rattle.std.specs.Prelude.{ℕ};
 
     ghost Value = { ℕ };
@@ -60,23 +67,30 @@ impl Model for TcpSink {
     ghost view = { λ s. s.faults };
 }
 
-/// The two ends of a connection that began just now. Where there is no memory for them, it ends, and each read and write fails.
-pub(crate) fn ends_of<C: Clock>(
-    clock: C,
+/// The two ends of the connection of this number, which began just now. Where there is no memory for them, it ends, and each read
+/// and write fails.
+pub(crate) fn ends_of<R: Clock + Copy>(
+    rt: R,
     alloc: Global,
+    number: u64,
     stream: TcpStream,
-) -> (TcpSource<C>, TcpSink) {
+) -> (TcpSource<R>, TcpSink<R>) {
     let stream = Arc::new(alloc, stream).ok();
-    let other = stream.as_ref().and_then(|stream| Arc::try_clone(stream).ok());
+    let other = stream
+        .as_ref()
+        .and_then(|stream| Arc::try_clone(stream).ok());
     let source = TcpSource {
-        since: Instant::now(&clock).ok(),
-        clock,
+        since: Instant::now(&rt).ok(),
+        clock: rt,
         stream,
         goes_on: true,
         faults: 0,
     };
     let sink = TcpSink {
+        rt,
+        number,
         stream: other,
+        began: false,
         faults: 0,
     };
     (source, sink)
@@ -165,26 +179,43 @@ impl<C: Clock> Source for TcpSource<C> {
     }
 }
 
-impl Sink for TcpSink {
+impl<R: Eprint> TcpSink<R> {
+    fn sent(&mut self, piece: &[u8]) -> Option<usize>
+        ensures bound { IfSome result (λ n. n ≤ length piece.now) }
+        ensures progress { IfSome result (λ n. 0 < length piece.now → 0 < n) }
+        ensures count { self.new ≡ self.old }
+    {
+        let mut stream = &**self.stream.as_ref()?;
+        let count = stream.write(piece).ok()?;
+        if count == 0 && !piece.is_empty() {
+            return None;
+        }
+        if !self.began {
+            self.began = true;
+            tell_seat(&self.rt, self.number, piece);
+        }
+        Some(count)
+    }
+}
+
+impl<R: Eprint> Sink for TcpSink<R> {
     ghost faults_of = { λ s. s };
 
     fn write(&mut self, piece: &[u8]) -> Result<usize, Failed> {
-        if let Some(stream) = &self.stream {
-            let mut stream = &**stream;
-            if let Ok(count) = stream.write(piece)
-                && (count > 0 || piece.is_empty())
-            {
-                return Ok(count);
+        match self.sent(piece) {
+            Some(count) => Ok(count),
+            None => {
+                self.faults = counted(self.faults);
+                Err(Failed)
             }
         }
-        self.faults = counted(self.faults);
-        Err(Failed)
     }
 
-    fn close(&mut self) {
+    fn close(&mut self, word: &str) {
         if let Some(stream) = self.stream.take() {
-            let _told = stream.shutdown(Shutdown::Write);
+            let _over = stream.shutdown(Shutdown::Write);
         }
+        tell(&self.rt, self.number, word);
     }
 
     fn faults(&self) -> u64 {

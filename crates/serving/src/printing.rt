@@ -10,7 +10,8 @@ use line_io::{Sink, write_whole};
 use seats::JoinRefusal;
 use session::Ended;
 
-fn text_of(word: Word) -> &'static str
+/// The word that is told of a connection.
+pub(crate) fn text_of(word: Word) -> &'static str
     ensures { result.now ≡ text_of_lem word }
 {
     match word {

@@ -5,10 +5,13 @@ ghost use Rattle.turn_lock.specs.Pass.{IsPassOf};
 ghost use Rattle.campaign_law.specs.Law.{IsOpening};
 ghost use Rattle.serving.specs.Runs.{HasRun, IsRunOf};
 
+use crate::guests::Word;
+use crate::printing::text_of;
 use crate::sittings::Sitting;
 use line_io::{MemSink, MemSource, Sink, Source, TcpSink, TcpSource, Work};
 use session::{Sat, Table, serve_session};
 use std::alloc::Global;
+use std::io::Eprint;
 use std::sync::Wait;
 use std::thread::Threads;
 use std::time::Clock;
@@ -56,7 +59,7 @@ impl SessionSource<MemSink> for MemSource {
 }
 
 // It tells nothing of its bytes.
-impl<C: Clock + Send> SessionSource<TcpSink> for TcpSource<C> {
+impl<C: Clock + Eprint + Send> SessionSource<TcpSink<C>> for TcpSource<C> {
     ghost use Rattle.std.specs.Prelude.{None};
 
     fn serve<R: Threads + Wait + Sync>(
@@ -66,7 +69,7 @@ impl<C: Clock + Send> SessionSource<TcpSink> for TcpSource<C> {
         reader: Pass<Table>,
         writer: Pass<Table>,
         input: &mut TcpSource<C>,
-        output: &mut TcpSink,
+        output: &mut TcpSink<C>,
     ) -> Sat
         requires sync { IsSync R.row }
         requires passes { IsPassOf hall.now reader × IsPassOf hall.now writer }
@@ -85,7 +88,7 @@ impl<R: Threads + Wait + Sync + Drop, I: SessionSource<O> + Drop, O: Sink + Drop
 
     ghost done = { λ s r. IsRunOf I.left O.written I.faults_of O.faults_of s r };
 
-    /// Serves the session over its two ends, closes them, and gives them back.
+    /// Serves the session over its two ends, closes them, its output with the word of how it ended, and gives them back.
     fn run(self) -> ((I, O), Sat) {
         let Sitting {
             rt,
@@ -97,7 +100,7 @@ impl<R: Threads + Wait + Sync + Drop, I: SessionSource<O> + Drop, O: Sink + Drop
             mut output,
         } = self;
         let sat = I::serve(&rt, alloc, &hall, reader, writer, &mut input, &mut output);
-        output.close();
+        output.close(text_of(Word::Ended(sat.ended)));
         input.close();
         ((input, output), sat)
     }

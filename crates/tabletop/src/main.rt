@@ -19,7 +19,9 @@ mod tests;
 mod top;
 
 pub use endings::Ended;
-use line_io::{CallSpawner, Failed, FileDesk, ReaderSource, TcpDoor, TcpSink, TcpSource, WriterSink};
+use line_io::{
+    CallSpawner, Failed, FileDesk, ReaderSource, TcpDoor, TcpSink, TcpSource, WriterSink,
+};
 use names::Memory;
 pub use script_play::play;
 pub use serve::tabletop_serve;
@@ -51,9 +53,9 @@ fn asks_to_serve(words: &[String]) -> bool {
 }
 
 // A session over TCP, and a thread that serves one.
-type TcpSitting<R> = Sitting<R, TcpSource<R>, TcpSink>;
+type TcpSitting<R> = Sitting<R, TcpSource<R>, TcpSink<R>>;
 
-type TcpThread<R> = SittingThread<R, TcpSource<R>, TcpSink>;
+type TcpThread<R> = SittingThread<R, TcpSource<R>, TcpSink<R>>;
 
 fn main(rt: HostRuntime) -> ExitCode {
     let mut desk = FileDesk::new(&rt, rt.alloc());
