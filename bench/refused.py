@@ -4,8 +4,9 @@ while it serves, one receive or one send, each in turn, fails.
 A play has to print a front, by whole lines, of what it prints with ample memory, then `tabletop: out of memory`, and end with
 status 6; or to print all and end with 0, where the memory was not needed for the answer. A server serves three connections side by
 side: each has to get a front of what it gets without a fault, by whole lines unless a send failed, and the words that are printed
-have to be those of a run without a fault but for one: `Memory` for the session whose own growth was refused, or `busy` where it could
-not begin; `ReadFault` or `WriteFault` for the one whose receive or send failed. Where each send takes one byte, nothing changes.
+have to be those of a run without a fault but for one: `Memory` for the session whose own growth was refused, `busy` where it could
+not begin, or `ReadFault` where the connection itself had none; `ReadFault` or `WriteFault` for the one whose receive or send failed.
+Where each send takes one byte, nothing changes.
 
     python3 bench/refused.py PROGRAM FOLDER         FOLDER has refuse.so, and is written to
 """
@@ -182,7 +183,8 @@ def served(**faults):
     """What each connection got, what the server printed, and its status; nothing where a connection was held up."""
     port = free_port()
     words = [PROGRAM, "serve", CAMPAIGN, str(port), str(len(CONNECTIONS))]
-    with subprocess.Popen(words, stdin=subprocess.DEVNULL, stdout=subprocess.PIPE, env=faulty(**faults)) as server:
+    quiet = {"stdin": subprocess.DEVNULL, "stderr": subprocess.DEVNULL}
+    with subprocess.Popen(words, **quiet, stdout=subprocess.PIPE, env=faulty(**faults)) as server:
         try:
             texts = answers(port, server)
         except TimeoutError:
@@ -215,7 +217,7 @@ def is_served(given, whole, words):
 
 
 # The calls that fail in turn while connections are served, and the words for a session that meets one.
-FAULTS = {"allocation": ("REFUSE", ["Memory", "busy"]), "receive": ("FAIL_RECEIVE", ["ReadFault"]), "send": ("FAIL_SEND", ["WriteFault"])}
+FAULTS = {"allocation": ("REFUSE", ["Memory", "busy", "ReadFault"]), "receive": ("FAIL_RECEIVE", ["ReadFault"]), "send": ("FAIL_SEND", ["WriteFault"])}
 
 
 def serve_in_turn():

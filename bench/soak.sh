@@ -6,8 +6,8 @@
 # The silence: a session ends in each way that a client can bring about, and then all connections that are left of the count, 1,000
 # about, say nothing. It takes a minute for each 250 of them (the system gives the server no more at once), about five in all.
 #   bench/soak.sh [PROGRAM]
-# PROGRAM is crates/tabletop/out/tabletop unless given; DESCRIPTORS=N gives it so many instead of 256. It needs Linux and Python 3.9 or
-# later. Checked are:
+# PROGRAM is crates/tabletop/out/tabletop unless given; DESCRIPTORS=N gives it so many instead of 256, and
+# PARTS=silence runs that alone. It needs Linux and Python 3.9 or later. Checked are:
 #   - each connection ends with one of the words of docs/PROTOCOL.md, and the program with status 0;
 #   - whoever doesn't read is cut: while its connection is still open, its seat takes a new hello;
 #   - for each session that reads: `n` rises by one from reply to reply; the game master's messages come each once, in order and without
@@ -290,10 +290,11 @@ def served(folder):
 
 
 def main():
+    parts = {"evening": evening, "silence": silence}
     # (each silent connection is a descriptor here too)
     most = resource.getrlimit(resource.RLIMIT_NOFILE)[1]
     resource.setrlimit(resource.RLIMIT_NOFILE, (most, most))
-    for part in (evening, silence):
+    for part in [parts[name] for name in os.environ.get("PARTS", " ".join(parts)).split()]:
         begun, told = time.time(), collections.Counter()
         with tempfile.TemporaryDirectory() as folder:
             MADE.clear()

@@ -22,7 +22,7 @@ sys.path.insert(0, str(HERE))
 from test_table import connected, free_port  # noqa: E402
 
 USAGE = "tabletop: usage: play FILE [--end], check FILE, drill N LINES, serve FILE PORT COUNT [--end]\n"
-# Seconds; a session ends some milliseconds after its client is gone.
+# Seconds, within which a session that is over ends its client's stream.
 MOMENT = 1.0
 FULL = b'{"full":{"lights":{},"maps":[],"sights":{},"tokens":[]}}\n'
 
@@ -69,6 +69,18 @@ def last_line(connection):
         lines = answers.readlines()
     return lines[-1] if lines else b""
 
+# What the host is told of these connections.
+NOTES = [
+    "connection 1 opened",
+    "connection 1 sat down at seat 1",
+    "connection 1 Left",
+    "connection 2 opened",
+    "connection 2 Refused BadKey",
+    "connection 3 opened",
+    "connection 3 sat down at seat 1",
+    "connection 3 Left",
+]
+
 
 @unittest.skipUnless(os.access(PROGRAM, os.X_OK), "the program isn't built")
 class Connections(unittest.TestCase):
@@ -77,16 +89,18 @@ class Connections(unittest.TestCase):
         self.addCleanup(folder.cleanup)
         self.file = pathlib.Path(folder.name) / "table.json"
         self.file.write_text(TEXT, encoding="utf-8")
+        self.notes = self.file.with_name("notes")
 
     def test_three_connections_one_after_another(self):
         for words, ending in ((), ""), (("--end",), TEXT + "\n"):
             with self.subTest(words=words):
                 server, port = self.started("3", *words)
                 for lines, wanted in CONNECTIONS:
-                    self.assertEqual(self.sat(port, lines, len(wanted)), wanted)
-                    # The seat is free once the session has ended, which nothing tells to those who come after.
-                    time.sleep(MOMENT)
+                    self.assertEqual(self.sat(port, lines), wanted)
                 self.assertEqual(self.ended(server), ("1 Left\n2 Refused BadKey\n3 Left\n" + ending, 0))
+                # A session is noted as over behind the end of its stream, when the next may have begun.
+                notes = sorted(self.notes.read_text(encoding="ascii").splitlines(), key=lambda line: line.split()[1])
+                self.assertEqual(notes, NOTES)
 
     def test_words_that_are_none(self):
         for count in "0", "1025", "03":
@@ -111,10 +125,11 @@ class Connections(unittest.TestCase):
 
     def test_an_output_that_takes_nothing(self):
         port = free_port()
+        words = [PROGRAM, "serve", str(self.file), str(port), "1"]
         with open("/dev/full", "wb") as full:
-            server = subprocess.Popen([PROGRAM, "serve", str(self.file), str(port), "1"], stdin=subprocess.DEVNULL, stdout=full)
+            server = subprocess.Popen(words, stdin=subprocess.DEVNULL, stdout=full, stderr=subprocess.DEVNULL)
             self.addCleanup(server.kill)
-            self.sat(port, [hello("a")], 2)
+            self.sat(port, [hello("a")])
             self.assertEqual(server.wait(timeout=60), 5)
 
     def test_whose_session_is_over_sees_the_end(self):
@@ -138,7 +153,7 @@ class Connections(unittest.TestCase):
         for connection in opened:
             connection.close()
         for _ in range(DESCRIPTORS - 1):
-            self.assertEqual(self.sat(port, [hello("x")], 1), CONNECTIONS[1][1])
+            self.assertEqual(self.sat(port, [hello("x")]), CONNECTIONS[1][1])
         words, status = self.ended(server)
         told = words.splitlines()
         left = 1 + DESCRIPTORS
@@ -152,7 +167,8 @@ class Connections(unittest.TestCase):
     def started_at(self, port, *words, descriptors=None):
         limit = None if descriptors is None else lambda: resource.setrlimit(resource.RLIMIT_NOFILE, (descriptors, descriptors))
         words = [PROGRAM, "serve", str(self.file), str(port), *words]
-        server = subprocess.Popen(words, stdin=subprocess.DEVNULL, stdout=subprocess.PIPE, preexec_fn=limit)
+        with open(self.notes, "wb") as notes:
+            server = subprocess.Popen(words, stdin=subprocess.DEVNULL, stdout=subprocess.PIPE, stderr=notes, preexec_fn=limit)
         self.addCleanup(server.stdout.close)
         self.addCleanup(server.kill)
         return server
@@ -162,11 +178,12 @@ class Connections(unittest.TestCase):
         return server.stdout.read().decode(), server.wait(timeout=60)
 
     @staticmethod
-    def sat(port, lines, count):
-        """The first so many lines that a connection is sent which sends these lines, and then goes."""
+    def sat(port, lines):
+        """What a connection is sent that sends these lines and nothing more, up to the end of the stream: its session is over then."""
         with connected(port).socket as connection, connection.makefile("rb") as answers:
             connection.sendall(written(*lines))
-            return [answers.readline() for _ in range(count)]
+            connection.shutdown(socket.SHUT_WR)
+            return answers.readlines()
 
 
 if __name__ == "__main__":

@@ -56,7 +56,7 @@ class SpentSeats(unittest.TestCase):
 
     def test_a_session(self):
         port = free_port()
-        server = subprocess.Popen([PROGRAM, "serve", str(self.file), str(port), "2"], stdin=subprocess.DEVNULL, stdout=subprocess.PIPE)
+        server = subprocess.Popen([PROGRAM, "serve", str(self.file), str(port), "2"], stdin=subprocess.DEVNULL, stdout=subprocess.PIPE, stderr=subprocess.DEVNULL)
         self.addCleanup(server.stdout.close)
         self.addCleanup(server.kill)
         # The hello's reply and full line, and a reply and a message for each line behind it.

@@ -64,7 +64,7 @@ class Evening(unittest.TestCase):
     def test_three_clients_see_what_a_look_gives(self):
         port = free_port()
         words = [PROGRAM, "serve", str(EVENING / "evening.json"), str(port), "3", "--end"]
-        server = subprocess.Popen(words, stdin=subprocess.DEVNULL, stdout=subprocess.PIPE)
+        server = subprocess.Popen(words, stdin=subprocess.DEVNULL, stdout=subprocess.PIPE, stderr=subprocess.DEVNULL)
         self.addCleanup(server.stdout.close)
         self.addCleanup(server.kill)
         players = {}
