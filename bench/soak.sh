@@ -362,7 +362,11 @@ def ends(word, made):
 
 def connection(port, *parts):
     """A connection that sends these bytes."""
-    made = socket.create_connection(("127.0.0.1", port), timeout=120)
+    made = socket.socket()
+    # (with less room than a segment takes, the system sends what waits for a client that reads again only after minutes)
+    made.setsockopt(socket.SOL_SOCKET, socket.SO_RCVBUF, 1 << 18)
+    made.settimeout(120)
+    made.connect(("127.0.0.1", port))
     MADE["now"] += 1
     made.sendall(b"".join(parts))
     return made
