@@ -1,0 +1,4 @@
+// Where the page begins.
+import { Table } from "./table.js";
+
+export const table = new Table();
