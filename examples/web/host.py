@@ -4,8 +4,8 @@
     host.py tower.json                      on this machine alone; for friends elsewhere:
     host.py tower.json --listen 0.0.0.0:8443 --cert chain.pem --key key.pem --page https://host.example:8443
 
-Ctrl-C ends the evening: everybody's connection is closed, and the campaign as it is then is written beside the
-old one. The same happens where the terminal is closed, and where the server or the page stops.
+Ctrl-C ends the evening: everybody's connection is closed, and the campaign as it is then is written beside
+the old one. The same happens where the terminal is closed, and where the server or the page stops.
 """
 
 from __future__ import annotations

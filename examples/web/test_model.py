@@ -1,6 +1,6 @@
 """The page's model of a seat (page/seat.js) against the terminal client's (examples/client.py): recorded and
-random evenings, each seat's lines, and after each line what is shown and said in words. It needs node; without
-it, it is skipped. EVENINGS=100 plays as many.
+random evenings, each seat's lines, and after each line what is shown and said in words. It needs node;
+without it, it is skipped. EVENINGS=100 plays as many.
 
     python3 -m unittest test_model
 """
@@ -156,8 +156,8 @@ class Model(unittest.TestCase):
             marked = lines[: len(SEATS)] + [it for line in lines[len(SEATS) :] for it in (line, mark)]
             sent = [[line for seat, line in marked if seat == number] for number in SEATS]
             [(compared, some)] = self.by_page([{"printed": played(script_of(marked)), "sent": sent}])
-            self.assertGreater(compared, 300)
-            self.assertGreater(some, 50)
+            self.assertGreater(compared, 100)
+            self.assertGreater(some, 10)
 
     def test_odd_lines(self):
         for name, lines in ODD.items():

@@ -1,6 +1,6 @@
 """Two browsers at one table: the game master and Mara play with mouse and keyboard against the built program,
-through the gateway. It needs chromium, chromium-driver, python3-selenium and python3-aiohttp, and the built program
-(TABLETOP names another one); without them, it is skipped. SHOTS=FOLDER keeps pictures of what was played.
+through the gateway. It needs chromium, chromium-driver, python3-selenium, python3-aiohttp and the program;
+without them it is skipped. SHOTS=FOLDER keeps pictures of what was played.
 
     python3 -m unittest test_page
 """

@@ -1,6 +1,6 @@
 """Random evenings played over the gateway and the built program: what each seat's browser is sent is what
-`play` prints for that seat, and the campaign is the same at the end. It needs python3-aiohttp and the program;
-without them it is skipped. EVENINGS=100 plays as many.
+`play` prints for that seat, and the campaign is the same at the end. It needs python3-aiohttp and the
+program; without them it is skipped. EVENINGS=100 plays as many.
 
     python3 -m unittest test_transcripts
 """
