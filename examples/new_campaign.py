@@ -8,7 +8,7 @@ A map file has rows of cells, then, behind an empty line, what stands on them:
     ############        #       rock: walls that block sight and movement stand between it and other cells
     #ssssss#gggg        a-z .   ground by its letter
     #sGsssss+g1g        +       a shut door, with rock on two opposite sides
-    #ssssss#gg2g        1-9     where that player begins, on the ground of the cell beside it
+    #ssssss#gg2g        1-9     where that player begins, on the ground of the nearest cell
     ############        A-Z     a token, as told below
 
     G Goblin hp=7 hit=4         hidden at first; numbers and words are secret properties
@@ -33,6 +33,7 @@ LIGHTS = {"candle": 2, "torch": 4, "lantern": 6}
 SIGHTS = {"human": [30, 0, 2], "keen": [40, 0, 3], "dark": [30, 8, 2]}
 LAYERS = ("token", "hidden", "object", "background")
 ROCK, DOOR, ROCK_LETTER = "#", "+", "x"
+GROUND = re.compile(r"[a-z.]")
 OWN_FIELDS = ("size", "layer", "light")  # the others are properties
 LONGEST_SIDE, MOST_MAPS, MOST_WALLS, LONGEST_NAME, LONGEST_VALUE, MOST_PLAYERS = 96, 8, 2048, 40, 200, 32
 
@@ -106,16 +107,20 @@ def walls_of(rows: Rows) -> list[Wall]:
 
 # ---- ground and tokens
 def ground_of(rows: Rows) -> Rows:
-    """The letters; a cell on which something stands has that of the cell before it."""
-    found = []
-    for row in rows:
-        letter = next((char for char in row if re.match(r"[a-z.]", char)), ".")
-        letters = ""
-        for char in row:
-            letter = char if re.match(r"[a-z.]", char) else letter
-            letters += ROCK_LETTER if char == ROCK else letter
-        found.append(letters)
-    return found
+    """The letters of ground, and that of rock."""
+    return ["".join(letter_at(rows, x, y) for x in range(len(row))) for y, row in enumerate(rows)]
+
+
+def letter_at(rows: Rows, x: int, y: int) -> str:
+    """A cell on which something stands has the letter of the nearest ground in its row or column."""
+    char, column = rows[y][x], "".join(row[x] for row in rows)
+    if char == ROCK:
+        return ROCK_LETTER
+    if GROUND.match(char):
+        return char
+    ways = (rows[y][:x][::-1], rows[y][x + 1 :], column[:y][::-1], column[y + 1 :])
+    found = [ground for way in ways if (ground := GROUND.search(way))]
+    return min(found, key=lambda ground: ground.start())[0] if found else "."
 
 
 @dataclass
@@ -247,9 +252,7 @@ def main(words: list[str]) -> int:
     except (BadMap, OSError) as fault:
         print(f"no campaign: {fault}", file=sys.stderr)
         return 1
-    print(
-        f"{given.out} has all keys and all dice to come: keep it to yourself. Each key is for one person alone:"
-    )
+    print(f"{given.out} has all keys and dice to come: keep it to yourself. A key is for one person alone:")
     for seat, (name, key) in enumerate(zip(["the game master", *players], keys)):
         print(f"  seat {seat}, {name}: {key}")
     for name in campaign.without_token():

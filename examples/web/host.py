@@ -20,6 +20,7 @@ import signal
 import socket
 import subprocess
 import sys
+import threading
 import time
 from dataclasses import dataclass
 from urllib.parse import urlencode
@@ -39,13 +40,14 @@ def free_port() -> int:
         return door.getsockname()[1]
 
 
-def started(words: list[str]) -> subprocess.Popen[str]:
+def started(words: list[str], stderr: int | None = None) -> subprocess.Popen[str]:
     """A program in a session of its own: Ctrl-C is for this one, which then ends the others in order."""
     return subprocess.Popen(
         words,
         start_new_session=True,
         stdin=subprocess.DEVNULL,
         stdout=subprocess.PIPE,
+        stderr=stderr,
         text=True,
         encoding="utf-8",
     )
@@ -58,13 +60,15 @@ class Evening:
     port: int
     server: subprocess.Popen[str]
     gateway: subprocess.Popen[str] | None = None
+    is_over: bool = False
 
     @classmethod
     def begin(cls, given: argparse.Namespace) -> Evening:
         """Begins both, and waits until they listen."""
         port = free_port()
         words = [given.program, "serve", str(given.campaign), str(port), str(MOST_CONNECTIONS), "--end"]
-        evening = cls(port, started(words))
+        evening = cls(port, started(words, subprocess.PIPE))
+        threading.Thread(target=evening.hand_on_notes, daemon=True).start()
         try:
             evening.await_server()
             evening.open_page(given)
@@ -72,6 +76,13 @@ class Evening:
             evening.give_up()
             raise
         return evening
+
+    def hand_on_notes(self) -> None:
+        """What the server notes of its connections, but for those by which the evening is ended."""
+        assert self.server.stderr is not None
+        for line in self.server.stderr:
+            if not self.is_over:
+                sys.stderr.write(line)
 
     def await_server(self) -> None:
         """The server may have to be built first."""
@@ -118,12 +129,15 @@ class Evening:
 
     def campaign(self) -> str:
         """Ends both. The server prints the campaign once all connections that it takes were used up."""
-        assert self.gateway is not None
+        assert self.gateway is not None and self.server.stdout is not None
+        self.is_over = True
         self.gateway.terminate()
         self.gateway.wait()
-        while self.server.poll() is None and self.knock():
-            pass
-        lines = self.server.communicate(timeout=120)[0].splitlines()
+        for _ in range(MOST_CONNECTIONS):
+            if self.server.poll() is not None or not self.knock():
+                break
+        lines = self.server.stdout.read().splitlines()
+        self.server.wait()
         if self.server.returncode != 0 or not lines or not lines[-1].startswith('{"format"'):
             raise NoEvening(f"no campaign was written (status {self.server.returncode})")
         return lines[-1]
@@ -192,7 +206,7 @@ def main(words: list[str]) -> int:
         why = evening.wait()
         heed_signals(signal.SIG_IGN)  # what is to be kept is kept
         file = keep(given.campaign, evening.campaign())
-    except (NoEvening, OSError, subprocess.TimeoutExpired) as fault:
+    except (NoEvening, OSError) as fault:
         print(f"{why}: {fault}", file=sys.stderr)
         return 1
     except KeyboardInterrupt:

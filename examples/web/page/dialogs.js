@@ -21,7 +21,7 @@ export function askTypes(table) {
   const { lights, sights } = table.seat.view;
   const known = Object.entries(lights).map(([name, radius]) => `light ${name}: ${radius} cells`);
   for (const [name, [range, night, mult]] of Object.entries(sights))
-    known.push(`sight ${name}: ${range} cells by day, ${night} at night, lights by ${mult}/2`);
+    known.push(`sight ${name}: ${range} cells by day, ${night} in the dark, lights by ${mult}/2 of it`);
   const more = [
     button("A light…", () => askLight(table)),
     button("A sight…", () => askSight(table)),

@@ -48,7 +48,7 @@ export class Table {
 
   /**
    * Reads a link of the form /#seat=1&key=..: what is behind the # is never sent to a server, and goes from
-   * the address at once. For a page that is loaded again the browser keeps both, for this tab while it is open.
+   * the address at once. For a page that is loaded again the browser keeps both, as long as its tab is open.
    */
   readLink() {
     const words = new URLSearchParams(location.hash.slice(1) || sessionStorage.getItem(LAST_SEAT));
