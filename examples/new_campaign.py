@@ -237,7 +237,8 @@ def write_new(file: pathlib.Path, text: str) -> None:
 
 
 def main(words: list[str]) -> int:
-    parser = argparse.ArgumentParser(description="A campaign from maps drawn as text.")
+    form = argparse.RawDescriptionHelpFormatter
+    parser = argparse.ArgumentParser(description=__doc__, formatter_class=form)
     parser.add_argument(
         "out", type=pathlib.Path, help="the file to be written; one that is there is left alone"
     )

@@ -20,6 +20,7 @@ import signal
 import socket
 import subprocess
 import sys
+import tempfile
 import threading
 import time
 from dataclasses import dataclass
@@ -160,8 +161,15 @@ def links(text: str, page: str) -> list[str]:
 
 
 def keep(campaign: pathlib.Path, text: str) -> pathlib.Path:
-    """Writes the campaign into a new file beside the old one, which nobody else may read."""
-    file = campaign.with_name(f"{STAMP.sub('', campaign.stem)}-{time.strftime('%Y%m%d-%H%M%S')}.json")
+    """Writes the campaign into a new file that nobody else may read, beside the old one where that can be."""
+    name = f"{STAMP.sub('', campaign.stem)}-{time.strftime('%Y%m%d-%H%M%S')}.json"
+    try:
+        return write_new(campaign.with_name(name), text)
+    except OSError:
+        return write_new(pathlib.Path(tempfile.gettempdir()) / name, text)
+
+
+def write_new(file: pathlib.Path, text: str) -> pathlib.Path:
     with open(os.open(file, os.O_WRONLY | os.O_CREAT | os.O_EXCL, 0o600), "w", encoding="utf-8") as out:
         out.write(text + "\n")
     return file

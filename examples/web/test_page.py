@@ -18,16 +18,16 @@ import unittest
 
 from evenings import EVENING, HERE, KEYS, PROGRAM
 from evenings import free_port, lines_to, listens, needs_program, played, wait_for
-from test_host import aiohttp
 
 try:
+    import aiohttp
     from selenium import webdriver
     from selenium.webdriver.common.action_chains import ActionChains
     from selenium.webdriver.common.by import By
     from selenium.webdriver.common.keys import Keys
     from selenium.webdriver.support.ui import Select
 except ImportError:
-    webdriver = None
+    aiohttp = webdriver = None
 
 DRIVER = "/usr/bin/chromedriver"
 SHOTS = os.environ.get("SHOTS")

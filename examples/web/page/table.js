@@ -64,9 +64,11 @@ export class Table {
     this.seat = seat;
     this.hello = { do: "hello", seat: number, key };
     byName("why").textContent = "";
+    // What a connection that was given up still tells isn't heard.
     const ifHere = (does) => (given) => this.seat === seat && does(given);
+    this.connection?.close();
     this.connection = new Connection({
-      opened: () => this.send(this.hello),
+      opened: ifHere(() => this.send(this.hello)),
       came: ifHere((line) => seat.take(line).forEach((event) => this.happened(event))),
       closed: ifHere((words) => this.closed(words)),
     });
