@@ -22,7 +22,7 @@ except ImportError:
     aiohttp = None
 
 SEATS = range(len(KEYS))
-MANY_LINES = 120
+MANY_LINES = 60
 
 
 class Browser:
