@@ -16,7 +16,8 @@ use Rattle.serving.specs.declared.guests.Stop.{Stop}
 use Rattle.serving.specs.declared.guests.Stop.TheVariants as stops
 use Rattle.turn_lock.specs.Pass.{UsherState, PassState}
 use Rattle.turn_lock.proofs.Prefixes.{prefix_self, prefix_trans}
-use Rattle.serving.specs.Guests.{Takes, StaysAs, HasSplit, CanSplit, came_for, IsGuestOf, one_busy, one_sitting, busy_in, sitting_in, Admits, Seats, HasTaken, HasTakenOne, HasLostOne}
+use Rattle.serving.specs.Alone.{AreNewPasses}
+use Rattle.serving.specs.Guests.{GotNewPasses, Takes, StaysAs, HasSplit, CanSplit, came_for, IsGuestOf, one_busy, one_sitting, busy_in, sitting_in, Admits, Seats, HasTaken, HasTakenOne, HasLostOne}
 
 module _ {R In Out Task : Type 0} (work_of : Task → Sitting R In Out) (hall : HallState World) where
   pub admits_seated : (ends : In × Out) (came : Admission Task In Out) (to_come left : Option (List (In × Out))) (away_before away_after started_before started_after : Option ℕ) (faults_before faults_after : ℕ)
@@ -180,6 +181,26 @@ module _ {R In Out Task : Type 0} (work_of : Task → Sitting R In Out) (hall : 
   takes_none count guests to_come away started faults none =
       subst (λ items. Takes work_of hall stops.Memory count items to_come to_come away away started started faults faults) (sym none)
       (record { lost = []; taken = took_none to_come away started faults; stops = (omega arith, omega arith) })
+
+module _ {R In Out Task : Type 0} (work_of : Task → Sitting R In Out) where
+  -- further numbers may be given
+  pub new_passes_below : (low high higher : ℕ) (guests : List (Guest Task In Out)) → GotNewPasses work_of low guests high → high ≤ higher → GotNewPasses work_of low guests higher
+  new_passes_below low high higher [] new le = omega (arith, new, le)
+  new_passes_below low high higher (Busy ends ∷ guests) new le = new_passes_below low high higher guests new le
+  new_passes_below low high higher (Sits task ∷ guests) new le = (new.0, new_passes_below (suc (work_of task).writer.number) high higher guests new.1 le)
+
+  from_lower : (lower low : ℕ) (reader writer : PassState Entry World) → lower ≤ low → AreNewPasses low reader writer → AreNewPasses lower reader writer
+  from_lower lower low reader writer le new = record { reader_new = new.reader_new; writer_new = new.writer_new; from_low = let from = new.from_low in omega (arith, le, from); next = new.next }
+
+  new_passes_from : (lower low high : ℕ) (guests : List (Guest Task In Out)) → lower ≤ low → GotNewPasses work_of low guests high → GotNewPasses work_of lower guests high
+  new_passes_from lower low high [] le new = omega (arith, le, new)
+  new_passes_from lower low high (Busy ends ∷ guests) le new = new_passes_from lower low high guests le new
+  new_passes_from lower low high (Sits task ∷ guests) le new = (from_lower lower low (work_of task).reader (work_of task).writer le new.0, new.1)
+
+  pub new_passes_more : (low mid high : ℕ) (guests : List (Guest Task In Out)) (guest : Guest Task In Out) → GotNewPasses work_of low guests mid → GotNewPasses work_of mid (guest ∷ []) high → GotNewPasses work_of low (guests ++ guest ∷ []) high
+  new_passes_more low mid high [] guest new one = new_passes_from low mid high (guest ∷ []) new one
+  new_passes_more low mid high (Busy ends ∷ guests) guest new one = new_passes_more low mid high guests guest new one
+  new_passes_more low mid high (Sits task ∷ guests) guest new one = (new.0, new_passes_more (suc (work_of task).writer.number) mid high guests guest new.1 one)
 
 module _ (hall : HallState World) where
   pub split_none : (p : PassState Entry World) (u : UsherState World) → CanSplit hall p u → HasSplit hall 0 p p u u

@@ -22,7 +22,7 @@ use Rattle.serving.specs.declared.guests.Guest.{Guest}
 use Rattle.serving.specs.declared.guests.Guest.TheVariants.{Sits}
 use Rattle.serving.specs.declared.guests.Word.{Word}
 use Rattle.serving.specs.declared.guests.Word.TheVariants as words
-use Rattle.serving.specs.Fates.{Fate, busy, sat, Became, AllBecame, HoldsIn, ends_of, word_of, line_of, lines_from, IsPrinted, PrintsMore, GathersOne, HasGathered}
+use Rattle.serving.specs.Fates.{Fate, busy, sat, Became, AllBecame, HoldsIn, own_of, owns_of, ends_of, word_of, line_of, lines_from, IsPrinted, PrintsMore, GathersOne, HasGathered}
 use Rattle.serving.proofs.PrintedLines.{printed_none, prints_on}
 
 -- a run of a session leaves its passes its hall's
@@ -36,22 +36,23 @@ append_nothing None = refl
 append_nothing (Some all) = ap Some (sym (append-nil all))
 
 module _ {R In Out Task : Type 0} (work_of : Task → Sitting R In Out) (Done : Sitting R In Out → (In × Out) × Sat → Type 0) where
-  pub gathers_busy : (guest : Guest Task In Out) (ends : In × Out) (G : List Entry) (ended : Option (List (In × Out))) → Became work_of guest (busy ends) → GathersOne work_of Done guest words.Busy G ended ended
-  gathers_busy guest ends G ended became = record { fate = busy ends; became = became; holds = tt; ended = append_nothing ended; word_is = refl }
+  pub gathers_busy : (guest : Guest Task In Out) (ends : In × Out) (p : PassState Entry World) (ended : Option (List (In × Out))) → Became work_of guest (busy ends) → GathersOne work_of Done guest words.Busy p p ended ended
+  gathers_busy guest ends p ended became = record { fate = busy ends; became = became; holds = tt; own = sym (append-nil p.own); ended = append_nothing ended; word_is = refl }
 
-  pub gathers_sat : (guest : Guest Task In Out) (task : Task) (done : (In × Out) × Sat) (G : List Entry) (ended_before ended_after : Option (List (In × Out))) → guest ≡ Sits task
-      → ∥ Done (work_of task) done ∥₁ → IsPrefix done.1.reader.front G → IsPrefix done.1.writer.front G → ended_after ≡ append_told ended_before (done.0 ∷ [])
-      → GathersOne work_of Done guest (words.Ended done.1.ended) G ended_before ended_after
-  gathers_sat guest task done G ended_before ended_after is did reader writer ended = record {
+  pub gathers_sat : (guest : Guest Task In Out) (task : Task) (done : (In × Out) × Sat) (p q : PassState Entry World) (ended_before ended_after : Option (List (In × Out))) → guest ≡ Sits task
+      → ∥ Done (work_of task) done ∥₁ → IsPrefix done.1.reader.front q.front → IsPrefix done.1.writer.front q.front → q.own ≡ (p.own ++ done.1.reader.own) ++ done.1.writer.own → ended_after ≡ append_told ended_before (done.0 ∷ [])
+      → GathersOne work_of Done guest (words.Ended done.1.ended) p q ended_before ended_after
+  gathers_sat guest task done p q ended_before ended_after is did reader writer own ended = record {
     fate = sat (work_of task) done;
     became = subst (λ g. Became work_of g (sat (work_of task) done)) (sym is) refl;
     holds = (did, reader, writer);
+    own = own ∙ append_assoc p.own done.1.reader.own done.1.writer.own;
     ended = ended;
     word_is = refl;
   }
 
-  pub gathered_none : (G : List Entry) (ended : Option (List (In × Out))) (told : Option (List ℕ)) → HasGathered work_of Done [] G ended ended true told told
-  gathered_none G ended told = record { fates = []; became = tt; each = All-nil (HoldsIn Done G); ended = append_nothing ended; printed = printed_none told }
+  pub gathered_none : (p : PassState Entry World) (ended : Option (List (In × Out))) (told : Option (List ℕ)) → HasGathered work_of Done [] p p ended ended true told told
+  gathered_none p ended told = record { fates = []; became = tt; each = All-nil (HoldsIn Done p.front); own = sym (append-nil p.own); ended = append_nothing ended; printed = printed_none told }
 
   became_more : (guests : List (Guest Task In Out)) (fates : List (Fate R In Out)) (guest : Guest Task In Out) (fate : Fate R In Out) → AllBecame work_of guests fates → Became work_of guest fate
       → AllBecame work_of (guests ++ guest ∷ []) (fates ++ fate ∷ [])
@@ -80,6 +81,10 @@ module _ {R In Out Task : Type 0} (work_of : Task → Sitting R In Out) (Done : 
       ap (λ l. line_of number (word_of f) ++ l) (lines_more (suc number) fates fate ∙ ap (λ n. lines_from (suc number) fates ++ line_of n (word_of fate)) same)
       ∙ sym (append_assoc (line_of number (word_of f)) (lines_from (suc number) fates) (line_of (number + suc (length fates)) (word_of fate)))
 
+  owns_more : (fates : List (Fate R In Out)) (fate : Fate R In Out) → owns_of (fates ++ fate ∷ []) ≡ owns_of fates ++ own_of fate
+  owns_more [] fate = append-nil (own_of fate)
+  owns_more (f ∷ fates) fate = ap (λ l. own_of f ++ l) (owns_more fates fate) ∙ sym (append_assoc (own_of f) (owns_of fates) (own_of fate))
+
   told_twice : {A : Type 0} (told : Option (List A)) (first next : List A) → append_told (append_told told first) next ≡ append_told told (first ++ next)
   told_twice None first next = refl
   told_twice (Some all) first next = ap Some (append_assoc all first next)
@@ -88,16 +93,17 @@ module _ {R In Out Task : Type 0} (work_of : Task → Sitting R In Out) (Done : 
   holds_longer G H longer (busy ends) holds = tt
   holds_longer G H longer (sat sitting done) holds = (holds.0, prefix_trans done.1.reader.front G H holds.1 longer, prefix_trans done.1.writer.front G H holds.2 longer)
 
-  pub gathered_more : (guests : List (Guest Task In Out)) (guest : Guest Task In Out) (word : Word) (number : ℕ) (G H : List Entry) (e0 e1 e2 : Option (List (In × Out))) (p q : Bool) (x y z : Option (List ℕ))
-      → HasGathered work_of Done guests G e0 e1 p x y → GathersOne work_of Done guest word H e1 e2 → IsPrefix G H → number ≡ 1 + length guests → PrintsMore p q (line_of number word) y z
-      → HasGathered work_of Done (guests ++ guest ∷ []) H e0 e2 q x z
-  gathered_more guests guest word number G H e0 e1 e2 p q x y z all one longer counted prints =
+  pub gathered_more : (guests : List (Guest Task In Out)) (guest : Guest Task In Out) (word : Word) (number : ℕ) (p q r : PassState Entry World) (e0 e1 e2 : Option (List (In × Out))) (b c : Bool) (x y z : Option (List ℕ))
+      → HasGathered work_of Done guests p q e0 e1 b x y → GathersOne work_of Done guest word q r e1 e2 → IsPrefix q.front r.front → number ≡ 1 + length guests → PrintsMore b c (line_of number word) y z
+      → HasGathered work_of Done (guests ++ guest ∷ []) p r e0 e2 c x z
+  gathered_more guests guest word number p q r e0 e1 e2 b c x y z all one longer counted prints =
       let long = same_length guests all.fates all.became in
       let line : line_of number word ≡ line_of (1 + length all.fates) (word_of one.fate) = ap (λ n. line_of n word) (counted ∙ ap (λ n. 1 + n) long) ∙ ap (line_of (1 + length all.fates)) one.word_is in
       record {
         fates = all.fates ++ one.fate ∷ [];
         became = became_more guests all.fates guest one.fate all.became one.became;
-        each = All-push (HoldsIn Done H) all.fates one.fate (All-weaker (HoldsIn Done G) (HoldsIn Done H) (holds_longer G H longer) all.fates all.each) one.holds;
+        each = All-push (HoldsIn Done r.front) all.fates one.fate (All-weaker (HoldsIn Done q.front) (HoldsIn Done r.front) (holds_longer q.front r.front longer) all.fates all.each) one.holds;
+        own = one.own ∙ ap (λ l. l ++ own_of one.fate) all.own ∙ append_assoc p.own (owns_of all.fates) (own_of one.fate) ∙ ap (λ l. p.own ++ l) (sym (owns_more all.fates one.fate));
         ended = one.ended ∙ ap (λ told. append_told told (ends_of (one.fate ∷ []))) all.ended ∙ told_twice e0 (ends_of all.fates) (ends_of (one.fate ∷ [])) ∙ ap (append_told e0) (sym (ends_more all.fates one.fate));
-        printed = subst (λ l. IsPrinted q l x z) (ap (λ l. lines_from 1 all.fates ++ l) line ∙ sym (lines_more 1 all.fates one.fate)) (prints_on p q (lines_from 1 all.fates) (line_of number word) x y z all.printed prints);
+        printed = subst (λ l. IsPrinted c l x z) (ap (λ l. lines_from 1 all.fates ++ l) line ∙ sym (lines_more 1 all.fates one.fate)) (prints_on b c (lines_from 1 all.fates) (line_of number word) x y z all.printed prints);
       }

@@ -7,38 +7,45 @@ use Rattle.campaign_law.specs.declared.entry.Entry.{Entry}
 use Rattle.campaign_law.specs.World.{World}
 use Rattle.campaign_law.specs.Law.{IsOpening}
 use Rattle.campaign_core.specs.Opening.{world_of_text}
-use Rattle.turn_lock.specs.Pass.{HallState}
+use Rattle.turn_lock.specs.Pass.{HallState, PassState, first_pass}
 use Rattle.session.specs.declared.service.Sat.{Sat}
 use Rattle.serving.specs.declared.sittings.Sitting.{Sitting}
 use Rattle.serving.specs.declared.serving_hall.Served.{Served}
 use Rattle.serving.specs.declared.serving_hall.Served.TheVariants as answers
 use Rattle.serving.specs.declared.hosting.Hosted.{Hosted}
 use Rattle.serving.specs.declared.hosting.Hosted.TheVariants as hosted
+use Rattle.serving.specs.Outside.{Outside, with_output}
 use Rattle.serving.specs.Served.{Serves}
 use Rattle.serving.specs.Endings.{EndsWith}
 use Rattle.serving.specs.Hosted.{Hosts, HostsOn, ServesOn}
 
-module _ {R In Out : Type 0} (Does : Sitting R In Out → (In × Out) × Sat → Type 0) where
+module _ {R In Out : Type 0} (Does : Sitting R In Out → (In × Out) × Sat → Type 0) (written : Out → Option (List ℕ)) where
   -- opening the door took no connection and gave none back
-  pub served_on : (told served : Served) (hall : HallState World) (origin : World) (count : ℕ) (end : Bool) (G : List Entry) (a a' b c c' d : Option (List (In × Out))) (e f : Option ℕ) (m n : ℕ) (out mid after : Option (List ℕ)) → IsOpening origin → hall.origin ≡ origin → a' ≡ a → c' ≡ c
-      → Serves hall Does told count G a' b c' d e f m n out mid → EndsWith end told served hall.origin G mid after → ServesOn Does served origin count end a b c d e f m n out after
-  served_on told served hall origin count end G a a' b c c' d e f m n out mid after opens is coming ended serves ends = record {
+  pub served_on : (told served : Served) (hall : HallState World) (origin : World) (count : ℕ) (end : Bool) (p q : PassState Entry World) (low high : ℕ) (early given late : Outside In Out) (mid : Option (List ℕ)) (mid_faults : ℕ)
+      → IsOpening origin → hall.origin ≡ origin → p ≡ first_pass hall [] → low ≡ 1 → given ≡ early → mid_faults ≤ late.out_faults
+      → Serves hall Does written told count p q low high given (with_output late mid mid_faults) → EndsWith end told served hall.origin q mid late.written → ServesOn Does written served origin count end early late
+  served_on told served hall origin count end p q low high early given late mid mid_faults opens is first begins same later serves ends = record {
     opens = opens;
     hall = hall;
     origin_is = is;
-    G = G;
+    q = q;
+    high = high;
     told = told;
     mid = mid;
-    serves = subst (λ x. Serves hall Does told count G x b c d e f m n out mid) coming (subst (λ x. Serves hall Does told count G a' b x d e f m n out mid) ended serves);
-    ends = subst (λ w. EndsWith end told served w G mid after) is ends;
+    mid_faults = mid_faults;
+    later = later;
+    serves =
+        subst (λ x. Serves hall Does written told count (first_pass hall []) q 1 high x (with_output late mid mid_faults)) same
+        (subst (λ n. Serves hall Does written told count (first_pass hall []) q n high given (with_output late mid mid_faults)) begins
+        (subst (λ x. Serves hall Does written told count x q low high given (with_output late mid mid_faults)) first serves));
+    ends = subst (λ w. EndsWith end told served w q mid late.written) is ends;
   }
 
-module _ {R In Out : Type 0} (Does : Sitting R In Out → (In × Out) × Sat → Type 0) (a b c d : Option (List (In × Out))) (e f : Option ℕ) (m n : ℕ) (out after : Option (List ℕ)) where
-  pub hosts_text : (how : Hosted) (text : List ℕ) (origin : World) (count : ℕ) (end : Bool) → world_of_text text ≡ Some origin → HostsOn Does how origin count end a b c d e f m n out after → Hosts Does how text count end a b c d e f m n out after
-  hosts_text (hosted.Bad breach) text origin count end is hosts = absurd hosts
-  hosts_text hosted.Memory text origin count end is hosts = hosts
-  hosts_text hosted.Closed text origin count end is hosts = (origin, is, hosts)
-  hosts_text (hosted.Served served) text origin count end is hosts = (origin, is, hosts)
+  pub hosts_text : (early late : Outside In Out) (how : Hosted) (text : List ℕ) (origin : World) (count : ℕ) (end : Bool) → world_of_text text ≡ Some origin → HostsOn Does written how origin count end early late → Hosts Does written how text count end early late
+  hosts_text early late (hosted.Bad breach) text origin count end is hosts = absurd hosts
+  hosts_text early late hosted.Memory text origin count end is hosts = hosts
+  hosts_text early late hosted.Closed text origin count end is hosts = (origin, is, hosts)
+  hosts_text early late (hosted.Served served) text origin count end is hosts = (origin, is, hosts)
 
 -- a fault of the output came while connections were told, or behind them
 pub wrote_later : (told served : Served) (x y z : ℕ) → (told ≡ answers.WriteFault → CountRose x y) → x ≤ y → y ≤ z → (told ≡ answers.WriteFault) ⊎ CountRose y z → CountRose x z

@@ -1,4 +1,5 @@
 pub mod PrintedLines
+pub mod Undisturbed
 pub mod Admissions
 pub mod Gatherings
 pub mod Servings

@@ -1,5 +1,5 @@
 -- Connections that were taken and gathered.
-use Rattle.std.proofs.Common.{◌≡◌, ◌≤◌, ◌+◌, ℕ, Bool, true, false, List, [], ◌∷◌, ◌++◌, map, length, All, inl, inr, refl, sym, ap, subst, ◌∙◌, arith}
+use Rattle.std.proofs.Common.{◌≡◌, ◌≤◌, ◌+◌, ℕ, suc, Bool, true, false, List, [], ◌∷◌, ◌++◌, map, length, All, inl, inr, refl, sym, ap, subst, ◌∙◌, arith}
 use Rattle.std.specs.Prelude.{Option, ◌⊎◌, ◌≢◌}
 use Rattle.std.proofs.lemmas.List.Elements.{All-nil, All-cons, All-head, All-tail}
 use Rattle.std.specs.Arc.{arc_value}
@@ -18,8 +18,10 @@ use Rattle.serving.specs.declared.guests.Stop.{Stop}
 use Rattle.serving.specs.declared.guests.Stop.TheVariants as stops
 use Rattle.serving.specs.declared.serving_hall.Served.{Served}
 use Rattle.serving.specs.declared.serving_hall.Served.TheVariants as answers
-use Rattle.serving.specs.Guests.{came_for, IsGuestOf, busy_in, sitting_in, Takes, StopsBy, HasSplit}
-use Rattle.serving.specs.Fates.{Fate, busy, sat, Became, AllBecame, ends_of, HasGathered}
+use Rattle.serving.specs.Guests.{came_for, IsGuestOf, GotNewPasses, busy_in, sitting_in, Takes, StopsBy, HasSplit}
+use Rattle.serving.specs.Fates.{Fate, busy, sat, Became, AllBecame, HoldsIn, owns_of, ends_of, HasGathered}
+use Rattle.serving.specs.Outside.{Outside}
+use Rattle.serving.specs.Alone.{AreNewPasses, HaveNewPasses, NobodyElse, IsToldItsOwn}
 use Rattle.serving.specs.Served.{served_by, came_of, busy_of, IsOf, Serves}
 use Rattle.serving.proofs.Gatherings.{same_length}
 
@@ -63,6 +65,17 @@ module _ {R In Out Task : Type 0} (work_of : Task → Sitting R In Out) where
   all_of hall (g ∷ guests) [] all each = absurd all
   all_of hall (g ∷ guests) (f ∷ fates) all each = All-cons (IsOf hall) f fates (one_of hall g f all.0 (All-head (IsGuestOf work_of hall) g guests each)) (all_of hall guests fates all.1 (All-tail (IsGuestOf work_of hall) g guests each))
 
+  new_same : (low high : ℕ) (guests : List (Guest Task In Out)) (fates : List (Fate R In Out)) → AllBecame work_of guests fates → GotNewPasses work_of low guests high → HaveNewPasses low fates high
+  new_same low high [] [] all new = new
+  new_same low high [] (f ∷ fates) all new = absurd all
+  new_same low high (g ∷ guests) [] all new = absurd all
+  new_same low high (Busy kept ∷ guests) (busy ends ∷ fates) all new = new_same low high guests fates all.1 new
+  new_same low high (Busy kept ∷ guests) (sat sitting done ∷ fates) all new = absurd all.0
+  new_same low high (Sits task ∷ guests) (busy ends ∷ fates) all new = absurd all.0
+  new_same low high (Sits task ∷ guests) (sat sitting done ∷ fates) all new =
+      let rest = new_same (suc (work_of task).writer.number) high guests fates all.1 new.1 in
+      subst (λ s. AreNewPasses low s.reader s.writer × HaveNewPasses (suc s.writer.number) fates high) (sym all.0) (new.0, rest)
+
   most_taken : (stop : Stop) (count : ℕ) (guests : List (Guest Task In Out)) (lost : List (In × Out)) (left : Option (List (In × Out))) → StopsBy stop count guests lost left → (length guests + length lost ≤ count) × (length lost ≤ 1)
   most_taken stops.Full count guests lost left is = let none = ap length is.1 in let long = is.0 in (omega (arith, none, long), omega (arith, none))
   most_taken stops.End count guests lost left is = let none = ap length is.2 in let long = is.1 in (omega (arith, none, long), omega (arith, none))
@@ -84,28 +97,35 @@ module _ {R In Out Task : Type 0} (work_of : Task → Sitting R In Out) where
   is_done stops.DoorFault whole count guests lost left is done = absurd (cc done)
   is_done stops.Memory whole count guests lost left is done = absurd (cc done)
 
-  pub served : (hall : HallState World) (Done : Sitting R In Out → (In × Out) × Sat → Type 0) (stop : Stop) (whole : Bool) (count : ℕ) (guests : List (Guest Task In Out)) (G : List Entry) (a b c e0 e1 e2 : Option (List (In × Out)))
-      (away0 away1 started0 started1 started2 : Option ℕ) (faults0 faults1 faults2 : ℕ) (x y : Option (List ℕ)) (answer : Served)
-      → Takes work_of hall stop count guests a b away0 away1 started0 started1 faults0 faults1 → HasGathered work_of Done guests G e1 e2 whole x y
-      → c ≡ b → e1 ≡ e0 → started2 ≡ started1 → faults1 ≤ faults2 → answer ≡ served_by stop whole
-      → Serves hall Done answer count G a c e0 e2 started0 started2 faults0 faults2 x y
-  served hall Done stop whole count guests G a b c e0 e1 e2 away0 away1 started0 started1 started2 faults0 faults1 faults2 x y answer takes gathered left same_ended same_started more_faults is =
+  pub served : (hall : HallState World) (Done : Sitting R In Out → (In × Out) × Sat → Type 0) (written : Out → Option (List ℕ)) (stop : Stop) (whole : Bool) (count : ℕ) (guests : List (Guest Task In Out))
+      (p r q : PassState Entry World) (low high : ℕ) (early late : Outside In Out) (b e : Option (List (In × Out))) (away0 away1 started : Option ℕ) (faults : ℕ) (answer : Served)
+      → Takes work_of hall stop count guests early.coming b away0 away1 early.started started early.busy faults → HasGathered work_of Done guests r q e late.ended whole early.written late.written
+      → late.coming ≡ b → e ≡ early.ended → late.started ≡ started → faults ≤ late.busy → answer ≡ served_by stop whole
+      → r.own ≡ p.own → GotNewPasses work_of low guests high → (whole ≡ false → CountRose early.out_faults late.out_faults)
+      → ((fates : List (Fate R In Out)) → All (IsOf hall) fates → All (HoldsIn Done q.front) fates → HaveNewPasses low fates high → NobodyElse q.front fates → All (IsToldItsOwn hall.origin q.front written) fates)
+      → Serves hall Done written answer count p q low high early late
+  served hall Done written stop whole count guests p r q low high early late b e away0 away1 started faults answer takes gathered left same_ended same_started more_faults is same_own new unprinted tell =
       let taken = takes.taken in
       let fates = gathered.fates in
       let became = gathered.became in
       let long = same_length work_of Done guests fates became in
       let most = most_taken stop count guests takes.lost b takes.stops in
+      let shared = all_of hall guests fates became taken.each in
+      let numbers = new_same low high guests fates became new in
       record {
         fates = fates;
         lost = takes.lost;
-        came = taken.came ∙ ap (prepend_told (map (came_for work_of) guests ++ takes.lost)) (sym left) ∙ ap (λ l. prepend_told (l ++ takes.lost) c) (came_same guests fates became);
+        came = taken.came ∙ ap (prepend_told (map (came_for work_of) guests ++ takes.lost)) (sym left) ∙ ap (λ l. prepend_told (l ++ takes.lost) late.coming) (came_same guests fates became);
         most = let bound = most.0 in omega (arith, bound, long);
         one_lost = most.1;
         none_lost = λ other. none_lost stop whole count guests takes.lost b takes.stops (λ same. other (is ∙ same));
-        shared = all_of hall guests fates became taken.each;
+        shared = shared;
         each = gathered.each;
+        new = numbers;
+        own = gathered.own ∙ ap (λ l. l ++ owns_of fates) same_own;
+        told = tell fates shared gathered.each numbers;
         ended = gathered.ended ∙ ap (λ told. append_told told (ends_of fates)) same_ended;
-        started = same_started ∙ taken.started ∙ ap (λ n. count_told n started0) (sitting_same guests fates became);
+        started = same_started ∙ taken.started ∙ ap (λ n. count_told n early.started) (sitting_same guests fates became);
         busy_rose =
             let rose = taken.busy in
             let number = busy_same guests fates became in
@@ -113,6 +133,7 @@ module _ {R In Out Task : Type 0} (work_of : Task → Sitting R In Out) where
             (omega (arith, first, more_faults), λ below. let next = rose.1 (omega (arith, below, more_faults)) in omega (arith, next, more_faults, number));
         whole = whole;
         printed = gathered.printed;
+        unprinted = unprinted;
         done = λ so. let told = is_done stop whole count guests takes.lost b takes.stops (sym is ∙ so) in (told.0, by_cases (subst IsNoneLeft (sym left)) told.1 long);
       }
     where

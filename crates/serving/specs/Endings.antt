@@ -5,6 +5,7 @@ use Rattle.campaign_law.specs.declared.entry.Entry.{Entry}
 use Rattle.campaign_law.specs.World.{World, replay}
 use Rattle.campaign_law.specs.Worlds.{opened_of}
 use Rattle.campaign_writing.specs.Canonical.{canonical}
+use Rattle.turn_lock.specs.Pass.{PassState}
 use Rattle.serving.specs.declared.serving_hall.Served.{Served}
 use Rattle.serving.specs.declared.serving_hall.Served.TheVariants as answers
 use Rattle.serving.specs.Fates.{IsPrinted}
@@ -16,16 +17,17 @@ PrintsText answers.WriteFault text before after = IsPrinted false (text ++ 10 �
 PrintsText answers.DoorFault text before after = ⊥
 PrintsText answers.Memory text before after = after ≡ before
 
--- the canonical text of the campaign was printed, as it is behind a history that begins with this one
-pub record PrintsEnd (served : Served) (origin : World) (G : List Entry) (before after : Option (List ℕ)) : Type 0 where
-  pub last : List Entry
-  pub longer : IsPrefix G last
-  pub printed : PrintsText served (canonical (opened_of (replay origin last))) before after
+-- The canonical text of the campaign was printed, as one more turn found it by this pass. The turn entered nothing
+pub record PrintsEnd (served : Served) (origin : World) (q : PassState Entry World) (before after : Option (List ℕ)) : Type 0 where
+  pub r : PassState Entry World
+  pub longer : IsPrefix q.front r.front
+  pub own : r.own ≡ q.own
+  pub printed : PrintsText served (canonical (opened_of (replay origin r.front))) before after
 
 -- Serving the hall ended so, and the run then so: with `end`, and where all was done, the campaign's text was printed
-abbrev pub EndsWith : Bool → Served → Served → World → List Entry → Option (List ℕ) → Option (List ℕ) → Type 0
-EndsWith true answers.Done served origin G before after = PrintsEnd served origin G before after
-EndsWith true answers.WriteFault served origin G before after = (served ≡ answers.WriteFault) × (after ≡ before)
-EndsWith true answers.DoorFault served origin G before after = (served ≡ answers.DoorFault) × (after ≡ before)
-EndsWith true answers.Memory served origin G before after = (served ≡ answers.Memory) × (after ≡ before)
-EndsWith false told served origin G before after = (served ≡ told) × (after ≡ before)
+abbrev pub EndsWith : Bool → Served → Served → World → PassState Entry World → Option (List ℕ) → Option (List ℕ) → Type 0
+EndsWith true answers.Done served origin q before after = PrintsEnd served origin q before after
+EndsWith true answers.WriteFault served origin q before after = (served ≡ answers.WriteFault) × (after ≡ before)
+EndsWith true answers.DoorFault served origin q before after = (served ≡ answers.DoorFault) × (after ≡ before)
+EndsWith true answers.Memory served origin q before after = (served ≡ answers.Memory) × (after ≡ before)
+EndsWith false told served origin q before after = (served ≡ told) × (after ≡ before)

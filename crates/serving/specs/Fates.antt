@@ -4,6 +4,8 @@ use Rattle.std.specs.Io.KnownBytes.{append_known}
 use mathlib.Core.List.{IsPrefix}
 use Rattle.line_io.specs.Connections.{append_told}
 use Rattle.campaign_law.specs.declared.entry.Entry.{Entry}
+use Rattle.campaign_law.specs.World.{World}
+use Rattle.turn_lock.specs.Pass.{PassState}
 use Rattle.seats.specs.declared.seat_state.JoinRefusal.{JoinRefusal}
 use Rattle.seats.specs.declared.seat_state.JoinRefusal.TheVariants as joins
 use Rattle.session.specs.declared.sitting.Ended.{Ended}
@@ -61,6 +63,15 @@ module _ {R In Out : Type 0} where
   ends_of (busy ends ∷ fates) = ends_of fates
   ends_of (sat sitting done ∷ fates) = done.0 ∷ ends_of fates
 
+  -- the places at which the turns of its passes appended
+  abbrev pub own_of : Fate R In Out → List ℕ
+  own_of (busy ends) = []
+  own_of (sat sitting done) = done.1.reader.own ++ done.1.writer.own
+
+  abbrev pub owns_of : List (Fate R In Out) → List ℕ
+  owns_of [] = []
+  owns_of (fate ∷ fates) = own_of fate ++ owns_of fates
+
   -- the session did what a run of it does, and the history G begins with both of its fronts
   abbrev pub HoldsIn : (Sitting R In Out → (In × Out) × Sat → Type 0) → List Entry → Fate R In Out → Type 0
   HoldsIn Done G (busy ends) = Unit {0}
@@ -93,18 +104,20 @@ PrintsMore true whole text before after = IsPrinted whole text before after
 PrintsMore false whole text before after = (whole ≡ false) × (after ≡ before)
 
 module _ {R In Out Task : Type 0} (work_of : Task → Sitting R In Out) (Done : Sitting R In Out → (In × Out) × Sat → Type 0) where
-  -- one connection was gathered, and G is the front behind it
-  pub record GathersOne (guest : Guest Task In Out) (word : Word) (G : List Entry) (ended_before ended_after : Option (List (In × Out))) : Type 0 where
+  -- one connection was gathered, by this pass before and after it
+  pub record GathersOne (guest : Guest Task In Out) (word : Word) (p q : PassState Entry World) (ended_before ended_after : Option (List (In × Out))) : Type 0 where
     pub fate : Fate R In Out
     pub became : Became work_of guest fate
-    pub holds : HoldsIn Done G fate
+    pub holds : HoldsIn Done q.front fate
+    pub own : q.own ≡ p.own ++ own_of fate
     pub ended : ended_after ≡ append_told ended_before (ends_of (fate ∷ []))
     pub word_is : word ≡ word_of fate
 
-  -- these connections were gathered and told, and G is the front behind them
-  pub record HasGathered (guests : List (Guest Task In Out)) (G : List Entry) (ended_before ended_after : Option (List (In × Out))) (whole : Bool) (before after : Option (List ℕ)) : Type 0 where
+  -- these connections were gathered and told, by this pass before and after them
+  pub record HasGathered (guests : List (Guest Task In Out)) (p q : PassState Entry World) (ended_before ended_after : Option (List (In × Out))) (whole : Bool) (before after : Option (List ℕ)) : Type 0 where
     pub fates : List (Fate R In Out)
     pub became : AllBecame work_of guests fates
-    pub each : All (HoldsIn Done G) fates
+    pub each : All (HoldsIn Done q.front) fates
+    pub own : q.own ≡ p.own ++ owns_of fates
     pub ended : ended_after ≡ append_told ended_before (ends_of fates)
     pub printed : IsPrinted whole (lines_from 1 fates) before after

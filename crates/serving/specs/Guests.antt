@@ -1,5 +1,5 @@
 -- Connections that were taken, and what was told of them.
-use Rattle.std.specs.Prelude.{◌≡◌, ◌≤◌, ◌<◌, ◌+◌, ℕ, All, List, [], ◌∷◌, ◌++◌, map, length, Option}
+use Rattle.std.specs.Prelude.{◌≡◌, ◌≤◌, ◌<◌, ◌+◌, ℕ, suc, All, List, [], ◌∷◌, ◌++◌, map, length, Option}
 use Rattle.std.specs.Arc.{arc_value}
 use mathlib.Core.List.{IsPrefix}
 use Rattle.line_io.specs.Connections.{prepend_told, add_told, count_told, IsAtLeast, IsNoneLeft, RoseBy}
@@ -13,6 +13,7 @@ use Rattle.serving.specs.declared.guests.Admission.{Admission}
 use Rattle.serving.specs.declared.guests.Admission.TheVariants.{Taken, Stopped}
 use Rattle.serving.specs.declared.guests.Stop.{Stop}
 use Rattle.serving.specs.declared.guests.Stop.TheVariants as stops
+use Rattle.serving.specs.Alone.{AreNewPasses}
 
 module _ {R In Out Task : Type 0} (work_of : Task → Sitting R In Out) where
   -- the ends that the door gave for it
@@ -24,6 +25,16 @@ module _ {R In Out Task : Type 0} (work_of : Task → Sitting R In Out) where
   abbrev pub IsGuestOf : HallState World → Guest Task In Out → Type 0
   IsGuestOf hall (Busy ends) = Unit {0}
   IsGuestOf hall (Sits task) = arc_value (work_of task).hall ≡ hall
+
+  -- the passes of the sessions were new, and their numbers rise from one session to the next, from `low` on and below `high`
+  abbrev pub GotNewPasses : ℕ → List (Guest Task In Out) → ℕ → Type 0
+  GotNewPasses low [] high = low ≤ high
+  GotNewPasses low (Busy ends ∷ guests) high = GotNewPasses low guests high
+  GotNewPasses low (Sits task ∷ guests) high = AreNewPasses low (work_of task).reader (work_of task).writer × GotNewPasses (suc (work_of task).writer.number) guests high
+
+  abbrev pub AdmitsByNewPasses : ℕ → Admission Task In Out → ℕ → Type 0
+  AdmitsByNewPasses low (Taken guest) high = GotNewPasses low (guest ∷ []) high
+  AdmitsByNewPasses low (Stopped stop) high = low ≤ high
 
 module _ {Task In Out : Type 0} where
   abbrev pub one_busy : Guest Task In Out → ℕ

@@ -4,7 +4,8 @@ ghost use Rattle.std.specs.Arc.{arc_value};
 ghost use Rattle.line_io.specs.Counts.{CountRose};
 ghost use Rattle.turn_lock.specs.Pass.{IsPassOf};
 ghost use Rattle.campaign_law.specs.Law.{IsOpening};
-ghost use Rattle.serving.specs.Guests.{CanSplit, HasSplit, Admits, Takes, Seats};
+ghost use Rattle.serving.specs.Alone.{AreNewPasses};
+ghost use Rattle.serving.specs.Guests.{CanSplit, HasSplit, GotNewPasses, AdmitsByNewPasses, Admits, Takes, Seats};
 
 use crate::guests::{Admission, Guest, Stop};
 use crate::runs::SessionSource;
@@ -27,7 +28,9 @@ pub(crate) fn split_two(
     requires room { usher.old.count < 2 ^ 64 - 2 }
     ensures split { IfOk result (λ three. HasSplit hall.now 2 pass three.0 usher.old usher.new) }
     ensures halves { IfOk result (λ three. IsPassOf hall.now three.1 × IsPassOf hall.now three.2) }
-    ensures err { IfErr result (λ back. HasSplit hall.now 2 pass back usher.old usher.new) }
+    ensures new { IfOk result (λ three. AreNewPasses usher.old.count three.1 three.2 × (three.2.number < usher.new.count)) }
+    ensures own { IfOk result (λ three. three.0.own ≡ pass.own) }
+    ensures err { IfErr result (λ back. HasSplit hall.now 2 pass back usher.old usher.new × (back.own ≡ pass.own)) }
 {
     let (pass, reader) = hall.split(usher, pass)?;
     match hall.split(usher, pass) {
@@ -59,6 +62,8 @@ where
     requires fit { P.fit spawner.old }
     ensures fit { P.fit spawner.new }
     ensures split { HasSplit (arc_value hall.now) 2 pass result.0 usher.old usher.new }
+    ensures own { result.0.own ≡ pass.own }
+    ensures new { AdmitsByNewPasses P.work_of usher.old.count result.1 usher.new.count }
     ensures admits { Admits P.work_of (arc_value hall.now) result.1 (L.coming door.old) (L.coming door.new) (L.away door.old) (L.away door.new)
         (P.started spawner.old) (P.started spawner.new) (P.faults_of spawner.old) (P.faults_of spawner.new) }
     ensures ended { L.ended door.new ≡ L.ended door.old }
@@ -97,6 +102,8 @@ where
     requires fit { P.fit spawner.old }
     ensures fit { P.fit spawner.new }
     ensures split { HasSplit (arc_value hall.now) 2048 pass result.0 usher.old usher.new }
+    ensures own { result.0.own ≡ pass.own }
+    ensures new { GotNewPasses P.work_of usher.old.count result.1.items usher.new.count }
     ensures takes { Takes P.work_of (arc_value hall.now) result.2 count result.1.items (L.coming door.old) (L.coming door.new) (L.away door.old) (L.away door.new)
         (P.started spawner.old) (P.started spawner.new) (P.faults_of spawner.old) (P.faults_of spawner.new) }
     ensures ended { L.ended door.new ≡ L.ended door.old }
@@ -138,6 +145,8 @@ fn seat<
     requires fit { P.fit spawner.old }
     ensures fit { P.fit spawner.new }
     ensures split { HasSplit (arc_value hall.now) 2 pass result.0 usher.old usher.new }
+    ensures own { result.0.own ≡ pass.own }
+    ensures new { AdmitsByNewPasses P.work_of usher.old.count result.1 usher.new.count }
     ensures seats { Seats P.work_of (arc_value hall.now) ends result.1 (P.started spawner.old) (P.started spawner.new) (P.faults_of spawner.old) (P.faults_of spawner.new) }
 {
     let Some((rt, shared)) = shared(rt, hall) else {

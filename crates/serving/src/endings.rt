@@ -40,7 +40,7 @@ pub(crate) fn print_end<R: Wait, O: Sink>(
     out: &mut O,
 ) -> Served
     requires { IsPassOf hall.now pass }
-    ensures prints { PrintsEnd result hall.now.origin pass.front (O.written out.old) (O.written out.new) }
+    ensures prints { PrintsEnd result hall.now.origin pass (O.written out.old) (O.written out.new) }
     ensures count { O.faults_of out.old ≤ O.faults_of out.new }
     ensures write_fault { result ≡ Served.WriteFault → CountRose (O.faults_of out.old) (O.faults_of out.new) }
 {

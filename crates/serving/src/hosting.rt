@@ -1,10 +1,11 @@
 //! Serves the campaign of a text.
-ghost use Rattle.std.specs.Prelude.{◌≡◌, ◌≤◌, ◌<◌, ◌⊎◌};
+ghost use Rattle.std.specs.Prelude.{◌≡◌, ◌≤◌, ◌<◌, ◌⊎◌, []};
 ghost use Rattle.line_io.specs.Counts.{CountRose};
 ghost use Rattle.campaign_law.specs.Law.{IsOpening};
 ghost use Rattle.campaign_core.specs.Opening.{world_of_text, IsOpenFault};
 ghost use Rattle.turn_lock.specs.Pass.{IsPassOf, IsUsherOf};
 ghost use Rattle.std.specs.Arc.{arc_value};
+ghost use Rattle.serving.specs.Outside.{as_told};
 ghost use Rattle.serving.specs.Endings.{EndsWith};
 ghost use Rattle.serving.specs.Hosted.{Hosts, HostsOn};
 
@@ -60,8 +61,9 @@ where
     P::Task: Drop,
     requires count { (1 ≤ count) × (count ≤ 1024) }
     requires fit { P.fit spawner.old }
-    ensures hosts { Hosts ⟦<Sitting<R, L::In, L::Out> as Work>⟧.done result text.now count end (L.coming door.old) (L.coming door.new) (L.ended door.old) (L.ended door.new)
-        (P.started spawner.old) (P.started spawner.new) (P.faults_of spawner.old) (P.faults_of spawner.new) (O.written out.old) (O.written out.new) }
+    ensures hosts { Hosts ⟦<Sitting<R, L::In, L::Out> as Work>⟧.done L.Out.written result text.now count end
+        (as_told (L.coming door.old) (L.ended door.old) (P.started spawner.old) (P.faults_of spawner.old) (O.written out.old) (O.faults_of out.old))
+        (as_told (L.coming door.new) (L.ended door.new) (P.started spawner.new) (P.faults_of spawner.new) (O.written out.new) (O.faults_of out.new)) }
     ensures write_fault { result ≡ Hosted.Served Served.WriteFault → CountRose (O.faults_of out.old) (O.faults_of out.new) }
     ensures door_fault { (result ≡ Hosted.Closed) ⊎ (result ≡ Hosted.Served Served.DoorFault) → CountRose (L.faults_of door.old) (L.faults_of door.new) }
     ensures out_count { O.faults_of out.old ≤ O.faults_of out.new }
@@ -97,10 +99,12 @@ where
     L::Out: Drop,
     P::Task: Drop,
     requires opening { IsOpening campaign.origin }
+    requires history { campaign.history ≡ [] }
     requires count { (1 ≤ count) × (count ≤ 1024) }
     requires fit { P.fit spawner.old }
-    ensures hosts { HostsOn ⟦<Sitting<R, L::In, L::Out> as Work>⟧.done result campaign.origin count end (L.coming door.old) (L.coming door.new) (L.ended door.old) (L.ended door.new)
-        (P.started spawner.old) (P.started spawner.new) (P.faults_of spawner.old) (P.faults_of spawner.new) (O.written out.old) (O.written out.new) }
+    ensures hosts { HostsOn ⟦<Sitting<R, L::In, L::Out> as Work>⟧.done L.Out.written result campaign.origin count end
+        (as_told (L.coming door.old) (L.ended door.old) (P.started spawner.old) (P.faults_of spawner.old) (O.written out.old) (O.faults_of out.old))
+        (as_told (L.coming door.new) (L.ended door.new) (P.started spawner.new) (P.faults_of spawner.new) (O.written out.new) (O.faults_of out.new)) }
     ensures write_fault { result ≡ Hosted.Served Served.WriteFault → CountRose (O.faults_of out.old) (O.faults_of out.new) }
     ensures door_fault { (result ≡ Hosted.Closed) ⊎ (result ≡ Hosted.Served Served.DoorFault) → CountRose (L.faults_of door.old) (L.faults_of door.new) }
     ensures out_count { O.faults_of out.old ≤ O.faults_of out.new }
@@ -131,7 +135,7 @@ fn ended<R: Wait, O: Sink>(
     out: &mut O,
 ) -> Served
     requires { IsPassOf hall.now pass }
-    ensures ends { EndsWith end served result hall.now.origin pass.front (O.written out.old) (O.written out.new) }
+    ensures ends { EndsWith end served result hall.now.origin pass (O.written out.old) (O.written out.new) }
     ensures count { O.faults_of out.old ≤ O.faults_of out.new }
     ensures write_fault { result ≡ Served.WriteFault → (served ≡ Served.WriteFault) ⊎ CountRose (O.faults_of out.old) (O.faults_of out.new) }
     ensures door_fault { result ≡ Served.DoorFault → served ≡ Served.DoorFault }

@@ -4,6 +4,7 @@ ghost use Rattle.std.specs.Arc.{arc_value};
 ghost use Rattle.line_io.specs.Counts.{CountRose};
 ghost use Rattle.campaign_law.specs.Law.{IsOpening};
 ghost use Rattle.serving.specs.Guests.{CanSplit, HasSplit};
+ghost use Rattle.serving.specs.Outside.{as_told};
 ghost use Rattle.serving.specs.Served.{Serves, served_by as served_by_lem};
 
 use crate::admitting::admit_all;
@@ -31,7 +32,8 @@ pub enum Served {
 /// Takes `count` connections, or all up to the door's end, runs a session at the hall for each, gathers
 /// them, and prints for each, in order of arrival, its number and how it ended. For each connection it
 /// splits two passes off its own, and those that come back are met with it. After a stop what was
-/// started is still gathered.
+/// started is still gathered and, unless a call of the output fails, printed. It enters nothing itself.
+/// So where nobody else enters anything, what each session wrote is a front of its lines of the one history.
 pub fn serve_hall<
     R: Threads + Wait + Sync + Clone + Drop,
     O: Sink,
@@ -58,8 +60,9 @@ where
     requires opening { IsOpening (arc_value hall.now).origin }
     requires fit { P.fit spawner.old }
     ensures split { HasSplit (arc_value hall.now) 2048 pass result.0 usher.old usher.new }
-    ensures serves { Serves (arc_value hall.now) ⟦<Sitting<R, L::In, L::Out> as Work>⟧.done result.1 count result.0.front (L.coming door.old) (L.coming door.new) (L.ended door.old) (L.ended door.new)
-        (P.started spawner.old) (P.started spawner.new) (P.faults_of spawner.old) (P.faults_of spawner.new) (O.written out.old) (O.written out.new) }
+    ensures serves { Serves (arc_value hall.now) ⟦<Sitting<R, L::In, L::Out> as Work>⟧.done L.Out.written result.1 count pass result.0 usher.old.count usher.new.count
+        (as_told (L.coming door.old) (L.ended door.old) (P.started spawner.old) (P.faults_of spawner.old) (O.written out.old) (O.faults_of out.old))
+        (as_told (L.coming door.new) (L.ended door.new) (P.started spawner.new) (P.faults_of spawner.new) (O.written out.new) (O.faults_of out.new)) }
     ensures write_fault { result.1 ≡ Served.WriteFault → CountRose (O.faults_of out.old) (O.faults_of out.new) }
     ensures door_fault { result.1 ≡ Served.DoorFault → CountRose (L.faults_of door.old) (L.faults_of door.new) }
     ensures out_count { O.faults_of out.old ≤ O.faults_of out.new }

@@ -13,13 +13,14 @@ use Rattle.serving.specs.declared.sittings.Sitting.{Sitting}
 use Rattle.serving.specs.declared.serving_hall.Served.TheVariants as answers
 use Rattle.serving.specs.declared.hosting.Hosted.{Hosted}
 use Rattle.serving.specs.declared.hosting.Hosted.TheVariants as hosted
+use Rattle.serving.specs.Outside.{Outside, with_output}
 use Rattle.serving.specs.Hosted.{Hosts, NothingServed}
 use Rattle.tabletop.specs.declared.endings.Ended.{Ended}
 use Rattle.tabletop.specs.declared.endings.Ended.TheVariants.{Done, Usage, BadCampaign, ReadFault, WriteFault, Memory, BadLine, TooLarge, DoorFault}
 use Rattle.tabletop.specs.Endings.{status_of, last_line, HasOwnLine}
 use Rattle.tabletop.specs.Ends.{NotFetched, IsToldAs, unfetched, campaign_limit}
 use Rattle.tabletop.specs.ServeEnds.{Service, hosted_as, TextServes, FileServes, JobServes, HasEndedServing}
-use Rattle.tabletop.proofs.EndsLemmas.{DoneOrMemory, count_after, two_is_usage, not_fetched_done, breach_world}
+use Rattle.tabletop.proofs.EndsLemmas.{DoneOrMemory, two_is_usage, not_fetched_done, breach_world}
 
 -- ---- what serving ends as
 
@@ -83,26 +84,26 @@ door_fault_of status ended Memory s t h = absurd (omega (arith, s, h))
 door_fault_of status ended (BadLine number) s t h = absurd (omega (arith, s, h))
 door_fault_of status ended TooLarge s t h = absurd (omega (arith, s, h))
 
-module _ {R In Out : Type 0} (Does : Sitting R In Out → (In × Out) × Sat → Type 0) (a b c d : Option (List (In × Out))) (e f : Option ℕ) (m n : ℕ) (out after : Option (List ℕ)) where
+module _ {R In Out : Type 0} (Does : Sitting R In Out → (In × Out) × Sat → Type 0) (written : Out → Option (List ℕ)) (early late : Outside In Out) where
   -- ---- a file that was fetched or not
 
-  pub unfetched_serves : (D : Type 0) (fault : DeskFault) (count : ℕ) (end : Bool) (campaign : Option (List ℕ)) → (fault ≡ desk.Failed → D) → (fault ≡ desk.TooLarge → IfSome campaign (λ told. campaign_limit < length told)) → NothingServed a b c d e f out after
-      → FileServes Does D (unfetched fault) count end campaign a b c d e f m n out after
+  pub unfetched_serves : (D : Type 0) (fault : DeskFault) (count : ℕ) (end : Bool) (campaign : Option (List ℕ)) → (fault ≡ desk.Failed → D) → (fault ≡ desk.TooLarge → IfSome campaign (λ told. campaign_limit < length told)) → NothingServed early late
+      → FileServes Does written D (unfetched fault) count end campaign early late
   unfetched_serves D desk.Failed count end campaign failed large none = inl (failed refl, none)
   unfetched_serves D desk.TooLarge count end campaign failed large none = inl (large refl, none)
   unfetched_serves D desk.Memory count end campaign failed large none = inl (tt, none)
 
   pub fetched_serves : (D : Type 0) (ended : Ended) (how : Hosted) (count : ℕ) (end : Bool) (campaign : Option (List ℕ)) (text : List ℕ) → ended ≡ hosted_as how → IfSome campaign (λ told. text ≡ told) → length text ≤ campaign_limit
-      → Hosts Does how text count end a b c d e f m n out after → FileServes Does D ended count end campaign a b c d e f m n out after
+      → Hosts Does written how text count end early late → FileServes Does written D ended count end campaign early late
   fetched_serves D ended how count end campaign text same told small hosts = inr (record { text = text; told = told; small = small; ends = record { how = how; told = same; hosts = hosts } })
 
   -- ---- want of memory
 
-  pub memory_serves : (D : Type 0) (service : Option Service) (texts : List ℕ → Option (List ℕ)) → NothingServed a b c d e f out after → JobServes Does D Memory service texts a b c d e f m n out after
+  pub memory_serves : (D : Type 0) (service : Option Service) (texts : List ℕ → Option (List ℕ)) → NothingServed early late → JobServes Does written D Memory service texts early late
   memory_serves D None texts none = (inr refl, none)
   memory_serves D (Some service) texts none = inl (tt, none)
 
-  less_how : (how : Hosted) (count : ℕ) (end : Bool) (text : List ℕ) → HasOwnLine (hosted_as how) → Hosts Does how text count end a b c d e f m n out after → TextServes Does Memory count end a b c d e f m n out after text
+  less_how : (how : Hosted) (count : ℕ) (end : Bool) (text : List ℕ) → HasOwnLine (hosted_as how) → Hosts Does written how text count end early late → TextServes Does written Memory count end early late text
   less_how (hosted.Bad breach) count end text own hosts = record { how = hosted.Memory; told = refl; hosts = hosts.1 }
   less_how hosted.Memory count end text own hosts = absurd own
   less_how hosted.Closed count end text own hosts = absurd own
@@ -111,37 +112,25 @@ module _ {R In Out : Type 0} (Does : Sitting R In Out → (In × Out) × Sat →
   less_how (hosted.Served answers.DoorFault) count end text own hosts = absurd own
   less_how (hosted.Served answers.Memory) count end text own hosts = absurd own
 
-  file_less : (D : Type 0) (ended : Ended) (count : ℕ) (end : Bool) (campaign : Option (List ℕ)) → HasOwnLine ended → FileServes Does D ended count end campaign a b c d e f m n out after → FileServes Does D Memory count end campaign a b c d e f m n out after
+  file_less : (D : Type 0) (ended : Ended) (count : ℕ) (end : Bool) (campaign : Option (List ℕ)) → HasOwnLine ended → FileServes Does written D ended count end campaign early late → FileServes Does written D Memory count end campaign early late
   file_less D ended count end campaign own (inl none) = inl (tt, none.1)
   file_less D ended count end campaign own (inr g) = inr (record { text = g.text; told = g.told; small = g.small; ends = less_how g.ends.how count end g.text (subst HasOwnLine g.ends.told own) g.ends.hosts })
 
-  job_less : (D : Type 0) (ended : Ended) (service : Option Service) (texts : List ℕ → Option (List ℕ)) → HasOwnLine ended → JobServes Does D ended service texts a b c d e f m n out after → JobServes Does D Memory service texts a b c d e f m n out after
+  job_less : (D : Type 0) (ended : Ended) (service : Option Service) (texts : List ℕ → Option (List ℕ)) → HasOwnLine ended → JobServes Does written D ended service texts early late → JobServes Does written D Memory service texts early late
   job_less D ended None texts own job = (inr refl, job.1)
   job_less D ended (Some service) texts own job = file_less D ended service.count service.end (texts service.file) own job
 
-  told_as : (D : Type 0) (ended told : Ended) (service : Option Service) (texts : List ℕ → Option (List ℕ)) → IsToldAs ended told → JobServes Does D ended service texts a b c d e f m n out after → JobServes Does D told service texts a b c d e f m n out after
-  told_as D ended told service texts (inl same) job = subst (λ x. JobServes Does D x service texts a b c d e f m n out after) (sym same) job
-  told_as D ended told service texts (inr less) job = subst (λ x. JobServes Does D x service texts a b c d e f m n out after) (sym less.1) (job_less D ended service texts less.0 job)
+  told_as : (D : Type 0) (ended told : Ended) (service : Option Service) (texts : List ℕ → Option (List ℕ)) → IsToldAs ended told → JobServes Does written D ended service texts early late → JobServes Does written D told service texts early late
+  told_as D ended told service texts (inl same) job = subst (λ x. JobServes Does written D x service texts early late) (sym same) job
+  told_as D ended told service texts (inr less) job = subst (λ x. JobServes Does written D x service texts early late) (sym less.1) (job_less D ended service texts less.0 job)
 
-  -- ---- the whole run
-
-  pub run_served : (D : Type 0) (status : ℕ) (ended told : Ended) (service : Option Service) (texts : List ℕ → Option (List ℕ)) (last : Option (List ℕ)) (x y z : ℕ) → status ≡ status_of told → IsToldAs ended told → JobServes Does D ended service texts a b c d e f m n out after
-      → x ≤ y → (last ≡ append_known after (last_line told)) ⊎ (CountRose y z × WroteFront after (last_line told) last) → HasEndedServing Does status service texts a b c d e f m n out last D (CountRose x z)
-  run_served D status ended told service texts last x y z s t job le line = record {
-    ended = told;
-    status_is = s;
-    before_line = after;
-    ends = told_as D ended told service texts t job;
-    line = elim line [ inl whole ↦ inl whole | inr front ↦ inr (count_after x y z le front.0, front.1) ];
-  }
-
-  used : (D : Type 0) (service : Option Service) (texts : List ℕ → Option (List ℕ)) → JobServes Does D Usage service texts a b c d e f m n out after → service ≡ None
+  used : (D : Type 0) (service : Option Service) (texts : List ℕ → Option (List ℕ)) → JobServes Does written D Usage service texts early late → service ≡ None
   used D None texts job = refl
   used D (Some service) texts (inl none) = absurd none.0
   used D (Some service) texts (inr g) = absurd (never_usage g.ends.how (sym g.ends.told))
 
-  no_service_ends : (D : Type 0) (ended : Ended) (service : Option Service) (texts : List ℕ → Option (List ℕ)) → service ≡ None → JobServes Does D ended service texts a b c d e f m n out after → (status_of ended ≡ 2) ⊎ (status_of ended ≡ 6)
-  no_service_ends D ended service texts none job = by (subst (λ s. JobServes Does D ended s texts a b c d e f m n out after) none job).0
+  no_service_ends : (D : Type 0) (ended : Ended) (service : Option Service) (texts : List ℕ → Option (List ℕ)) → service ≡ None → JobServes Does written D ended service texts early late → (status_of ended ≡ 2) ⊎ (status_of ended ≡ 6)
+  no_service_ends D ended service texts none job = by (subst (λ s. JobServes Does written D ended s texts early late) none job).0
     where
       by : (ended ≡ Usage) ⊎ (ended ≡ Memory) → (status_of ended ≡ 2) ⊎ (status_of ended ≡ 6)
       by (inl usage) = inl (ap status_of usage)
@@ -149,7 +138,7 @@ module _ {R In Out : Type 0} (Does : Sitting R In Out → (In × Out) × Sat →
 
   -- ---- completeness
 
-  hosts_done : (how : Hosted) (count : ℕ) (end : Bool) (text : List ℕ) (origin : World) → world_of_text text ≡ Some origin → ¬ (status_of (hosted_as how) ≡ 5) → ¬ (status_of (hosted_as how) ≡ 9) → Hosts Does how text count end a b c d e f m n out after → DoneOrMemory (status_of (hosted_as how))
+  hosts_done : (how : Hosted) (count : ℕ) (end : Bool) (text : List ℕ) (origin : World) → world_of_text text ≡ Some origin → ¬ (status_of (hosted_as how) ≡ 5) → ¬ (status_of (hosted_as how) ≡ 9) → Hosts Does written how text count end early late → DoneOrMemory (status_of (hosted_as how))
   hosts_done (hosted.Bad breach) count end text origin is no_write no_door hosts = absurd (breach_world text breach origin is hosts.0)
   hosts_done hosted.Memory count end text origin is no_write no_door hosts = inr refl
   hosts_done hosted.Closed count end text origin is no_write no_door hosts = absurd (no_door refl)
@@ -159,25 +148,40 @@ module _ {R In Out : Type 0} (Does : Sitting R In Out → (In × Out) × Sat →
   hosts_done (hosted.Served answers.Memory) count end text origin is no_write no_door hosts = inr refl
 
   file_done : (D : Type 0) (ended : Ended) (count : ℕ) (end : Bool) (told : Option (List ℕ)) (campaign : List ℕ) (origin : World) → told ≡ Some campaign → length campaign ≤ campaign_limit → world_of_text campaign ≡ Some origin
-      → ¬ (status_of ended ≡ 4) → ¬ (status_of ended ≡ 5) → ¬ (status_of ended ≡ 9) → FileServes Does D ended count end told a b c d e f m n out after → DoneOrMemory (status_of ended)
+      → ¬ (status_of ended ≡ 4) → ¬ (status_of ended ≡ 5) → ¬ (status_of ended ≡ 9) → FileServes Does written D ended count end told early late → DoneOrMemory (status_of ended)
   file_done D ended count end told campaign origin is small opens no_read no_write no_door (inl none) = not_fetched_done D ended campaign small no_read (subst (NotFetched D ended) is none.0)
   file_done D ended count end told campaign origin is small opens no_read no_write no_door (inr g) =
       let same : g.text ≡ campaign = subst (λ t. IfSome t (λ told. g.text ≡ told)) is g.told in
       let status : status_of ended ≡ status_of (hosted_as g.ends.how) = ap status_of g.ends.told in
       subst DoneOrMemory (sym status) (hosts_done g.ends.how count end g.text origin (ap world_of_text same ∙ opens) (λ h. no_write (status ∙ h)) (λ h. no_door (status ∙ h)) g.ends.hosts)
 
-module _ {R In Out : Type 0} (Does : Sitting R In Out → (In × Out) × Sat → Type 0) (a b c d : Option (List (In × Out))) (e f : Option ℕ) (m n : ℕ) (out after : Option (List ℕ)) where
-  pub usage_if : (status : ℕ) (service : Option Service) (texts : List ℕ → Option (List ℕ)) (D OutFailed : Type 0) → HasEndedServing Does status service texts a b c d e f m n out after D OutFailed → status ≡ 2 → service ≡ None
-  usage_if status service texts D OutFailed h s =
-      used Does a b c d e f m n out h.before_line D service texts (subst (λ x. JobServes Does D x service texts a b c d e f m n out h.before_line) (two_is_usage h.ended (sym h.status_is ∙ s)) h.ends)
+module _ {R In Out : Type 0} (Does : Sitting R In Out → (In × Out) × Sat → Type 0) (written : Out → Option (List ℕ)) (early late : Outside In Out) where
+  -- ---- the whole run
 
-  pub no_service_only : (status : ℕ) (service : Option Service) (texts : List ℕ → Option (List ℕ)) (D OutFailed : Type 0) → HasEndedServing Does status service texts a b c d e f m n out after D OutFailed → service ≡ None → (status ≡ 2) ⊎ (status ≡ 6)
-  no_service_only status service texts D OutFailed h none = subst (λ s. (s ≡ 2) ⊎ (s ≡ 6)) (sym h.status_is) (no_service_ends Does a b c d e f m n out h.before_line D h.ended service texts none h.ends)
+  pub run_served : (D : Type 0) (status : ℕ) (ended told : Ended) (service : Option Service) (texts : List ℕ → Option (List ℕ)) (after : Option (List ℕ)) (faults : ℕ) → status ≡ status_of told → IsToldAs ended told
+      → JobServes Does written D ended service texts early (with_output late after faults) → faults ≤ late.out_faults
+      → (late.written ≡ append_known after (last_line told)) ⊎ (CountRose faults late.out_faults × WroteFront after (last_line told) late.written) → HasEndedServing Does written status service texts early late D
+  run_served D status ended told service texts after faults s t job le line = record {
+    ended = told;
+    status_is = s;
+    before_line = after;
+    faults = faults;
+    later = le;
+    ends = told_as Does written early (with_output late after faults) D ended told service texts t job;
+    line = line;
+  }
 
-  pub serve_completes : (status : ℕ) (asked : Option Service) (service : Service) (texts : List ℕ → Option (List ℕ)) (D OutFailed : Type 0) (campaign : List ℕ) (origin : World) → HasEndedServing Does status asked texts a b c d e f m n out after D OutFailed → asked ≡ Some service
+  pub usage_if : (status : ℕ) (service : Option Service) (texts : List ℕ → Option (List ℕ)) (D : Type 0) → HasEndedServing Does written status service texts early late D → status ≡ 2 → service ≡ None
+  usage_if status service texts D h s =
+      used Does written early (with_output late h.before_line h.faults) D service texts (subst (λ x. JobServes Does written D x service texts early (with_output late h.before_line h.faults)) (two_is_usage h.ended (sym h.status_is ∙ s)) h.ends)
+
+  pub no_service_only : (status : ℕ) (service : Option Service) (texts : List ℕ → Option (List ℕ)) (D : Type 0) → HasEndedServing Does written status service texts early late D → service ≡ None → (status ≡ 2) ⊎ (status ≡ 6)
+  no_service_only status service texts D h none = subst (λ s. (s ≡ 2) ⊎ (s ≡ 6)) (sym h.status_is) (no_service_ends Does written early (with_output late h.before_line h.faults) D h.ended service texts none h.ends)
+
+  pub serve_completes : (status : ℕ) (asked : Option Service) (service : Service) (texts : List ℕ → Option (List ℕ)) (D : Type 0) (campaign : List ℕ) (origin : World) → HasEndedServing Does written status asked texts early late D → asked ≡ Some service
       → texts service.file ≡ Some campaign → length campaign ≤ campaign_limit → world_of_text campaign ≡ Some origin → ¬ (status ≡ 4) → ¬ (status ≡ 5) → ¬ (status ≡ 9) → DoneOrMemory status
-  serve_completes status asked service texts D OutFailed campaign origin h is told small opens no_read no_write no_door =
+  serve_completes status asked service texts D campaign origin h is told small opens no_read no_write no_door =
       subst DoneOrMemory (sym h.status_is)
-      (file_done Does a b c d e f m n out h.before_line D h.ended service.count service.end (texts service.file) campaign origin told small opens
+      (file_done Does written early (with_output late h.before_line h.faults) D h.ended service.count service.end (texts service.file) campaign origin told small opens
       (λ s. no_read (h.status_is ∙ s)) (λ s. no_write (h.status_is ∙ s)) (λ s. no_door (h.status_is ∙ s))
-      (subst (λ j. JobServes Does D h.ended j texts a b c d e f m n out h.before_line) is h.ends))
+      (subst (λ j. JobServes Does written D h.ended j texts early (with_output late h.before_line h.faults)) is h.ends))

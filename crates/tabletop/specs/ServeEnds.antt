@@ -1,12 +1,14 @@
 -- What a run of `serve` did, by how it ended.
-use Rattle.std.specs.Prelude.{◌≡◌, ◌⊎◌, ℕ, List, Bool, Option, Some, None, option_and_then}
+use Rattle.std.specs.Prelude.{◌≡◌, ◌≤◌, ◌⊎◌, ℕ, List, Bool, Option, Some, None, option_and_then}
 use Rattle.std.specs.Io.KnownBytes.{append_known}
+use Rattle.line_io.specs.Counts.{CountRose}
 use Rattle.script_play.specs.Sending.{WroteFront}
 use Rattle.session.specs.declared.service.Sat.{Sat}
 use Rattle.serving.specs.declared.sittings.Sitting.{Sitting}
 use Rattle.serving.specs.declared.serving_hall.Served.TheVariants as answers
 use Rattle.serving.specs.declared.hosting.Hosted.{Hosted}
 use Rattle.serving.specs.declared.hosting.Hosted.TheVariants as hosted
+use Rattle.serving.specs.Outside.{Outside, with_output}
 use Rattle.serving.specs.Hosted.{Hosts, NothingServed}
 use Rattle.command_words.specs.Words.{Asked, Play, Check, Drill, Serve, job_of}
 use Rattle.tabletop.specs.declared.endings.Ended.{Ended}
@@ -42,32 +44,30 @@ hosted_as (hosted.Served answers.WriteFault) = WriteFault
 hosted_as (hosted.Served answers.DoorFault) = DoorFault
 hosted_as (hosted.Served answers.Memory) = Memory
 
-module _ {R In Out : Type 0} (Does : Sitting R In Out → (In × Out) × Sat → Type 0) where
+module _ {R In Out : Type 0} (Does : Sitting R In Out → (In × Out) × Sat → Type 0) (written : Out → Option (List ℕ)) where
   -- once the campaign's text was there
-  pub record TextServes (ended : Ended) (count : ℕ) (end : Bool) (to_come left ended_before ended_after : Option (List (In × Out))) (started_before started_after : Option ℕ) (faults_before faults_after : ℕ) (out after : Option (List ℕ)) (text : List ℕ) : Type 0 where
+  pub record TextServes (ended : Ended) (count : ℕ) (end : Bool) (early late : Outside In Out) (text : List ℕ) : Type 0 where
     pub how : Hosted
     pub told : ended ≡ hosted_as how
-    pub hosts : Hosts Does how text count end to_come left ended_before ended_after started_before started_after faults_before faults_after out after
+    pub hosts : Hosts Does written how text count end early late
 
   -- on the campaign of a file, which has this text where it is told
-  abbrev pub FileServes : (DeskFailed : Type 0) → Ended → ℕ → Bool → (campaign : Option (List ℕ)) → (to_come left ended_before ended_after : Option (List (In × Out))) → (started_before started_after : Option ℕ) → (faults_before faults_after : ℕ) → (out after : Option (List ℕ)) → Type 0
-  FileServes DeskFailed ended count end campaign to_come left ended_before ended_after started_before started_after faults_before faults_after out after =
-      (NotFetched DeskFailed ended campaign × NothingServed to_come left ended_before ended_after started_before started_after out after)
-      ⊎ Fetched (TextServes ended count end to_come left ended_before ended_after started_before started_after faults_before faults_after out after) campaign
+  abbrev pub FileServes : (DeskFailed : Type 0) → Ended → ℕ → Bool → (campaign : Option (List ℕ)) → (early late : Outside In Out) → Type 0
+  FileServes DeskFailed ended count end campaign early late =
+      (NotFetched DeskFailed ended campaign × NothingServed early late) ⊎ Fetched (TextServes ended count end early late) campaign
 
   -- the words asked for this, or for nothing that is served. The desk has a text of some names
-  abbrev pub JobServes : (DeskFailed : Type 0) → Ended → Option Service → (texts : List ℕ → Option (List ℕ)) → (to_come left ended_before ended_after : Option (List (In × Out))) → (started_before started_after : Option ℕ) → (faults_before faults_after : ℕ) → (out after : Option (List ℕ)) → Type 0
-  JobServes DeskFailed ended None texts to_come left ended_before ended_after started_before started_after faults_before faults_after out after =
-      ((ended ≡ Usage) ⊎ (ended ≡ Memory)) × NothingServed to_come left ended_before ended_after started_before started_after out after
-  JobServes DeskFailed ended (Some service) texts to_come left ended_before ended_after started_before started_after faults_before faults_after out after =
-      FileServes DeskFailed ended service.count service.end (texts service.file) to_come left ended_before ended_after started_before started_after faults_before faults_after out after
+  abbrev pub JobServes : (DeskFailed : Type 0) → Ended → Option Service → (texts : List ℕ → Option (List ℕ)) → (early late : Outside In Out) → Type 0
+  JobServes DeskFailed ended None texts early late = ((ended ≡ Usage) ⊎ (ended ≡ Memory)) × NothingServed early late
+  JobServes DeskFailed ended (Some service) texts early late = FileServes DeskFailed ended service.count service.end (texts service.file) early late
 
   -- the whole run: how it ended, by its status, and the last line printed, of which a fault leaves a front
-  pub record HasEndedServing (status : ℕ) (service : Option Service) (texts : List ℕ → Option (List ℕ)) (to_come left ended_before ended_after : Option (List (In × Out))) (started_before started_after : Option ℕ) (faults_before faults_after : ℕ) (out after : Option (List ℕ))
-      (DeskFailed OutFailed : Type 0) : Type 0 where
+  pub record HasEndedServing (status : ℕ) (service : Option Service) (texts : List ℕ → Option (List ℕ)) (early late : Outside In Out) (DeskFailed : Type 0) : Type 0 where
     pub ended : Ended
     pub status_is : status ≡ status_of ended
-    -- what was written before the last line
+    -- what was written before the last line, and how many calls of the output had failed by then
     pub before_line : Option (List ℕ)
-    pub ends : JobServes DeskFailed ended service texts to_come left ended_before ended_after started_before started_after faults_before faults_after out before_line
-    pub line : (after ≡ append_known before_line (last_line ended)) ⊎ (OutFailed × WroteFront before_line (last_line ended) after)
+    pub faults : ℕ
+    pub later : faults ≤ late.out_faults
+    pub ends : JobServes DeskFailed ended service texts early (with_output late before_line faults)
+    pub line : (late.written ≡ append_known before_line (last_line ended)) ⊎ (CountRose faults late.out_faults × WroteFront before_line (last_line ended) late.written)

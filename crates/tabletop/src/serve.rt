@@ -4,6 +4,7 @@ ghost use Rattle.line_io.specs.Counts.{CountRose};
 ghost use Rattle.campaign_law.specs.World.{World};
 ghost use Rattle.campaign_core.specs.Opening.{world_of_text};
 ghost use Rattle.command_words.specs.Words.{job_of};
+ghost use Rattle.serving.specs.Outside.{as_told};
 ghost use Rattle.tabletop.specs.Ends.{campaign_limit};
 ghost use Rattle.tabletop.specs.ServeEnds.{Service, service_in, FileServes, JobServes, HasEndedServing, TextServes, hosted_as as hosted_as_lem};
 
@@ -20,7 +21,8 @@ use std::thread::Threads;
 /// Does `serve FILE PORT COUNT [--end]` and gives the program's status: it opens one hall on the campaign of the file and the door at the
 /// port, runs a session for each of the first `COUNT` connections, or for all up to the door's end, and prints for each, in order
 /// of arrival, its number and how its session ended. With `--end` it then prints the campaign's text. Other words are none of its
-/// forms. After a stop the last line says why.
+/// forms. After a stop the last line says why. The hall is new and nothing but sessions enters anything by its passes: so where nobody
+/// else does, each session is sent its lines of the one history and no others.
 pub fn tabletop_serve<
     R: Threads + Wait + Sync + Clone + Drop,
     D: Desk,
@@ -41,9 +43,10 @@ where
     L::Out: Drop,
     P::Task: Drop,
     requires fit { P.fit spawner.old }
-    ensures ends { HasEndedServing ⟦<Sitting<R, L::In, L::Out> as Work>⟧.done result (service_in (map string_bytes words.now)) (D.text_of desk.old) (L.coming door.old) (L.coming door.new) (L.ended door.old) (L.ended door.new)
-        (P.started spawner.old) (P.started spawner.new) (P.faults_of spawner.old) (P.faults_of spawner.new) (O.written out.old) (O.written out.new)
-        (CountRose (D.faults_of desk.old) (D.faults_of desk.new)) (CountRose (O.faults_of out.old) (O.faults_of out.new)) }
+    ensures ends { HasEndedServing ⟦<Sitting<R, L::In, L::Out> as Work>⟧.done L.Out.written result (service_in (map string_bytes words.now)) (D.text_of desk.old)
+        (as_told (L.coming door.old) (L.ended door.old) (P.started spawner.old) (P.faults_of spawner.old) (O.written out.old) (O.faults_of out.old))
+        (as_told (L.coming door.new) (L.ended door.new) (P.started spawner.new) (P.faults_of spawner.new) (O.written out.new) (O.faults_of out.new))
+        (CountRose (D.faults_of desk.old) (D.faults_of desk.new)) }
 
     // Words that are no form of the program give 2; those that are a form which this call doesn't do give it too, unless memory ran out.
     ensures usage { result ≡ 2 → service_in (map string_bytes words.now) ≡ None }
@@ -84,8 +87,10 @@ where
     L::Out: Drop,
     P::Task: Drop,
     requires fit { P.fit spawner.old }
-    ensures ends { JobServes ⟦<Sitting<R, L::In, L::Out> as Work>⟧.done (CountRose (D.faults_of desk.old) (D.faults_of desk.new)) result (service_in (map string_bytes words.now)) (D.text_of desk.old)
-        (L.coming door.old) (L.coming door.new) (L.ended door.old) (L.ended door.new) (P.started spawner.old) (P.started spawner.new) (P.faults_of spawner.old) (P.faults_of spawner.new) (O.written out.old) (O.written out.new) }
+    ensures ends { JobServes ⟦<Sitting<R, L::In, L::Out> as Work>⟧.done L.Out.written (CountRose (D.faults_of desk.old) (D.faults_of desk.new)) result (service_in (map string_bytes words.now))
+        (D.text_of desk.old)
+        (as_told (L.coming door.old) (L.ended door.old) (P.started spawner.old) (P.faults_of spawner.old) (O.written out.old) (O.faults_of out.old))
+        (as_told (L.coming door.new) (L.ended door.new) (P.started spawner.new) (P.faults_of spawner.new) (O.written out.new) (O.faults_of out.new)) }
     ensures no_form { job_of (map string_bytes words.now) ≡ None → result ≡ Ended.Usage }
     ensures read_fault { result ≡ Ended.ReadFault → CountRose (D.faults_of desk.old) (D.faults_of desk.new) }
     ensures write_fault { result ≡ Ended.WriteFault → CountRose (O.faults_of out.old) (O.faults_of out.new) }
@@ -131,8 +136,9 @@ where
     P::Task: Drop,
     requires count { (1 ≤ count) × (count ≤ 1024) }
     requires fit { P.fit spawner.old }
-    ensures ends { FileServes ⟦<Sitting<R, L::In, L::Out> as Work>⟧.done (CountRose (D.faults_of desk.old) (D.faults_of desk.new)) result count end (D.text_of desk.old file.now)
-        (L.coming door.old) (L.coming door.new) (L.ended door.old) (L.ended door.new) (P.started spawner.old) (P.started spawner.new) (P.faults_of spawner.old) (P.faults_of spawner.new) (O.written out.old) (O.written out.new) }
+    ensures ends { FileServes ⟦<Sitting<R, L::In, L::Out> as Work>⟧.done L.Out.written (CountRose (D.faults_of desk.old) (D.faults_of desk.new)) result count end (D.text_of desk.old file.now)
+        (as_told (L.coming door.old) (L.ended door.old) (P.started spawner.old) (P.faults_of spawner.old) (O.written out.old) (O.faults_of out.old))
+        (as_told (L.coming door.new) (L.ended door.new) (P.started spawner.new) (P.faults_of spawner.new) (O.written out.new) (O.faults_of out.new)) }
     ensures not_usage { result ≡ Ended.Usage → ⊥ }
     ensures read_fault { result ≡ Ended.ReadFault → CountRose (D.faults_of desk.old) (D.faults_of desk.new) }
     ensures write_fault { result ≡ Ended.WriteFault → CountRose (O.faults_of out.old) (O.faults_of out.new) }

@@ -8,6 +8,7 @@ mod cuts;
 mod drills;
 mod evening;
 mod faults;
+mod full_table;
 mod macros;
 mod plays;
 mod refusals;

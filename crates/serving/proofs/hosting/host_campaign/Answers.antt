@@ -1,6 +1,8 @@
-use Rattle.std.proofs.Common.{rules, ◌≡◌, subst}
+use Rattle.std.proofs.Common.{rules, ◌≡◌, [], subst, ap, ◌∙◌}
 use Rattle.std.specs.Arc.{arc_value}
+use Rattle.turn_lock.specs.Pass.{first_pass}
 use Rattle.serving.specs.Runs.{IsRunOf}
+use Rattle.serving.specs.Outside.{as_told}
 use Rattle.serving.specs.Endings.{EndsWith}
 use Rattle.serving.proofs.Hostings.{served_on}
 use Rattle.serving.proofs.hosting.host_campaign.Goals as goal
@@ -9,6 +11,12 @@ pub returns-clause-hosts : goal.returns-clause-hosts
 returns-clause-hosts g c =
     let hall = arc_value c.in-Ok-new.hall in
     let is : hall.origin ≡ c.args.campaign.origin = search rules in
-    served_on (IsRunOf g.L.In.Source.left g.L.Out.Sink.written g.L.In.Source.faults_of g.L.Out.Sink.faults_of) c.serve_hall-pass.result.1 c.ended.result hall c.args.campaign.origin c.args.count c.args.end c.serve_hall-pass.result.0.front
-    _ _ _ _ _ _ _ _ _ _ _ _ _ c.requires.opening is c.open-2.ensures.coming c.open-2.ensures.ended c.serve_hall-pass.ensures.serves
-    (subst (λ h. EndsWith c.args.end c.serve_hall-pass.result.1 c.ended.result h.origin c.serve_hall-pass.result.0.front (g.O.Sink.written c.serve_hall-pass.new.out) (g.O.Sink.written c.ended.new.out)) c.deref.ensures c.ended.ensures.ends)
+    let first : c.in-Ok.pass ≡ first_pass hall [] = search rules in
+    let begins : c.in-Ok.usher.count ≡ 1 = search rules in
+    let opened = c.open-2.ensures in
+    let spawner = c.args.spawner.now in
+    let out = c.args.out.now in
+    served_on (IsRunOf g.L.In.Source.left g.L.Out.Sink.written g.L.In.Source.faults_of g.L.Out.Sink.faults_of) g.L.Out.Sink.written c.serve_hall-pass.result.1 c.ended.result hall c.args.campaign.origin c.args.count c.args.end
+    c.in-Ok.pass c.serve_hall-pass.result.0 c.in-Ok.usher.count c.serve_hall-pass.new.usher.count _ _ _ (g.O.Sink.written c.serve_hall-pass.new.out) (g.O.Sink.faults_of c.serve_hall-pass.new.out)
+    c.requires.opening is first begins (λ i. as_told (opened.coming i) (opened.ended i) (g.P.Spawner.started spawner) (g.P.Spawner.faults_of spawner) (g.O.Sink.written out) (g.O.Sink.faults_of out)) c.ended.ensures.count c.serve_hall-pass.ensures.serves
+    (subst (λ h. EndsWith c.args.end c.serve_hall-pass.result.1 c.ended.result h.origin c.serve_hall-pass.result.0 (g.O.Sink.written c.serve_hall-pass.new.out) (g.O.Sink.written c.ended.new.out)) c.deref.ensures c.ended.ensures.ends)

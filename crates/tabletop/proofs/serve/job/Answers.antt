@@ -15,9 +15,6 @@ serve_file-requires-clause-count g c κs within =
 
 pub returns-in-Err-Memory-clause-ends : goal.returns-in-Err-Memory-clause-ends
 returns-in-Err-Memory-clause-ends g c =
-    let door = c.args.door.now in
-    let spawner = c.args.spawner.now in
     let faults = g.D.Desk.faults_of c.args.desk.now in
-    memory_serves (IsRunOf g.L.In.Source.left g.L.Out.Sink.written g.L.In.Source.faults_of g.L.Out.Sink.faults_of) (g.L.Door.coming door) (g.L.Door.coming door) (g.L.Door.ended door) (g.L.Door.ended door)
-    (g.P.Spawner.started spawner) (g.P.Spawner.started spawner) (g.P.Spawner.faults_of spawner) (g.P.Spawner.faults_of spawner) (g.O.Sink.written c.args.out.now) (g.O.Sink.written c.args.out.now)
-    (CountRose faults faults) (service_in (map string_bytes c.args.words.now)) (g.D.Desk.text_of c.args.desk.now) (refl, refl, refl, refl)
+    memory_serves (IsRunOf g.L.In.Source.left g.L.Out.Sink.written g.L.In.Source.faults_of g.L.Out.Sink.faults_of) g.L.Out.Sink.written _ _
+    (CountRose faults faults) (service_in (map string_bytes c.args.words.now)) (g.D.Desk.text_of c.args.desk.now) (record { coming = refl; ended = refl; started = refl; written = refl })
