@@ -335,11 +335,12 @@ module _ {R In Out : Type 0} (hall : HallState World) (G : List Entry) (left : I
       let own = done.1.reader.own ++ done.1.writer.own in
       let r = sitting.reader.number in
       let s = sitting.writer.number in
-      let mine = entered_by hall.origin G r s own done.1.ended (written sitting.output) (written done.0.1) got.0 in
-      (told_one hall.origin G r s own done.1.ended (written sitting.output) (written done.0.1)
-      (apart_from hall.origin G low r s front own (owns_of fates) new.0.from_low new.0.next below (entered_later fates (suc s) high got.1 new.1) whole) got.0,
-      told_all fates (front ++ own) (suc s) high (below_next hall.origin G low r s front own new.0.from_low new.0.next mine below) got.1 new.1
-      (subst (λ l. (k : ℕ) → k < length G → Contains l k) (sym (append_assoc front own (owns_of fates))) whole))
+      let mine = entered_by hall.origin G r s own done.1.ended (written sitting.output) (written done.0.1) got.0 in (
+        told_one hall.origin G r s own done.1.ended (written sitting.output) (written done.0.1)
+            (apart_from hall.origin G low r s front own (owns_of fates) new.0.from_low new.0.next below (entered_later fates (suc s) high got.1 new.1) whole) got.0,
+        told_all fates (front ++ own) (suc s) high (below_next hall.origin G low r s front own new.0.from_low new.0.next mine below) got.1 new.1
+            (subst (λ l. (k : ℕ) → k < length G → Contains l k) (sym (append_assoc front own (owns_of fates))) whole),
+      )
 
   tells : (fates : List (Fate R In Out)) → ∥ AllByRecursion ToldNow fates ∥₁ → AllByRecursion (IsToldItsOwn hall.origin G written) fates
   tells [] told = tt

@@ -41,7 +41,8 @@ where
     ensures pass { IsPassOf (arc_value hall.now) result.0 }
     ensures number { result.0.number ≡ pass.number }
     ensures front { IsPrefix pass.front result.0.front }
-    ensures gathers { GathersOne P.work_of ⟦<Sitting<R, L::In, L::Out> as Work>⟧.done guest result.1 pass result.0 (L.ended door.old) (L.ended door.new) }
+    ensures gathers { GathersOne P.work_of ⟦<Sitting<R, L::In, L::Out> as Work>⟧.done
+        guest result.1 pass result.0 (L.ended door.old) (L.ended door.new) }
     ensures coming { L.coming door.new ≡ L.coming door.old }
     ensures away { (k : ℕ) → IsAtLeast (one_sitting guest + k) (L.away door.old) → IsAtLeast k (L.away door.new) }
     ensures door_count { L.faults_of door.old ≤ L.faults_of door.new }
@@ -91,7 +92,8 @@ where
     ensures pass { IsPassOf (arc_value hall.now) result.0 }
     ensures number { result.0.number ≡ pass.number }
     ensures front { IsPrefix pass.front result.0.front }
-    ensures gathered { HasGathered P.work_of ⟦<Sitting<R, L::In, L::Out> as Work>⟧.done guests.items pass result.0 (L.ended door.old) (L.ended door.new) result.1 (O.written out.old) (O.written out.new) }
+    ensures gathered { HasGathered P.work_of ⟦<Sitting<R, L::In, L::Out> as Work>⟧.done
+        guests.items pass result.0 (L.ended door.old) (L.ended door.new) result.1 (O.written out.old) (O.written out.new) }
     ensures coming { L.coming door.new ≡ L.coming door.old }
     ensures door_count { L.faults_of door.old ≤ L.faults_of door.new }
     ensures started { P.started spawner.new ≡ P.started spawner.old }

@@ -62,10 +62,13 @@ where
     requires count { (1 ≤ count) × (count ≤ 1024) }
     requires fit { P.fit spawner.old }
     ensures hosts { Hosts ⟦<Sitting<R, L::In, L::Out> as Work>⟧.done L.Out.written result text.now count end
-        (as_told (L.coming door.old) (L.ended door.old) (P.started spawner.old) (P.faults_of spawner.old) (O.written out.old) (O.faults_of out.old))
-        (as_told (L.coming door.new) (L.ended door.new) (P.started spawner.new) (P.faults_of spawner.new) (O.written out.new) (O.faults_of out.new)) }
+        (as_told (L.coming door.old) (L.ended door.old) (P.started spawner.old) (P.faults_of spawner.old)
+        (O.written out.old) (O.faults_of out.old))
+        (as_told (L.coming door.new) (L.ended door.new) (P.started spawner.new) (P.faults_of spawner.new)
+        (O.written out.new) (O.faults_of out.new)) }
     ensures write_fault { result ≡ Hosted.Served Served.WriteFault → CountRose (O.faults_of out.old) (O.faults_of out.new) }
-    ensures door_fault { (result ≡ Hosted.Closed) ⊎ (result ≡ Hosted.Served Served.DoorFault) → CountRose (L.faults_of door.old) (L.faults_of door.new) }
+    ensures door_fault { (result ≡ Hosted.Closed) ⊎ (result ≡ Hosted.Served Served.DoorFault)
+        → CountRose (L.faults_of door.old) (L.faults_of door.new) }
     ensures out_count { O.faults_of out.old ≤ O.faults_of out.new }
     ensures door_count { L.faults_of door.old ≤ L.faults_of door.new }
 {
@@ -103,10 +106,13 @@ where
     requires count { (1 ≤ count) × (count ≤ 1024) }
     requires fit { P.fit spawner.old }
     ensures hosts { HostsOn ⟦<Sitting<R, L::In, L::Out> as Work>⟧.done L.Out.written result campaign.origin count end
-        (as_told (L.coming door.old) (L.ended door.old) (P.started spawner.old) (P.faults_of spawner.old) (O.written out.old) (O.faults_of out.old))
-        (as_told (L.coming door.new) (L.ended door.new) (P.started spawner.new) (P.faults_of spawner.new) (O.written out.new) (O.faults_of out.new)) }
+        (as_told (L.coming door.old) (L.ended door.old) (P.started spawner.old) (P.faults_of spawner.old)
+        (O.written out.old) (O.faults_of out.old))
+        (as_told (L.coming door.new) (L.ended door.new) (P.started spawner.new) (P.faults_of spawner.new)
+        (O.written out.new) (O.faults_of out.new)) }
     ensures write_fault { result ≡ Hosted.Served Served.WriteFault → CountRose (O.faults_of out.old) (O.faults_of out.new) }
-    ensures door_fault { (result ≡ Hosted.Closed) ⊎ (result ≡ Hosted.Served Served.DoorFault) → CountRose (L.faults_of door.old) (L.faults_of door.new) }
+    ensures door_fault { (result ≡ Hosted.Closed) ⊎ (result ≡ Hosted.Served Served.DoorFault)
+        → CountRose (L.faults_of door.old) (L.faults_of door.new) }
     ensures out_count { O.faults_of out.old ≤ O.faults_of out.new }
     ensures door_count { L.faults_of door.old ≤ L.faults_of door.new }
 {
@@ -137,7 +143,8 @@ fn ended<R: Wait, O: Sink>(
     requires { IsPassOf hall.now pass }
     ensures ends { EndsWith end served result hall.now.origin pass (O.written out.old) (O.written out.new) }
     ensures count { O.faults_of out.old ≤ O.faults_of out.new }
-    ensures write_fault { result ≡ Served.WriteFault → (served ≡ Served.WriteFault) ⊎ CountRose (O.faults_of out.old) (O.faults_of out.new) }
+    ensures write_fault { result ≡ Served.WriteFault
+        → (served ≡ Served.WriteFault) ⊎ CountRose (O.faults_of out.old) (O.faults_of out.new) }
     ensures door_fault { result ≡ Served.DoorFault → served ≡ Served.DoorFault }
 {
     if end && served == Served::Done {

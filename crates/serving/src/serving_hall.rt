@@ -60,9 +60,12 @@ where
     requires opening { IsOpening (arc_value hall.now).origin }
     requires fit { P.fit spawner.old }
     ensures split { HasSplit (arc_value hall.now) 2048 pass result.0 usher.old usher.new }
-    ensures serves { Serves (arc_value hall.now) ⟦<Sitting<R, L::In, L::Out> as Work>⟧.done L.Out.written result.1 count pass result.0 usher.old.count usher.new.count
-        (as_told (L.coming door.old) (L.ended door.old) (P.started spawner.old) (P.faults_of spawner.old) (O.written out.old) (O.faults_of out.old))
-        (as_told (L.coming door.new) (L.ended door.new) (P.started spawner.new) (P.faults_of spawner.new) (O.written out.new) (O.faults_of out.new)) }
+    ensures serves { Serves (arc_value hall.now) ⟦<Sitting<R, L::In, L::Out> as Work>⟧.done L.Out.written
+        result.1 count pass result.0 usher.old.count usher.new.count
+        (as_told (L.coming door.old) (L.ended door.old) (P.started spawner.old) (P.faults_of spawner.old)
+        (O.written out.old) (O.faults_of out.old))
+        (as_told (L.coming door.new) (L.ended door.new) (P.started spawner.new) (P.faults_of spawner.new)
+        (O.written out.new) (O.faults_of out.new)) }
     ensures write_fault { result.1 ≡ Served.WriteFault → CountRose (O.faults_of out.old) (O.faults_of out.new) }
     ensures door_fault { result.1 ≡ Served.DoorFault → CountRose (L.faults_of door.old) (L.faults_of door.new) }
     ensures out_count { O.faults_of out.old ≤ O.faults_of out.new }

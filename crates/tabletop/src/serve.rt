@@ -43,9 +43,12 @@ where
     L::Out: Drop,
     P::Task: Drop,
     requires fit { P.fit spawner.old }
-    ensures ends { HasEndedServing ⟦<Sitting<R, L::In, L::Out> as Work>⟧.done L.Out.written result (service_in (map string_bytes words.now)) (D.text_of desk.old)
-        (as_told (L.coming door.old) (L.ended door.old) (P.started spawner.old) (P.faults_of spawner.old) (O.written out.old) (O.faults_of out.old))
-        (as_told (L.coming door.new) (L.ended door.new) (P.started spawner.new) (P.faults_of spawner.new) (O.written out.new) (O.faults_of out.new))
+    ensures ends { HasEndedServing ⟦<Sitting<R, L::In, L::Out> as Work>⟧.done L.Out.written
+        result (service_in (map string_bytes words.now)) (D.text_of desk.old)
+        (as_told (L.coming door.old) (L.ended door.old) (P.started spawner.old) (P.faults_of spawner.old)
+        (O.written out.old) (O.faults_of out.old))
+        (as_told (L.coming door.new) (L.ended door.new) (P.started spawner.new) (P.faults_of spawner.new)
+        (O.written out.new) (O.faults_of out.new))
         (CountRose (D.faults_of desk.old) (D.faults_of desk.new)) }
 
     // Words that are no form of the program give 2; those that are a form which this call doesn't do give it too, unless memory ran out.
@@ -87,10 +90,13 @@ where
     L::Out: Drop,
     P::Task: Drop,
     requires fit { P.fit spawner.old }
-    ensures ends { JobServes ⟦<Sitting<R, L::In, L::Out> as Work>⟧.done L.Out.written (CountRose (D.faults_of desk.old) (D.faults_of desk.new)) result (service_in (map string_bytes words.now))
+    ensures ends { JobServes ⟦<Sitting<R, L::In, L::Out> as Work>⟧.done L.Out.written
+        (CountRose (D.faults_of desk.old) (D.faults_of desk.new)) result (service_in (map string_bytes words.now))
         (D.text_of desk.old)
-        (as_told (L.coming door.old) (L.ended door.old) (P.started spawner.old) (P.faults_of spawner.old) (O.written out.old) (O.faults_of out.old))
-        (as_told (L.coming door.new) (L.ended door.new) (P.started spawner.new) (P.faults_of spawner.new) (O.written out.new) (O.faults_of out.new)) }
+        (as_told (L.coming door.old) (L.ended door.old) (P.started spawner.old) (P.faults_of spawner.old)
+        (O.written out.old) (O.faults_of out.old))
+        (as_told (L.coming door.new) (L.ended door.new) (P.started spawner.new) (P.faults_of spawner.new)
+        (O.written out.new) (O.faults_of out.new)) }
     ensures no_form { job_of (map string_bytes words.now) ≡ None → result ≡ Ended.Usage }
     ensures read_fault { result ≡ Ended.ReadFault → CountRose (D.faults_of desk.old) (D.faults_of desk.new) }
     ensures write_fault { result ≡ Ended.WriteFault → CountRose (O.faults_of out.old) (O.faults_of out.new) }
@@ -136,9 +142,12 @@ where
     P::Task: Drop,
     requires count { (1 ≤ count) × (count ≤ 1024) }
     requires fit { P.fit spawner.old }
-    ensures ends { FileServes ⟦<Sitting<R, L::In, L::Out> as Work>⟧.done L.Out.written (CountRose (D.faults_of desk.old) (D.faults_of desk.new)) result count end (D.text_of desk.old file.now)
-        (as_told (L.coming door.old) (L.ended door.old) (P.started spawner.old) (P.faults_of spawner.old) (O.written out.old) (O.faults_of out.old))
-        (as_told (L.coming door.new) (L.ended door.new) (P.started spawner.new) (P.faults_of spawner.new) (O.written out.new) (O.faults_of out.new)) }
+    ensures ends { FileServes ⟦<Sitting<R, L::In, L::Out> as Work>⟧.done L.Out.written
+        (CountRose (D.faults_of desk.old) (D.faults_of desk.new)) result count end (D.text_of desk.old file.now)
+        (as_told (L.coming door.old) (L.ended door.old) (P.started spawner.old) (P.faults_of spawner.old)
+        (O.written out.old) (O.faults_of out.old))
+        (as_told (L.coming door.new) (L.ended door.new) (P.started spawner.new) (P.faults_of spawner.new)
+        (O.written out.new) (O.faults_of out.new)) }
     ensures not_usage { result ≡ Ended.Usage → ⊥ }
     ensures read_fault { result ≡ Ended.ReadFault → CountRose (D.faults_of desk.old) (D.faults_of desk.new) }
     ensures write_fault { result ≡ Ended.WriteFault → CountRose (O.faults_of out.old) (O.faults_of out.new) }

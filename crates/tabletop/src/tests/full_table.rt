@@ -64,7 +64,11 @@ fn sent(seat: u32) -> &'static str {
 
 fn campaign(rt: &impl Abort, alloc: Global) -> String {
     let mut text = String::new(alloc);
-    add(rt, &mut text, r#"{"format":1,"lights":{},"maps":[],"seats":["#);
+    add(
+        rt,
+        &mut text,
+        r#"{"format":1,"lights":{},"maps":[],"seats":["#,
+    );
     for seat in 0..SEATS {
         add(rt, &mut text, if seat == 0 { "" } else { "," });
         add(rt, &mut text, SEAT);
@@ -77,7 +81,9 @@ fn door(rt: &impl Abort, alloc: Global) -> MemDoor {
     let mut ends = Vec::new(alloc);
     for seat in 0..SEATS {
         let behind = lines(seat);
-        let hello = format!(in alloc; "{{\"do\":\"hello\",\"key\":\"k\",\"seat\":{seat}}}\n{behind}");
+        let hello = format!(in alloc;
+            "{{\"do\":\"hello\",\"key\":\"k\",\"seat\":{seat}}}\n{behind}"
+        );
         let text = text_of(rt, alloc, &hello.expect(rt, "memory"));
         let input = MemSource::new(alloc, text, 64, calls(rt, alloc, &[]));
         let both: (MemSource, MemSink) = (input, sink_of(rt, alloc, 64, &[]));
@@ -100,7 +106,9 @@ fn has_sent(rt: &impl Abort, alloc: Global, door: &MemDoor) {
     for seat in 0..SEATS {
         let (_, output) = ended.next().expect(rt, "a session");
         let behind = sent(seat);
-        let wanted = format!(in alloc; "{{\"n\":1,\"ok\":\"hello\",\"seat\":{seat},\"seats\":33}}\n{behind}");
+        let wanted = format!(in alloc;
+            "{{\"n\":1,\"ok\":\"hello\",\"seat\":{seat},\"seats\":33}}\n{behind}"
+        );
         assert_eq!(rt; output.bytes(), wanted.expect(rt, "memory").as_bytes());
     }
     assert!(rt; ended.next().is_none());
@@ -121,7 +129,13 @@ fn thirty_three_seats_share_one_hall(rt: HostRuntime) {
         &rt,
     );
     let status = tabletop_serve(
-        &rt, alloc, &words, &mut desk, &mut out, &mut door, &mut spawner,
+        &rt,
+        alloc,
+        &words,
+        &mut desk,
+        &mut out,
+        &mut door,
+        &mut spawner,
     );
     assert_eq!(&rt; status, 0);
     assert_eq!(&rt; out.bytes(), output(&rt, alloc).as_bytes());

@@ -8,12 +8,12 @@ returns-clause-ends g c =
 
 pub returns-clause-usage : goal.returns-clause-usage
 returns-clause-usage g c =
-    let h = run_served _ _ _ _ _ c.status_of.result c.job-ended.result c.print_last_line.result _ _ _ _ c.status_of.ensures c.print_last_line.ensures.ended c.job-ended.ensures.ends c.print_last_line.ensures.count c.print_last_line.ensures.line in
+    let h = returns-clause-ends g c in
     usage_if _ _ _ _ _ _ _ _ h
 
 pub returns-clause-no_service : goal.returns-clause-no_service
 returns-clause-no_service g c =
-    let h = run_served _ _ _ _ _ c.status_of.result c.job-ended.result c.print_last_line.result _ _ _ _ c.status_of.ensures c.print_last_line.ensures.ended c.job-ended.ensures.ends c.print_last_line.ensures.count c.print_last_line.ensures.line in
+    let h = returns-clause-ends g c in
     no_service_only _ _ _ _ _ _ _ _ h
 
 pub returns-clause-no_form : goal.returns-clause-no_form
@@ -30,7 +30,7 @@ returns-clause-door_fault g c = λ e. c.job-ended.ensures.door_fault (door_fault
 
 pub returns-clause-complete : goal.returns-clause-complete
 returns-clause-complete g c =
-    let h = run_served _ _ _ _ _ c.status_of.result c.job-ended.result c.print_last_line.result _ _ _ _ c.status_of.ensures c.print_last_line.ensures.ended c.job-ended.ensures.ends c.print_last_line.ensures.count c.print_last_line.ensures.line in
+    let h = returns-clause-ends g c in
     λ service campaign origin asked told small opens no_desk no_out no_door.
     serve_completes _ _ _ _ c.status_of.result _ service (g.D.Desk.text_of c.args.desk.now) _ campaign origin h asked told small opens
     (λ e. no_desk (c.job-ended.ensures.read_fault (read_fault_of c.status_of.result c.job-ended.result c.print_last_line.result c.status_of.ensures c.print_last_line.ensures.ended e)))
