@@ -22,13 +22,14 @@ use Rattle.session.specs.declared.hearing.ReadEnd.TheVariants.{Bye, Spent, Stopp
 use Rattle.session.specs.declared.hearing.ReadEnd.TheVariants as reads
 use Rattle.session.specs.declared.input.Stop.{Stop}
 use Rattle.session.specs.declared.input.Stop.TheVariants.{Memory}
-use Rattle.session.specs.Inputs.{CameFirst, StopsBefore, is_memory as is_memory_stop}
+use Rattle.session.specs.Inputs.{IsShort, CameFirst, CamePast, StopsBefore, is_memory as is_memory_stop}
 use Rattle.session.specs.Held.{is_held, is_read, is_cut, is_parted}
 use Rattle.session.specs.Own.{StandsAt, Got}
 use Rattle.session.specs.Heard.{IsReadBehind, IsReaders, line_in, lines_at, Came, CameBut, AreFirst, IsByeAt, IsSpentAt, IsUnspent, ClosedBy, AreCutBehind, CutsBehindLine, CutsBehindLines, stopped, IsReading, HasHeard}
 use Rattle.session.specs.Turned.{SpeaksAll, Leaves}
 use Rattle.session.specs.Spoken.{is_spent, is_memory, AreOver, Says, Enters, Speaks, AllGo, EndsSo, Spoken, SpokenSo}
 use Rattle.session.proofs.Alone.{stands_longer}
+use Rattle.session.proofs.LinesInHand.{past_none, past_of, past_more}
 use Rattle.session.proofs.Byes.{closed_by_bye, spent_closes}
 use Rattle.session.proofs.Cutting.{all_cut_unread}
 use Rattle.session.proofs.Parting.{Told, told_by, cut_told, parted_cut, both_first, not_cut, no_memory}
@@ -199,6 +200,7 @@ starts w hold p text = record {
   more = [];
   got = record { front = prefix_self p.front; number = refl; own = sym (append-nil p.own); each = λ i d lt. absurd (omega (arith, lt)) };
   came = nothing_came text;
+  short = All-nil IsShort;
   kept = λ i d lt. absurd (omega (arith, lt));
   unspent = λ i d lt. absurd (omega (arith, lt));
   cuts = λ i d lt. absurd (omega (arith, lt));
@@ -220,6 +222,7 @@ module _ (w : World) (hold : Hold) (p : PassState Entry World) (t : Option (List
       each = stands_longer (IsReaders w hold) q.front r.front is.more longer is.got.each;
     };
     came = subst (λ ls. WhereTold t v (CameBut hand ls)) (sym (lines_at-longer (IsReaders w hold) q.front r.front is.more longer is.got.each)) is.came;
+    short = is.short;
     kept = stands_longer (IsReadBehind w hold) q.front r.front is.more longer is.kept;
     unspent = stands_longer (IsUnspent w hold) q.front r.front is.more longer is.unspent;
     cuts = cuts_longer w (IsReaders w hold) q.front r.front is.more is.more longer is.got.each (λ k has. has) is.cuts;
@@ -243,7 +246,7 @@ module _ (w : World) (hold : Hold) (p : PassState Entry World) (t : Option (List
   leave_no_line h false = tt
   leave_no_line h true = ((λ seat bytes same. cc), tt)
 
-  module _ (q r : PassState Entry World) (hand : List (List ℕ)) (stop : Stop) (cut : Bool) (u v : Option (List ℕ)) (is : IsReading w hold p q hand t u) (none : stop ≢ Memory → (hand ≡ []) × (v ≡ u)) (left : Leaves w hold cut q r) where
+  module _ (q r : PassState Entry World) (hand : List (List ℕ)) (stop : Stop) (cut : Bool) (u v : Option (List ℕ)) (is : IsReading w hold p q hand t u) (none : stop ≢ Memory → (hand ≡ []) × (v ≡ u)) (past : CamePast [] u v) (left : Leaves w hold cut q r) where
     abbrev found_pass : PassState Entry World
     found_pass = record r { front = left.turn.found; own = q.own }
 
@@ -268,6 +271,7 @@ module _ (w : World) (hold : Hold) (p : PassState Entry World) (t : Option (List
           more = before_leave.more ++ leave_places;
           got = extended (IsReaders w hold) p found_pass r before_leave.more before_leave.got leave_step (leave_lawful found_pass.front left.entered left.turn.has_run.left.held);
           first = subst (λ ls. AreFirst ls t) (sym same) (are_first hand (lines_at found_pass.front before_leave.more) t u before_leave.came);
+          past = subst (λ ls. CamePast ls t v) (sym same) (past_more (lines_at found_pass.front before_leave.more) t u v (past_of hand (lines_at found_pass.front before_leave.more) t u before_leave.short before_leave.came) past);
           hand = [];
           behind = λ other. absurd (other refl);
           all = λ g c n.
@@ -298,6 +302,12 @@ module _ (w : World) (hold : Hold) (p : PassState Entry World) (t : Option (List
   -- ---- one line
 
   module _ (v : Option (List ℕ)) (q : PassState Entry World) (line : List ℕ) (hand : List (List ℕ)) (said : Said) (after : List Entry) (is : IsReading w hold p q (line ∷ hand) t v) (enters : Enters w hold q.front line said after) where
+    line_short : IsShort line
+    line_short = is.short 0 line (omega arith)
+
+    hand_short : All IsShort hand
+    hand_short = λ i d lt. is.short (suc i) d (omega (arith, lt))
+
     abbrev e : Entry
     e = Line hold.seat line
 
@@ -333,7 +343,7 @@ module _ (w : World) (hold : Hold) (p : PassState Entry World) (t : Option (List
     grown = (line_entries, sym after_is)
 
     spoke_got : Got (IsReaders w hold) p behind more
-    spoke_got = extended (IsReaders w hold) p q behind is.more is.got x ((refl, enters.read), cuts_lawful w hold lined cut_seats enters.cuts.are.over)
+    spoke_got = extended (IsReaders w hold) p q behind is.more is.got x ((refl, line_short, enters.read), cuts_lawful w hold lined cut_seats enters.cuts.are.over)
 
     spoke_lines : lines_at after more ≡ lines_at q.front is.more ++ line ∷ []
     spoke_lines = lines_now (IsReaders w hold) p q behind is.more is.got x ∙ ap (λ l. lines_at q.front is.more ++ line ∷ l) (lines_in_cuts cut_seats)
@@ -379,7 +389,7 @@ module _ (w : World) (hold : Hold) (p : PassState Entry World) (t : Option (List
     line_goes : said ≡ saying.Goes → IsReading w hold p behind hand t v
     line_goes so =
         let says = subst (Says w hold lined) so enters.says in
-        record { more = more; got = spoke_got; came = spoke_came; kept = spoke_kept says.0; unspent = spoke_unspent says.1; cuts = spoke_cuts }
+        record { more = more; got = spoke_got; came = spoke_came; short = hand_short; kept = spoke_kept says.0; unspent = spoke_unspent says.1; cuts = spoke_cuts }
 
     -- it was the session's last
     line_bye : said ≡ saying.Bye → is_parted w after hold ≡ false → HasHeard w hold p behind Bye false t v
@@ -395,6 +405,7 @@ module _ (w : World) (hold : Hold) (p : PassState Entry World) (t : Option (List
           more = more;
           got = spoke_got;
           first = are_first hand (lines_at after more) t v spoke_came;
+          past = past_of hand (lines_at after more) t v hand_short spoke_came;
           hand = hand;
           behind = λ some. (place, own_place, inl bye);
           all = λ g c n. spoke_came;
@@ -415,6 +426,7 @@ module _ (w : World) (hold : Hold) (p : PassState Entry World) (t : Option (List
           more = more;
           got = spoke_got;
           first = are_first hand (lines_at after more) t v spoke_came;
+          past = past_of hand (lines_at after more) t v hand_short spoke_came;
           hand = hand;
           behind = λ some. (place, own_place, inr spent);
           all = λ g c n. spoke_came;
@@ -432,6 +444,7 @@ module _ (w : World) (hold : Hold) (p : PassState Entry World) (t : Option (List
       more = more;
       got = spoke_got;
       first = are_first hand (lines_at after more) t v spoke_came;
+      past = past_of hand (lines_at after more) t v hand_short spoke_came;
       hand = [];
       behind = λ some. absurd (some refl);
       all = λ g c n. absurd (c refl);
@@ -449,6 +462,7 @@ module _ (w : World) (hold : Hold) (p : PassState Entry World) (t : Option (List
     more = is.more;
     got = is.got;
     first = are_first hand (lines_at q.front is.more) t v is.came;
+    past = past_of hand (lines_at q.front is.more) t v is.short is.came;
     hand = [];
     behind = λ some. absurd (some refl);
     all = λ g c n. absurd (c refl);
@@ -492,7 +506,7 @@ module _ (w : World) (hold : Hold) (p : PassState Entry World) (t : Option (List
         reading = subst (λ o. IsReading w hold p (record q { front = mid; own = o }) rest t v) (own_more q m one on.es there_is) on.reading;
       }
 
-  module _ (q r : PassState Entry World) (lines : List (List ℕ)) (said : Said) (u v : Option (List ℕ)) (is : IsReading w hold p q [] t u) (answer : CameFirst lines u v) (turn : SpeaksAll w hold lines said q r) where
+  module _ (q r : PassState Entry World) (lines : List (List ℕ)) (said : Said) (u v : Option (List ℕ)) (is : IsReading w hold p q [] t u) (answer : CameFirst lines u v) (short : All IsShort lines) (turn : SpeaksAll w hold lines said q r) where
     abbrev run : SpokenSo w hold turn.turn.found lines said r.front
     run = turn.turn.has_run
 
@@ -511,7 +525,7 @@ module _ (w : World) (hold : Hold) (p : PassState Entry World) (t : Option (List
     f = record r { front = turn.turn.found; own = q.own }
 
     in_hand : IsReading w hold p q lines t v
-    in_hand = record { more = is.more; got = is.got; came = came_more (lines_at q.front is.more) lines t u v is.came answer; kept = is.kept; unspent = is.unspent; cuts = is.cuts }
+    in_hand = record { more = is.more; got = is.got; came = came_more (lines_at q.front is.more) lines t u v is.came answer; short = short; kept = is.kept; unspent = is.unspent; cuts = is.cuts }
 
     went : WentOn v f spoken.rest spoken.mid
     went = all_go v spoken.firsts spoken.rest f spoken.mid (subst (λ ls. IsReading w hold p f ls t v) spoken.whole (reads_further q f lines v turn.turn.begins refl turn.number in_hand)) spoken.go
@@ -576,8 +590,8 @@ module _ (w : World) (hold : Hold) (p : PassState Entry World) (t : Option (List
         by_rest (line ∷ rest) reading ends = heard_end Spent line saying.Spent ends.1 (line_spent v at line rest saying.Spent r.front reading ends.1 refl (is_told.unparted (ap is_memory is_spent_so)))
 
     -- it found that the passes no longer held the seat as Joined
-    pub ends_gone : said ≡ saying.Gone → (stop : Stop) (rest : Option (List ℕ)) → HasHeard w hold p r (Stopped stop) true t rest
-    ends_gone so stop left = by_rest spoken.rest went.reading (ends_as saying.Gone is_gone)
+    pub ends_gone : said ≡ saying.Gone → (stop : Stop) (rest : Option (List ℕ)) → CamePast [] v rest → HasHeard w hold p r (Stopped stop) true t rest
+    ends_gone so stop left past = by_rest spoken.rest went.reading (ends_as saying.Gone is_gone)
       where
         is_told : Told parted by said
         is_told = told (λ e. cc)
@@ -594,6 +608,7 @@ module _ (w : World) (hold : Hold) (p : PassState Entry World) (t : Option (List
               more = here.more;
               got = here.got;
               first = are_first (line ∷ rest) (lines_at r.front here.more) t v here.came;
+              past = past_more (lines_at r.front here.more) t v left (past_of (line ∷ rest) (lines_at r.front here.more) t v here.short here.came) past;
               hand = [];
               behind = λ other. absurd (other refl);
               all = λ g c n. cc;
@@ -646,12 +661,12 @@ module _ (w : World) (hold : Hold) (p : PassState Entry World) (t : Option (List
       where
         by_rest : (rest : List (List ℕ)) → IsReading w hold p at rest t v → EndsSo w hold spoken.mid rest saying.Memory r.front → HasHeard w hold p s (Stopped Memory) false t v
         by_rest [] reading ends = let z = ends.0 in cc
-        by_rest (line ∷ rest) reading ends = leaves_unsaid r s (line ∷ rest) Memory cut v v (reading_end (line ∷ rest) ends.1 reading) (λ other. absurd (other refl)) left
+        by_rest (line ∷ rest) reading ends = leaves_unsaid r s (line ∷ rest) Memory cut v v (reading_end (line ∷ rest) ends.1 reading) (λ other. absurd (other refl)) (past_none v) left
 
 -- ---- no further line is read
 
-pub ends_input : (w : World) (hold : Hold) (p q r : PassState Entry World) (stop : Stop) (cut : Bool) (t u v : Option (List ℕ)) → IsOpening w → IsReading w hold p q [] t u → StopsBefore stop u v → Leaves w hold cut q r → HasHeard w hold p r (stopped cut stop) false t v
-ends_input w hold p q r stop cut t u v opening is same left = leaves_reading w hold p t opening q r [] stop cut u v is (λ other. (refl, same other)) left
+pub ends_input : (w : World) (hold : Hold) (p q r : PassState Entry World) (stop : Stop) (cut : Bool) (t u v : Option (List ℕ)) → IsOpening w → IsReading w hold p q [] t u → StopsBefore stop u v → CamePast [] u v → Leaves w hold cut q r → HasHeard w hold p r (stopped cut stop) false t v
+ends_input w hold p q r stop cut t u v opening is same past left = leaves_reading w hold p t opening q r [] stop cut u v is (λ other. (refl, same other)) past left
 
 -- ---- the lines of a turn, entered one after another
 

@@ -37,6 +37,7 @@ use Rattle.session.specs.Ends.{ended_by, WroteLine}
 use Rattle.session.specs.Sat.{HasSat, missing, refused, seated}
 use Rattle.session.proofs.ServedSessions.{served, whole_uncut}
 use Rattle.session.proofs.Cutting.{uncut_at_join}
+use Rattle.session.proofs.LinesInHand.{past_none}
 
 get_at_end : (xs : List Entry) (x : Entry) → slice_get (xs ++ x ∷ []) (length xs) ≡ Some x
 get_at_end [] x = refl
@@ -194,6 +195,7 @@ module _ (w : World) (seat : ℕ) (key : List ℕ) (joined : Joined) (p r s : Pa
       more = [];
       got = record { front = prefix_self r.front; number = refl; own = sym (append-nil r.own); each = All-nil _ };
       first = none_first text;
+      past = past_none text;
       hand = [];
       behind = λ some. absurd (some refl);
       all = λ g c n. none_came text;

@@ -34,32 +34,15 @@ use Rattle.campaign_law.specs.Outcome.{seat_of}
 use Rattle.campaign_law.specs.Session.{closes}
 use Rattle.session.proofs.GoneSessions.{taken_never_closes, read_throughout}
 use Rattle.session.specs.Ends.{ended_by, is_whole, wants_memory}
-use Rattle.session.specs.Inputs.{Stops}
+use Rattle.session.specs.Inputs.{Stops, CamePast}
 use Rattle.session.specs.Spoken.{is_spent}
 use Rattle.session.specs.Written.{IsTakenOf, IsWriters, IsFirst, WroteBy, IsCutSo, HasWritten}
-use Rattle.session.specs.Served.{is_of_session, IsUndisturbed, IsSessions, IsFront, IsCause, IsServed}
+use Rattle.session.specs.Served.{is_of_session, IsUndisturbed, IsFront, IsCause, IsServed}
 use Rattle.session.proofs.Alone.{joined_in_front, stands_longer, over_when_gone}
 use Rattle.session.proofs.MachineLines.{printed_by_machine}
 use Rattle.session.proofs.ReadingTurns.{lines_at-longer, cuts_longer}
 use Rattle.session.proofs.Cutting.{cut_longer}
 use Rattle.session.proofs.WritingTurns.{bytes_of-append, bytes_of-parts, lines_longer}
-
-readers_session : (w : World) (hold : Hold) (count : ℕ) (l : List Entry) (e : Entry) → IsReaders w hold l e → IsSessions w hold count l e
-readers_session w hold count l (Join seat key reader writer) is = is
-readers_session w hold count l (Line seat bytes) is = is
-readers_session w hold count l (Leave seat drop) is = (is.0, is.2)
-readers_session w hold count l (Taken seat taken) is = absurd is
-readers_session w hold count l (Cut seat) is = is
-
-writers_session : (w : World) (hold : Hold) (count : ℕ) (l : List Entry) (e : Entry) → IsWriters w hold count l e → IsSessions w hold count l e
-writers_session w hold count l (Join seat key reader writer) is = is
-writers_session w hold count l (Line seat bytes) is = absurd is
-writers_session w hold count l (Leave seat drop) is = (is.0, is.2)
-writers_session w hold count l (Taken seat taken) is = is
-writers_session w hold count l (Cut seat) is = absurd is
-
-weaker : (rule other : List Entry → Entry → Type 0) (h : List Entry) (own : List ℕ) → ((l : List Entry) (e : Entry) → rule l e → other l e) → All (StandsAt rule h) own → All (StandsAt other h) own
-weaker rule other h own so each = λ i d lt. let at = each i d lt in record { entry = at.entry; there = at.there; lawful = so (take (get_or own i d) h) at.entry at.lawful }
 
 -- an entry by which lines are taken or dropped is one of the session, and none of the reading half's
 takes_of_session : (seat : ℕ) (e : Entry) → takes_from seat e ≡ true → is_of_session seat e ≡ true
@@ -231,7 +214,7 @@ module _ (w : World) (f h : List Entry) (hold : Hold) (own : List ℕ) (reader :
   cause_of read_ends.Cut AllWritten cut closed stops = cut_longer w f h hold prefix long closed
   cause_of (Stopped End) AllWritten cut closed stops = inr (stops End refl)
   cause_of (Stopped TooLong) AllWritten cut closed stops = stops TooLong refl
-  cause_of (Stopped ReadFault) AllWritten cut closed stops = tt
+  cause_of (Stopped ReadFault) AllWritten cut closed stops = stops ReadFault refl
   cause_of (Stopped NoMemory) AllWritten cut closed stops = tt
 
   closed_longer : IsClosedBy w f hold own → IsClosedBy w h hold own
@@ -255,11 +238,11 @@ served w h hold p q s t read gone wrote ended text reader left before after open
       count = written.count;
       output = written.text;
       has = written.has;
-      each = All-append (StandsAt (IsSessions w hold written.count) h) heard.more written.more
-          (weaker (IsReaders w hold) (IsSessions w hold written.count) h heard.more (readers_session w hold written.count) readers)
-          (weaker (IsWriters w hold written.count) (IsSessions w hold written.count) h written.more (writers_session w hold written.count) writers);
+      heard = readers;
+      told = writers;
       cuts = cuts_longer w (IsReaders w hold) q.front h heard.more heard.more reads heard.got.each (λ k has. has) heard.cuts;
       lines = subst (λ l. AreFirst l text) (sym same) heard.first;
+      past = subst (λ l. CamePast l text (bytes_to_come reader left)) (sym same) heard.past;
       over = subst (λ l. is_over w l hold ≡ true) writes.1 (ended_stays w t.front writes.0 hold.place hold.seat (let l = written.long in omega arith) over_there);
       written = λ quiet.
           let by = written.wrote joined_there (alone_of w t.front h heard.more written.more hold writes readers quiet) in

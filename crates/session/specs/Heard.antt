@@ -14,7 +14,7 @@ use Rattle.session.specs.declared.hearing.ReadEnd.TheVariants.{Bye, Spent, Stopp
 use Rattle.session.specs.declared.hearing.ReadEnd.TheVariants as reads
 use Rattle.session.specs.declared.input.Stop.{Stop}
 use Rattle.session.specs.declared.input.Stop.TheVariants.{Memory}
-use Rattle.session.specs.Inputs.{is_memory}
+use Rattle.session.specs.Inputs.{is_memory, IsShort, CamePast}
 use Rattle.session.specs.Held.{is_held, is_read, is_cut}
 use Rattle.session.specs.Spoken.{is_spent, AreOver}
 use Rattle.command_json.specs.declared.command.Command.{Command}
@@ -22,10 +22,11 @@ use Rattle.command_json.specs.Commands.{command_of}
 use Rattle.campaign_law.specs.Outcome.{is_bye}
 use Rattle.session.specs.Own.{StandsAt, Got}
 
--- what the reading half may enter: Lines of the seat while its passes hold it as Joined, a Leave while they hold it, and Cuts of seats for which too much waits
+-- what the reading half may enter: Lines of the seat of at most 4,096 bytes while its passes hold it as Joined, a Leave while they hold it, and Cuts of
+-- seats for which too much waits
 abbrev pub IsReaders : World → Hold → List Entry → Entry → Type 0
 IsReaders w hold before (Join seat key reader writer) = ⊥
-IsReaders w hold before (Line seat bytes) = (seat ≡ hold.seat) × (is_read w before hold ≡ true)
+IsReaders w hold before (Line seat bytes) = (seat ≡ hold.seat) × IsShort bytes × (is_read w before hold ≡ true)
 IsReaders w hold before (Leave seat drop) = (seat ≡ hold.seat) × (drop ≡ false) × (is_held w before hold ≡ true)
 IsReaders w hold before (Taken seat count) = ⊥
 IsReaders w hold before (Cut seat) = over_of w before ≡ Some seat
@@ -123,6 +124,7 @@ pub record IsReading (w : World) (hold : Hold) (p q : PassState Entry World) (ha
   pub more : List ℕ
   pub got : Got (IsReaders w hold) p q more
   pub came : WhereTold text rest (CameBut hand (lines_at q.front more))
+  pub short : All IsShort hand
   pub kept : All (StandsAt (IsReadBehind w hold) q.front) more
   pub unspent : All (StandsAt (IsUnspent w hold) q.front) more
   pub cuts : CutsBehindLines w q.front more
@@ -133,6 +135,8 @@ pub record HasHeard (w : World) (hold : Hold) (p q : PassState Entry World) (end
   pub got : Got (IsReaders w hold) p q more
   -- its lines are the first ones of the text, and all that came, but those in hand behind one that closed the seat
   pub first : AreFirst (lines_at q.front more) text
+  -- no further line that came was longer than one may be
+  pub past : CamePast (lines_at q.front more) text rest
   pub hand : List (List ℕ)
   pub behind : hand ≢ [] → IsClosedBy w q.front hold more
   pub all : gone ≡ false → end ≢ reads.Cut → end ≢ Stopped Memory → WhereTold text rest (CameBut hand (lines_at q.front more))

@@ -5,7 +5,7 @@ use Rattle.campaign_law.specs.Hellos.{hello_part}
 use Rattle.session.specs.declared.first_line.FirstLine.{FirstLine}
 use Rattle.session.specs.declared.first_line.FirstLine.TheVariants as first
 use Rattle.session.specs.declared.input.Stop.TheVariants.{Memory}
-use Rattle.session.specs.Inputs.{CameFirst, StopsBefore}
+use Rattle.session.specs.Inputs.{IsShort, CameFirst, StopsBefore}
 
 -- the seat and key of a line that is a hello; it reads alike for each seat
 abbrev pub hello_in : List ℕ → Option (ℕ × List ℕ)
@@ -21,6 +21,7 @@ Greets hello (first.Missing stop) = stop ≡ Memory
 pub record CameWith (hello : Option (ℕ × List ℕ)) (text rest : Option (List ℕ)) : Type 0 where
   pub line : List ℕ
   pub reads : hello_in line ≡ hello
+  pub short : IsShort line
   pub first : CameFirst (line ∷ []) text rest
 
 -- what the first line of a text is, where the rest is to come

@@ -1,5 +1,5 @@
 -- The lines of an input, and why no further one is read.
-use Rattle.std.specs.Prelude.{◌≡◌, ◌≢◌, ℕ, Bool, true, false, List, ◌++◌, length, Option}
+use Rattle.std.specs.Prelude.{◌≡◌, ◌≢◌, ◌≤◌, ℕ, Bool, true, false, List, [], ◌++◌, length, All, Option}
 use Rattle.std.specs.Io.KnownBytes.{IsAtEnd}
 use Rattle.line_io.specs.Lines.{HasNoLineEnd, lines_of as text_lines}
 use Rattle.line_io.specs.ReaderState.{ReaderState}
@@ -22,13 +22,23 @@ pub record IsReaderOf (reader : ReaderState) (left : Option (List ℕ)) : Type 0
 abbrev pub CameFirst : List (List ℕ) → Option (List ℕ) → Option (List ℕ) → Type 0
 CameFirst lines text rest = WhereTold text rest (λ text rest. text_lines text ≡ lines ++ text_lines rest)
 
+-- a line that a session may have
+abbrev pub IsShort : List ℕ → Type 0
+IsShort line = length line ≤ 4096
+
+-- of a text these lines came first, behind them others of at most 4,096 bytes, and the rest is to come
+pub record CamePast (lines : List (List ℕ)) (text rest : Option (List ℕ)) : Type 0 where
+  pub others : List (List ℕ)
+  pub short : All IsShort others
+  pub came : CameFirst (lines ++ others) text rest
+
 -- no line was taken; for want of memory one may be lost
 abbrev pub StopsBefore : Stop → Option (List ℕ) → Option (List ℕ) → Type 0
 StopsBefore stop text rest = stop ≢ Memory → rest ≡ text
 
--- why it stopped, by what the reader has read and not given, and what its source has left
+-- why it stopped, by what the reader has read and not given, and what its source has left: at the end there is none of both
 abbrev pub Stops : Stop → ReaderState → Option (List ℕ) → Type 0
-Stops End reader left = IsAtEnd left
+Stops End reader left = IsAtEnd left × (reader.pending ≡ [])
 Stops TooLong reader left = (length reader.pending ≡ 4097) × HasNoLineEnd reader.pending
-Stops ReadFault reader left = HasNoLineEnd reader.pending
+Stops ReadFault reader left = (length reader.pending ≤ 4096) × HasNoLineEnd reader.pending
 Stops Memory reader left = Unit {0}

@@ -1,6 +1,5 @@
 -- What a session did, in a history that both of its passes know a front of.
 use Rattle.std.specs.Prelude.{◌≡◌, ◌≢◌, ◌<◌, ◌≤◌, ◌==◌, ◌⊎◌, ℕ, Bool, true, false, All, Contains, List, [], ◌∷◌, ◌++◌, take, slice_get, Option, Some}
-use Rattle.std.specs.Io.KnownBytes.{IsAtEnd}
 use mathlib.Core.List.{IsPrefix}
 use Rattle.line_io.specs.Reader.{bytes_to_come}
 use Rattle.line_io.specs.ReaderState.{ReaderState}
@@ -11,16 +10,15 @@ use Rattle.campaign_law.specs.World.{World}
 use Rattle.campaign_law.specs.Law.{bytes_of}
 use Rattle.campaign_law.specs.Player.{opening, trace, machine}
 use Rattle.campaign_law.specs.Session.{NoneRejoins}
-use Rattle.campaign_core.specs.Over.{over_of}
 use Rattle.session.specs.declared.hold.Hold.{Hold}
 use Rattle.session.specs.declared.sitting.Ended.{Ended}
 use Rattle.session.specs.declared.sitting.Ended.TheVariants as ends
-use Rattle.session.specs.declared.input.Stop.TheVariants.{TooLong}
-use Rattle.session.specs.Inputs.{Stops}
-use Rattle.session.specs.Held.{is_held, is_read, is_cut, is_over, lines_of}
+use Rattle.session.specs.declared.input.Stop.TheVariants.{End, TooLong, ReadFault}
+use Rattle.session.specs.Inputs.{Stops, CamePast}
+use Rattle.session.specs.Held.{is_cut, is_over, lines_of}
 use Rattle.session.specs.Own.{StandsAt}
-use Rattle.session.specs.Heard.{lines_at, CameBut, AreFirst, IsByeAt, IsSpentAt, IsUnspent, IsClosedBy, CutsBehindLines}
-use Rattle.session.specs.Written.{HasLines}
+use Rattle.session.specs.Heard.{IsReaders, lines_at, CameBut, AreFirst, IsByeAt, IsSpentAt, IsUnspent, IsClosedBy, CutsBehindLines}
+use Rattle.session.specs.Written.{HasLines, IsWriters}
 use Rattle.session.specs.Ends.{is_whole}
 use Rattle.session.specs.Among.{AreAmong}
 
@@ -37,14 +35,6 @@ pub record IsUndisturbed (w : World) (h : List Entry) (own : List ℕ) (hold : H
   pub own_alone : (k : ℕ) (e : Entry) → hold.place < k → is_over w (take k h) hold ≡ false → slice_get h k ≡ Some e → is_of_session hold.seat e ≡ true → Contains own k
   pub once : NoneRejoins h hold.place hold.seat hold.reader hold.writer
 
--- what an accepted session may enter behind its Join, where so many lines were written whole
-abbrev pub IsSessions : World → Hold → ℕ → List Entry → Entry → Type 0
-IsSessions w hold count before (Join seat key reader writer) = ⊥
-IsSessions w hold count before (Line seat bytes) = (seat ≡ hold.seat) × (is_read w before hold ≡ true)
-IsSessions w hold count before (Leave seat drop) = (seat ≡ hold.seat) × (is_held w before hold ≡ true)
-IsSessions w hold count before (Taken seat taken) = (seat ≡ hold.seat) × (taken ≤ count) × (is_held w before hold ≡ true)
-IsSessions w hold count before (Cut seat) = over_of w before ≡ Some seat
-
 -- of the session's lines this text was written, and so many of them whole
 pub record IsFront (lines : List (List ℕ)) (count : ℕ) (text : List ℕ) : Type 0 where
   pub prefix : IsPrefix text (bytes_of lines)
@@ -52,12 +42,12 @@ pub record IsFront (lines : List (List ℕ)) (count : ℕ) (text : List ℕ) : T
 
 -- why an accepted session ended so, whose reading half entered at these places
 abbrev pub IsCause : Ended → World → List Entry → Hold → List ℕ → ReaderState → Option (List ℕ) → Type 0
-IsCause ends.Left w h hold readers reader left = ((k : ℕ) × Contains readers k × IsByeAt h hold.seat k) ⊎ IsAtEnd left
+IsCause ends.Left w h hold readers reader left = ((k : ℕ) × Contains readers k × IsByeAt h hold.seat k) ⊎ Stops End reader left
 IsCause (ends.Refused refusal) w h hold readers reader left = ⊥
 IsCause ends.TooLong w h hold readers reader left = Stops TooLong reader left
 IsCause ends.Spent w h hold readers reader left = (k : ℕ) × Contains (hold.place ∷ readers) k × IsSpentAt w h hold.seat k
 IsCause ends.Cut w h hold readers reader left = is_cut w h hold ≡ true
-IsCause ends.ReadFault w h hold readers reader left = Unit {0}
+IsCause ends.ReadFault w h hold readers reader left = Stops ReadFault reader left
 IsCause ends.WriteFault w h hold readers reader left = Unit {0}
 IsCause ends.Memory w h hold readers reader left = Unit {0}
 
@@ -73,11 +63,15 @@ pub record IsServed (w : World) (h : List Entry) (hold : Hold) (readers writers 
   pub output : List ℕ
   -- no Taken says more than the number of lines that were written whole
   pub has : HasLines output count before after
-  pub each : All (StandsAt (IsSessions w hold count) h) (readers ++ writers)
+  -- the reading pass entered Lines, a Leave and Cuts alone, and the writing pass Takens and a Leave that drops lines
+  pub heard : All (StandsAt (IsReaders w hold) h) readers
+  pub told : All (StandsAt (IsWriters w hold count) h) writers
   -- right behind each Line stand Cuts of the seats for which too much waits, until there is none
   pub cuts : CutsBehindLines w h readers
   -- the Lines are the first lines that came, each once and in order
   pub lines : AreFirst (lines_at h readers) text
+  -- no other line that came was longer than one may be
+  pub past : CamePast (lines_at h readers) text (bytes_to_come reader left)
   pub over : is_over w h hold ≡ true
   pub written : IsUndisturbed w h (readers ++ writers) hold → IsFront (lines_of w h hold) count output
   pub whole : IsUndisturbed w h (readers ++ writers) hold → is_whole ended ≡ true → output ≡ bytes_of (lines_of w h hold)

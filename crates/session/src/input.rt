@@ -1,8 +1,8 @@
 //! The lines of an input.
-ghost use Rattle.std.specs.Prelude.{◌≡◌, ◌≤◌, ◌∷◌, [], ℕ, List, Option, IfOk, IfErr, Err};
+ghost use Rattle.std.specs.Prelude.{◌≡◌, ◌≤◌, ◌∷◌, [], ℕ, List, Option, IfOk, IfErr, Err, All};
 ghost use Rattle.line_io.specs.Counts.{CountRose};
 ghost use Rattle.line_io.specs.Reader.{bytes_to_come};
-ghost use Rattle.session.specs.Inputs.{IsReaderOf, CameFirst, StopsBefore, Stops, is_memory as is_memory_lem};
+ghost use Rattle.session.specs.Inputs.{IsReaderOf, IsShort, CameFirst, CamePast, StopsBefore, Stops, is_memory as is_memory_lem};
 
 use line_io::{LineReader, NextLine, Source};
 use names::LineText;
@@ -41,6 +41,8 @@ pub(crate) fn next_line<I: Source>(reader: &mut LineReader, input: &mut I) -> Re
     requires { IsReaderOf reader.old (I.left input.old) }
     ensures reader { IsReaderOf reader.new (I.left input.new) }
     ensures line { IfOk result (λ line. CameFirst (line ∷ []) (bytes_to_come reader.old (I.left input.old)) (bytes_to_come reader.new (I.left input.new))) }
+    ensures short { IfOk result IsShort }
+    ensures past { CamePast [] (bytes_to_come reader.old (I.left input.old)) (bytes_to_come reader.new (I.left input.new)) }
     ensures stop { IfErr result (λ stop. StopsBefore stop (bytes_to_come reader.old (I.left input.old)) (bytes_to_come reader.new (I.left input.new)) × Stops stop reader.new (I.left input.new)) }
     ensures count { I.faults_of input.old ≤ I.faults_of input.new }
     ensures read_fault { result ≡ Err Stop.ReadFault → CountRose (I.faults_of input.old) (I.faults_of input.new) }
@@ -56,6 +58,7 @@ pub(crate) fn next_line<I: Source>(reader: &mut LineReader, input: &mut I) -> Re
 
 /// The next line of the input, and behind it those that came already, at most `LINES_AT_ONCE` in all. For want of
 /// memory to keep them they are fewer; none is lost but where the answer is `Memory`.
+#[tactic(auto, using(crate::proofs::LinesInHand::past_none, crate::proofs::LinesInHand::one_short))]
 pub(crate) fn next_lines<I: Source>(
     alloc: Global,
     reader: &mut LineReader,
@@ -64,6 +67,8 @@ pub(crate) fn next_lines<I: Source>(
     requires { IsReaderOf reader.old (I.left input.old) }
     ensures reader { IsReaderOf reader.new (I.left input.new) }
     ensures lines { IfOk result (λ lines. CameFirst lines.items (bytes_to_come reader.old (I.left input.old)) (bytes_to_come reader.new (I.left input.new))) }
+    ensures short { IfOk result (λ lines. All IsShort lines.items) }
+    ensures past { IfErr result (λ _. CamePast [] (bytes_to_come reader.old (I.left input.old)) (bytes_to_come reader.new (I.left input.new))) }
     ensures stop { IfErr result (λ stop. StopsBefore stop (bytes_to_come reader.old (I.left input.old)) (bytes_to_come reader.new (I.left input.new)) × Stops stop reader.new (I.left input.new)) }
     ensures count { I.faults_of input.old ≤ I.faults_of input.new }
     ensures read_fault { result ≡ Err Stop.ReadFault → CountRose (I.faults_of input.old) (I.faults_of input.new) }
@@ -79,9 +84,12 @@ pub(crate) fn next_lines<I: Source>(
 
 // Adds the lines that came already, as far as there is room.
 fn add_ready(reader: &mut LineReader, lines: &mut Vec<LineText>)
+    requires cap { reader.old.cap ≡ 4096 }
+    requires short { All IsShort lines.old.items }
     ensures cap { reader.new.cap ≡ reader.old.cap }
     ensures ended { reader.new.ended ≡ reader.old.ended }
     ensures lines { (text left : Option (List ℕ)) → CameFirst lines.old.items text (bytes_to_come reader.old left) → CameFirst lines.new.items text (bytes_to_come reader.new left) }
+    ensures short { All IsShort lines.new.items }
 {
     while lines.len() < lines.capacity() {
         match reader.ready() {
@@ -93,10 +101,12 @@ fn add_ready(reader: &mut LineReader, lines: &mut Vec<LineText>)
 }
 
 /// Reads the input to its end, or until it stops.
+#[tactic(auto, using(crate::proofs::LinesInHand::past_none, crate::proofs::LinesInHand::past_more))]
 pub(crate) fn read_on<R: Wait, I: Source>(rt: &R, reader: &mut LineReader, input: &mut I) -> Stop
     requires { IsReaderOf reader.old (I.left input.old) }
     ensures reader { IsReaderOf reader.new (I.left input.new) }
     ensures stop { Stops result reader.new (I.left input.new) }
+    ensures past { CamePast [] (bytes_to_come reader.old (I.left input.old)) (bytes_to_come reader.new (I.left input.new)) }
     ensures count { I.faults_of input.old ≤ I.faults_of input.new }
     ensures read_fault { result ≡ Stop.ReadFault → CountRose (I.faults_of input.old) (I.faults_of input.new) }
 {

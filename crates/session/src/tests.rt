@@ -5,6 +5,7 @@ ghost use Rattle.campaign_law.specs.Law.{IsOpening};
 
 mod cut_off;
 mod guests;
+mod long_lines;
 mod side_by_side;
 
 use crate::Table;

@@ -24,7 +24,7 @@ struct Guest<'a> {
     ended: Ended,
 }
 
-const GUESTS: [Guest<'static>; 9] = [
+const GUESTS: [Guest<'static>; 10] = [
     Guest {
         input: r#"{"do":"look"}"#,
         read_fails: None,
@@ -117,6 +117,30 @@ const GUESTS: [Guest<'static>; 9] = [
 {"full":{"lights":{},"maps":[],"sights":{},"tokens":[]}}
 "#,
         ended: Ended::ReadFault,
+    },
+    // A change of the scene, a roll and a macro of the game master.
+    Guest {
+        input: r#"{"do":"hello","seat":0,"key":"g"}
+{"do":"map","name":"hall","w":2,"h":1}
+{"do":"roll","dice":"2d6+1"}
+{"do":"setmacro","name":"hit","text":"Hits [r: 1d20+2]"}
+{"do":"macro","name":"hit"}
+{"do":"bye"}
+"#,
+        read_fails: None,
+        room: 1_000,
+        output: r#"{"n":1,"ok":"hello","seat":0,"seats":3}
+{"full":{"lights":{},"maps":[],"sights":{},"tokens":[]}}
+{"n":2,"ok":"map"}
+{"change":{"maps":[{"ground":[[0,0,".."]],"h":1,"mode":"day","name":"hall","seen":[[0,0,1]],"shown":false,"w":2}]}}
+{"n":3,"ok":"roll"}
+{"from":0,"text":"2d6+1 = 10","to":"all"}
+{"n":4,"ok":"setmacro"}
+{"n":5,"ok":"macro"}
+{"from":0,"text":"Hits 20","to":"all"}
+{"n":6,"ok":"bye"}
+"#,
+        ended: Ended::Left,
     },
 ];
 
