@@ -4,7 +4,7 @@ use Rattle.std.specs.Prelude.{◌==◌, ◌&&◌, Contains, Option, Some, None}
 use Rattle.std.specs.List.{AllByRecursion}
 use Rattle.std.specs.Arc.{arc_value}
 use Rattle.std.proofs.lemmas.List.{take-append-le}
-use Rattle.std.proofs.lemmas.List.Elements.{All-nil, All-cons, All-weaker, All-contains, All-from_recursion, recursion_from_All, Contains-append_cases}
+use Rattle.std.proofs.lemmas.List.Elements.{All-nil, All-cons, All-weaker, All-append, All-contains, All-from_recursion, recursion_from_All, Contains-append_cases}
 use Rattle.std.proofs.lemmas.Bool.{and_parts, eqb-true}
 use Rattle.std.proofs.lemmas.Option.{slice_get_within}
 use Rattle.std.proofs.Math.Logic.{∥∥₁_map, ∥∥₁_map₂}
@@ -23,7 +23,9 @@ use Rattle.line_io.specs.ReaderState.{ReaderState}
 use Rattle.session.specs.declared.sitting.Ended.{Ended}
 use Rattle.session.specs.declared.service.Sat.{Sat}
 use Rattle.session.specs.Own.{StandsAt}
-use Rattle.session.specs.Served.{IsUndisturbed, IsServed, IsSessions, is_of_session}
+use Rattle.session.specs.Heard.{IsReaders}
+use Rattle.session.specs.Written.{IsWriters}
+use Rattle.session.specs.Served.{IsUndisturbed, IsServed, is_of_session}
 use Rattle.session.specs.Sat.{HasSat, missing, refused, seated, IsSeatedSo}
 use Rattle.session.specs.Session.{HasServed, unread, strange, greeted}
 use Rattle.serving.specs.declared.sittings.Sitting.{Sitting}
@@ -56,18 +58,28 @@ IsBehindJoin w seat r s before (Cut other) = Unit {0}
 stands_as : (A B : List Entry → Entry → Type 0) → ((before : List Entry) (e : Entry) → A before e → B before e) → (h : List Entry) (own : List ℕ) → All (StandsAt A h) own → All (StandsAt B h) own
 stands_as A B weaker h own each = All-weaker (StandsAt A h) (StandsAt B h) (λ place s. record { entry = s.entry; there = s.there; lawful = weaker (take place h) s.entry s.lawful }) own each
 
-session_enters : (w : World) (seat place r s : ℕ) (count : ℕ) (before : List Entry) (e : Entry) → IsSessions w (record { seat = seat; place = place; reader = r; writer = s }) count before e → IsBehindJoin w seat r s before e
-session_enters w seat place r s count before (Join other key reader writer) is = is
-session_enters w seat place r s count before (Line other bytes) is = (is.0, (and_parts (is_held_by r s (standing_after w before seat)) (is_joined (standing_after w before seat)) is.1).0)
-session_enters w seat place r s count before (Leave other drop) is = is
-session_enters w seat place r s count before (Taken other taken) is = (is.0, is.2)
-session_enters w seat place r s count before (Cut other) is = tt
+reader_enters : (w : World) (seat place r s : ℕ) (before : List Entry) (e : Entry) → IsReaders w (record { seat = seat; place = place; reader = r; writer = s }) before e → IsBehindJoin w seat r s before e
+reader_enters w seat place r s before (Join other key reader writer) is = is
+reader_enters w seat place r s before (Line other bytes) is = (is.0, (and_parts (is_held_by r s (standing_after w before seat)) (is_joined (standing_after w before seat)) is.2).0)
+reader_enters w seat place r s before (Leave other drop) is = (is.0, is.2)
+reader_enters w seat place r s before (Taken other taken) is = absurd is
+reader_enters w seat place r s before (Cut other) is = tt
+
+writer_enters : (w : World) (seat place r s : ℕ) (count : ℕ) (before : List Entry) (e : Entry) → IsWriters w (record { seat = seat; place = place; reader = r; writer = s }) count before e → IsBehindJoin w seat r s before e
+writer_enters w seat place r s count before (Join other key reader writer) is = is
+writer_enters w seat place r s count before (Line other bytes) is = absurd is
+writer_enters w seat place r s count before (Leave other drop) is = (is.0, is.2)
+writer_enters w seat place r s count before (Taken other taken) is = (is.0, is.2)
+writer_enters w seat place r s count before (Cut other) is = absurd is
 
 -- what stands at the places of an accepted session behind its Join
 behind_join : (w : World) (h : List Entry) (seat place r s : ℕ) (readers writers : List ℕ) (ended : Ended) (text : Option (List ℕ)) (reader : ReaderState) (left before after : Option (List ℕ))
     → IsServed w h (record { seat = seat; place = place; reader = r; writer = s }) readers writers ended text reader left before after → All (StandsAt (IsBehindJoin w seat r s) h) (readers ++ writers)
 behind_join w h seat place r s readers writers ended text reader left before after is =
-    stands_as (IsSessions w (record { seat = seat; place = place; reader = r; writer = s }) is.count) (IsBehindJoin w seat r s) (session_enters w seat place r s is.count) h (readers ++ writers) is.each
+    let hold = record { seat = seat; place = place; reader = r; writer = s } in
+    All-append (StandsAt (IsBehindJoin w seat r s) h) readers writers
+    (stands_as (IsReaders w hold) (IsBehindJoin w seat r s) (reader_enters w seat place r s) h readers is.heard)
+    (stands_as (IsWriters w hold is.count) (IsBehindJoin w seat r s) (writer_enters w seat place r s is.count) h writers is.told)
 
 by_number : (w : World) (seat r s : ℕ) (before : List Entry) (e : Entry) → IsBehindJoin w seat r s before e → IsEnteredBy w r before e
 by_number w seat r s before (Join other key reader writer) is = absurd is
@@ -137,15 +149,15 @@ sat_places w G seat key p q s t text reader left before after m n ended (seated 
 
 got_places : (w : World) (G : List Entry) (p q s t : PassState Entry World) (text left before after : Option (List ℕ)) (m n : ℕ) (ended : Ended)
     → HasServed w p q s t text left before after m n ended → p.own ≡ [] → s.own ≡ [] → IsPrefix q.front G → IsPrefix t.front G → GotPlaces w G p.number s.number (q.own ++ t.own) ended before after
-got_places w G p q s t text left before after m n ended (unread reader stop stops why same_q same_t wrote end) reader_new writer_new first second =
+got_places w G p q s t text left before after m n ended (unread reader stop real stops why same_q same_t wrote end) reader_new writer_new first second =
     let one = ap (λ x. x.own) same_q ∙ reader_new in
     let two = ap (λ x. x.own) same_t ∙ writer_new in
     nothing (λ i. one i ++ two i)
-got_places w G p q s t text left before after m n ended (strange reader came same_q same_t tells) reader_new writer_new first second =
+got_places w G p q s t text left before after m n ended (strange reader real came same_q same_t tells) reader_new writer_new first second =
     let one = ap (λ x. x.own) same_q ∙ reader_new in
     let two = ap (λ x. x.own) same_t ∙ writer_new in
     nothing (λ i. one i ++ two i)
-got_places w G p q s t text left before after m n ended (greeted seat key behind reader came sits) reader_new writer_new first second =
+got_places w G p q s t text left before after m n ended (greeted seat key behind reader real came sits) reader_new writer_new first second =
     sat_places w G seat key p q s t behind reader left before after m n ended sits reader_new writer_new first second
 
 -- ---- one session among others

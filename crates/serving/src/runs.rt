@@ -11,10 +11,8 @@ use crate::sittings::Sitting;
 use line_io::{MemSink, MemSource, Sink, Source, TcpSink, TcpSource, Work};
 use session::{Sat, Table, serve_session};
 use std::alloc::Global;
-use std::io::Eprint;
 use std::sync::Wait;
 use std::thread::Threads;
-use std::time::Clock;
 use turn_lock::{Hall, Pass};
 
 /// A source that a session reads in a thread of its own, beside another that writes a sink of this type.
@@ -59,7 +57,7 @@ impl SessionSource<MemSink> for MemSource {
 }
 
 // It tells nothing of its bytes.
-impl<C: Clock + Eprint + Send> SessionSource<TcpSink<C>> for TcpSource<C> {
+impl SessionSource<TcpSink<HostRuntime>> for TcpSource<HostRuntime> {
     ghost use Rattle.std.specs.Prelude.{None};
 
     fn serve<R: Threads + Wait + Sync>(
@@ -68,8 +66,8 @@ impl<C: Clock + Eprint + Send> SessionSource<TcpSink<C>> for TcpSource<C> {
         hall: &Hall<Table>,
         reader: Pass<Table>,
         writer: Pass<Table>,
-        input: &mut TcpSource<C>,
-        output: &mut TcpSink<C>,
+        input: &mut TcpSource<HostRuntime>,
+        output: &mut TcpSink<HostRuntime>,
     ) -> Sat
         requires sync { IsSync R.row }
         requires passes { IsPassOf hall.now reader × IsPassOf hall.now writer }
