@@ -154,13 +154,15 @@ class Model(unittest.TestCase):
     @needs_program
     def test_what_the_game_master_is_told_that_players_see(self):
         mark = (0, {"do": "say", "text": "#", "to": "self"})
+        compared = some = 0  # maps, and those of which some cells were seen and others not
         for number in range(MANY):
             lines = [*AtRandom(1000 + number, 200).lines()]
             marked = lines[: len(SEATS)] + [it for line in lines[len(SEATS) :] for it in (line, mark)]
             sent = [[line for seat, line in marked if seat == number] for number in SEATS]
-            [(compared, some)] = self.by_page([{"printed": played(script_of(marked)), "sent": sent}])
-            self.assertGreater(compared, 50)
-            self.assertGreater(some, 5)
+            [counts] = self.by_page([{"printed": played(script_of(marked)), "sent": sent}])
+            compared, some = compared + counts[0], some + counts[1]
+        self.assertGreater(compared, 100)
+        self.assertGreater(some, 20)
 
     def test_odd_lines(self):
         for name, lines in ODD.items():
