@@ -18,7 +18,7 @@ HERE = pathlib.Path(__file__).resolve().parent
 EXAMPLES = pathlib.Path(os.environ.get("EXAMPLES", HERE.parent))
 EVENING = EXAMPLES / "evening" / "evening.json"
 PROGRAM = os.environ.get("TABLETOP", str(EXAMPLES.parent / "crates" / "tabletop" / "out" / "tabletop"))
-MANY = int(os.environ.get("EVENINGS", "2"))  # evenings at random
+MANY = int(os.environ.get("EVENINGS", "1"))  # evenings at random
 KEYS = ("lantern-keeper", "mara-of-the-road", "brok-ironfoot")
 
 needs_program = unittest.skipUnless(os.access(PROGRAM, os.X_OK), "the program isn't built")

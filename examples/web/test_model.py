@@ -85,6 +85,7 @@ ODD = {
     ],
     "types called as parts of objects": [*HELLO, '{"change":{"lights":{"__proto__":3,"constructor":4}}}'],
     "letter": [*HELLO, '{"change":{"changed":[{"ground":[[0,0,"~"]],"name":"m"}]}}'],
+    "capital": [*HELLO, '{"change":{"changed":[{"ground":[[0,0,"A"]],"name":"m"}]}}'],
     "hidden": [*HELLO, '{"change":{"changed":[{"hidden":[[1,0,0]],"name":"m"}]}}'],
     "unknown map": [*HELLO, '{"change":{"changed":[{"mode":"day","name":"x"}]}}'],
     "gone": [*HELLO, '{"change":{"gone":["1:a"]}}'],
