@@ -49,9 +49,9 @@ function told({ number, lines, sent }) {
 }
 
 /**
- * All seats' lines as `play` prints them, with a mark of the game master's behind each line of the script: what
- * the players see by the server, and by the game master's page. Gives how many maps were compared, and of how
- * many some cells were seen and others not.
+ * All seats' lines as `play` prints them, with a mark of the game master's behind each line of the script:
+ * what the players see by the server, and by the game master's page. Gives how many maps were compared, and of
+ * how many some cells were seen and others not.
  */
 function compared({ printed, sent }) {
   const seats = sent.map((commands, number) => {

@@ -58,6 +58,19 @@ def told_by_client(number, lines, sent):
     return told
 
 
+# What evenings at random seldom meet: lights by halves of their radius, one that is hidden, a wall through
+# an eye.
+YARD = {"map": "yard"}
+SELDOM = [
+    {"do": "lighttype", "name": "torch", "radius": 8},
+    {"do": "mode", **YARD, "mode": "night"},
+    {"do": "sight", "token": "1:mara", "sight": "hound"},
+    {"do": "light", "token": "2:brok", "light": "torch"},
+    {"do": "light", "token": "0:goblin", "light": "torch"},
+    {"do": "mode", **YARD, "mode": "day"},
+    {"do": "wall", **YARD, "kind": "vbl", "a": [1, 18], "b": [1, 20]},
+]
+
 # Lines that no evening has.
 MAP = '{"ground":[[0,0,"ab"]],"h":2,"mode":"day","name":"m","seen":[[0,0,0]],"w":2}'
 HELLO = [
@@ -158,7 +171,9 @@ class Model(unittest.TestCase):
         compared = some = 0  # maps, and those of which some cells were seen and others not
         for number in range(MANY):
             lines = [*AtRandom(1000 + number, 200).lines()]
-            marked = lines[: len(SEATS)] + [it for line in lines[len(SEATS) :] for it in (line, mark)]
+            hellos, then = lines[: len(SEATS)], lines[len(SEATS) :]
+            then[1:1] = [(0, line) for line in SELDOM]  # behind the dump
+            marked = hellos + [it for line in then for it in (line, mark)]
             sent = [[line for seat, line in marked if seat == number] for number in SEATS]
             [counts] = self.by_page([{"printed": played(script_of(marked)), "sent": sent}])
             compared, some = compared + counts[0], some + counts[1]

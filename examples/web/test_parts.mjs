@@ -8,17 +8,20 @@ import { inverse } from "./page/undo.js";
 import { View } from "./page/view.js";
 import { Walls, around, distance, wallOf } from "./page/walls.js";
 
-test("a straight way goes by king's steps to its end", () => {
+test("a straight way goes by king's steps to its end, never further than half a cell from the line", () => {
   for (let x = -70; x <= 70; x++)
     for (let y = -70; y <= 70; y++) {
+      const many = Math.max(Math.abs(x), Math.abs(y));
       const path = straightPath([0, 0], [x, y]);
       let here = [0, 0];
-      for (const [toX, toY] of path) {
-        assert.equal(Math.max(Math.abs(toX - here[0]), Math.abs(toY - here[1])), 1);
+      path.forEach(([toX, toY], at) => {
+        const isStep = Math.max(Math.abs(toX - here[0]), Math.abs(toY - here[1])) === 1;
+        const far = (to, end) => Math.abs(to - (end * (at + 1)) / many);
+        if (!isStep || far(toX, x) > 0.5 || far(toY, y) > 0.5) assert.fail(`${x},${y}: ${toX},${toY}`);
         here = [toX, toY];
-      }
-      assert.equal(path.length, Math.min(64, Math.max(Math.abs(x), Math.abs(y))));
-      if (path.length < 64 && path.length) assert.deepEqual([here[0] + 0, here[1] + 0], [x, y]);
+      });
+      assert.equal(path.length, Math.min(64, many));
+      if (many <= 64 && many > 0) assert.deepEqual([here[0] + 0, here[1] + 0], [x, y]);
     }
 });
 
@@ -109,6 +112,7 @@ test("what undoes a command", () => {
   const pairs = [
     [{ do: "layer", ...token, layer: "hidden" }, [{ do: "layer", ...token, layer: "token" }]],
     [{ do: "own", ...token, seat: 1, on: false }, [{ do: "own", ...token, seat: 1, on: true }]],
+    [{ do: "own", ...token, seat: 1, on: true }, [{ do: "own", ...token, seat: 1, on: true }]],
     [{ do: "move", ...token, path: [[0, 0]] }, [{ do: "place", ...token, map: "m", cell: [1, 0] }]],
     [{ do: "setprop", ...token, class: "public", name: "y", value: "" }, null],
     [{ do: "expose", seat: 1, map: "m", rect: [0, 0, 1, 1] }, null],
