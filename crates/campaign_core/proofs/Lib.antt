@@ -1,8 +1,7 @@
 pub mod Openings
-pub mod Steps
-pub mod Saying
 pub mod Judging
-pub mod Allowing
+pub mod ViewsDecide
+pub mod Reports
 pub mod Nexts
 pub mod Bounds
 pub mod Following

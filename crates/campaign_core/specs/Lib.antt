@@ -1,7 +1,5 @@
 pub mod Opening
 pub mod Steps
-pub mod Allowing
-pub mod Rulings
 pub mod Places
 pub mod Sound
 pub mod Leaving

@@ -1,13 +1,15 @@
 -- The views that are kept, and those that an entry makes.
-use Rattle.std.specs.Prelude.{◌≡◌, ℕ, ◌&&◌, ◌||◌, Bool, true, false, not, if◌then◌else◌, List, Option, Some, None, slice_get}
+use Rattle.std.specs.Prelude.{◌≡◌, ℕ, ◌&&◌, ◌||◌, Bool, true, false, not, if◌then◌else◌, List, length, Option, Some, None, slice_get}
 use Rattle.seats.specs.SeatState.{is_joined}
 use Rattle.views.specs.declared.view.View.{View}
 use Rattle.view_keep.specs.declared.keep.KeptView.{KeptView}
 use Rattle.view_keep.specs.Kept.{view_at}
 use Rattle.view_marks.specs.Marks.{leaves_letters, marks}
 use Rattle.world.specs.Scene.{Scene}
-use Rattle.player_view.specs.View.{view_of}
+use Rattle.player_view.specs.View.{is_gm, view_of}
+use Rattle.player_view.specs.Asked.{Asked}
 use Rattle.player_view.specs.Lettered.{LettersStay}
+use Rattle.view_rules.specs.Asking.{asked_by}
 use Rattle.campaign_law.specs.Seat.{Seat, was_joined}
 use Rattle.campaign_law.specs.Outcome.{Outcome}
 use Rattle.campaign_law.specs.World.{World, seat_at}
@@ -19,6 +21,10 @@ IsShown scene views seat before = was_joined before ≡ true → view_at seat vi
 -- of each seat
 pub record AreShown (w : World) (views : List KeptView) : Type 0 where
   pub each : (seat : ℕ) → IsShown w.scene views seat (seat_at w seat)
+
+-- what answers the rules of a seat that is shown this, and for the game master the whole scene
+abbrev pub answers_by : World → ℕ → View → Asked
+answers_by w seat v = asked_by (length w.seats) v (if is_gm seat then Some w.scene else None)
 
 -- what a seat is shown that is Joined
 abbrev pub kept_view : World → ℕ → Option View

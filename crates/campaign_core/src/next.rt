@@ -27,7 +27,7 @@ ghost use Rattle.campaign_core.specs.Prepared.{IsPrepared};
 ghost use Rattle.campaign_core.specs.Shown.{AreShown, is_none, made_or, made_view, view_then};
 
 use crate::boxed::Boxed;
-use crate::outcome::{Outcome, decide};
+use crate::deciding::decide;
 use crate::queues::{Glances, NextSeats, next_seats};
 use crate::state::{NextPost, State};
 use campaign_law::{Answer, Entry};
@@ -35,6 +35,7 @@ use cells::CellSet;
 use command_effects::{scene_by, settle};
 use command_json::Command;
 use command_looks::{Touched, fields_after, serve, touched_by};
+use entry_outcomes::Outcome;
 use names::{Memory, SeatNo};
 use seats::SeatBook;
 use std::alloc::Global;
