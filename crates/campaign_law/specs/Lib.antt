@@ -13,3 +13,4 @@ pub mod Cuts
 pub mod SessionLaws
 pub mod Worlds
 pub mod Client
+pub mod Feeding

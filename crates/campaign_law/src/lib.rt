@@ -1,8 +1,9 @@
 //! What a campaign is: entries, their outcomes, the replay, what is sent, and the player machine, which
-//! holds no world. The laws of what players are sent, of one session, of the worlds of a replay and of a client that
-//! reads its lines stand on functions.
+//! holds no world. The laws of what players are sent, of one session, of the worlds of a replay, of a client that
+//! reads its lines and of what the machine is fed stand on functions.
 #![tactic(auto)]
 
+ghost use Rattle.campaign_law.specs.Feeding.{TracesFeed};
 ghost use Rattle.campaign_law.specs.Law.{SentIsMachine, AgreeingSendAlike, NoLineEndIsSent, RefusedChangesLittle};
 ghost use Rattle.campaign_law.specs.Client.{LinesTellViews, ClientHoldsView};
 ghost use Rattle.campaign_law.specs.Worlds.{OpeningWorldFits, WorldsFit, MadeTokensAreNew, OpeningSceneHasTables, ScenesHaveTables, OpeningWorldIsWritten, WorldsAreWritten};
@@ -74,4 +75,10 @@ pub fn worlds_fit()
 pub fn client_laws()
     ensures lines { LinesTellViews }
     ensures holds { ClientHoldsView }
+{}
+
+/// The law of what a player machine is fed, over every history of a world that opens, fits together and has its tables: item by item,
+/// a player's trace is what the player machine asks for.
+pub fn traces_feed()
+    ensures { TracesFeed }
 {}
