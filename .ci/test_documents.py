@@ -154,6 +154,12 @@ class Crates(unittest.TestCase):
                     with self.subTest(crate=crate, functions=functions):
                         self.assertEqual(set(re.findall(r"\w+", clauses)) - has, set())
 
+    def test_crates_without_tests_say_what_runs_them(self):
+        named = code(section(THEOREMS, "## Which runs test which crate"))
+        for _, crate in listed():
+            if not any("#[test]" in text(file) for file in sources(crate)):
+                self.assertIn(crate, named)
+
     def test_the_places_of_a_command_are_all_named(self):
         told = {crate.strip("`"): cell for crate, cell in rows(section(DESIGN, "## To add a command: these places"))[1:]}
         for crate, cell in told.items():
