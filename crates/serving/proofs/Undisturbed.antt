@@ -76,10 +76,9 @@ writer_enters w seat place r s count before (Cut other) is = absurd is
 behind_join : (w : World) (h : List Entry) (seat place r s : ℕ) (readers writers : List ℕ) (ended : Ended) (text : Option (List ℕ)) (reader : ReaderState) (left before after : Option (List ℕ))
     → IsServed w h (record { seat = seat; place = place; reader = r; writer = s }) readers writers ended text reader left before after → All (StandsAt (IsBehindJoin w seat r s) h) (readers ++ writers)
 behind_join w h seat place r s readers writers ended text reader left before after is =
-    let hold = record { seat = seat; place = place; reader = r; writer = s } in
     All-append (StandsAt (IsBehindJoin w seat r s) h) readers writers
-    (stands_as (IsReaders w hold) (IsBehindJoin w seat r s) (reader_enters w seat place r s) h readers is.heard)
-    (stands_as (IsWriters w hold is.count) (IsBehindJoin w seat r s) (writer_enters w seat place r s is.count) h writers is.told)
+    (stands_as (IsReaders w (record { seat = seat; place = place; reader = r; writer = s })) (IsBehindJoin w seat r s) (reader_enters w seat place r s) h readers is.heard)
+    (stands_as (IsWriters w (record { seat = seat; place = place; reader = r; writer = s }) is.count) (IsBehindJoin w seat r s) (writer_enters w seat place r s is.count) h writers is.told)
 
 by_number : (w : World) (seat r s : ℕ) (before : List Entry) (e : Entry) → IsBehindJoin w seat r s before e → IsEnteredBy w r before e
 by_number w seat r s before (Join other key reader writer) is = absurd is
