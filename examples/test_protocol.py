@@ -79,7 +79,7 @@ class Macros(unittest.TestCase):
 
     def test_each_kind_of_fault_has_an_example(self):
         text = PROTOCOL.read_text(encoding="utf-8")
-        table = text[text.index("| kind | where |"):text.index("`at` is a byte of the macro's text")]
+        table = text[text.index("kind | where\n"):text.index("`at` is a byte of the macro's text")]
         kinds = set(re.findall(r"`([A-Z]\w+)`", table))
         self.assertEqual(len(kinds), 13)
         self.assertLessEqual(kinds, {told.split(" ")[0] for _, told in examples()})
