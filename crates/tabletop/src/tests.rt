@@ -183,6 +183,11 @@ fn first_players(rt: &impl Abort, alloc: Global, output: &str) -> String {
 }
 
 #[test]
+fn the_game_master_has_the_campaign_told(rt: HostRuntime) {
+    check(&rt, rt.alloc(), &plays::DUMPED);
+}
+
+#[test]
 fn what_is_unseen_changes_no_roll(rt: HostRuntime) {
     check(&rt, rt.alloc(), &plays::ROLL_ALONE);
     check(&rt, rt.alloc(), &plays::ROLL_AMONG_OTHERS);

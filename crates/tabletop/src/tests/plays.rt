@@ -3,7 +3,7 @@
 use super::campaigns::{CAVE, CAVE_WITH_ORC, HALL, THREE_SEATS, TWO_SEATS};
 use super::{PLAIN, Run};
 
-pub(super) static PLAYS: [Run<'static>; 20] = [
+pub(super) static PLAYS: [Run<'static>; 19] = [
     Run {
         name: "an empty script",
         campaign: THREE_SEATS,
@@ -357,30 +357,6 @@ pub(super) static PLAYS: [Run<'static>; 20] = [
 "#,
         ..PLAIN
     },
-    Run {
-        name: "the game master has the campaign told, and a player hasn't",
-        campaign: CAVE,
-        script: r#"0 {"do":"hello","seat":0,"key":"g"}
-1 {"do":"hello","seat":1,"key":"a"}
-0 {"do":"expose","seat":1,"map":"cave","rect":[2,0,1,2]}
-1 {"do":"dump"}
-0 {"do":"dump","to":"all"}
-0 {"do":"dump"}
-0 {"do":"bye"}
-"#,
-        output: r#"0 {"n":1,"ok":"hello","seat":0,"seats":2}
-0 {"full":{"lights":{},"maps":[{"ground":[[0,0,"..."],[1,0,"..."],[2,0,"..."]],"h":3,"mode":"day","name":"cave","seen":[[0,0,2],[1,0,2],[2,0,2]],"shown":true,"w":3}],"sights":{"human":[10,0,2]},"tokens":[{"cell":[0,0],"id":"1:ann","layer":"token","light":null,"map":"cave","name":"Ann","own":[],"owners":[1],"props":[],"secret":[],"sight":"human","size":1,"visible":true}]}}
-1 {"n":1,"ok":"hello","seat":1,"seats":2}
-1 {"full":{"lights":{},"maps":[{"ground":[[0,0,"."],[1,0,"."],[2,0,"."]],"h":3,"mode":"day","name":"cave","seen":[[0,0,0],[1,0,0],[2,0,0]],"w":3}],"sights":{"human":[10,0,2]},"tokens":[{"cell":[0,0],"id":"1:ann","layer":"token","light":null,"map":"cave","name":"Ann","own":[],"props":[],"sight":"human","size":1}]}}
-0 {"n":2,"ok":"expose"}
-1 {"change":{"changed":[{"ground":[[0,2,"."],[1,2,"."]],"name":"cave"}]}}
-1 {"n":2,"no":3,"refused":"GmOnly"}
-0 {"field":"to","n":3,"no":4,"refused":"BadField"}
-0 {"dump":{"format":1,"lights":{},"maps":[{"h":3,"mbl":[],"mode":"day","name":"cave","rows":["...","...","..."],"shown":true,"vbl":[[2,0,2,4]],"w":3}],"seats":[{"drawn":0,"fog":{},"key":"g","macros":{},"seed":"0000000000000000000000000000000000000000000000000000000000000000","tags":[]},{"drawn":0,"fog":{"cave":[[0,0,0],[0,2,2],[1,0,0],[1,2,2],[2,0,0]]},"key":"a","macros":{},"seed":"0000000000000000000000000000000000000000000000000000000000000000","tags":["ann"]}],"sights":{"human":[10,0,2]},"tokens":[{"cell":[0,0],"id":"1:ann","layer":"token","light":null,"map":"cave","name":"Ann","own":[],"owners":[1],"props":[],"secret":[],"sight":"human","size":1,"visible":true}]},"n":4,"ok":"dump"}
-0 {"n":5,"ok":"bye"}
-"#,
-        ..PLAIN
-    },
 ];
 
 /// A player's roll after hello.
@@ -448,6 +424,32 @@ pub(super) static ROLL_AMONG_OTHERS: Run<'static> = Run {
 0 {"from":0,"text":"9d6 = 35","to":"gm"}
 1 {"n":2,"ok":"roll"}
 1 {"from":1,"text":"1d20 = 14","to":"self"}
+"#,
+    ..PLAIN
+};
+
+/// The game master has the campaign told, and a player is refused it.
+pub(super) static DUMPED: Run<'static> = Run {
+    name: "the game master has the campaign told, and a player hasn't",
+    campaign: CAVE,
+    script: r#"0 {"do":"hello","seat":0,"key":"g"}
+1 {"do":"hello","seat":1,"key":"a"}
+0 {"do":"expose","seat":1,"map":"cave","rect":[2,0,1,2]}
+1 {"do":"dump"}
+0 {"do":"dump","to":"all"}
+0 {"do":"dump"}
+0 {"do":"bye"}
+"#,
+    output: r#"0 {"n":1,"ok":"hello","seat":0,"seats":2}
+0 {"full":{"lights":{},"maps":[{"ground":[[0,0,"..."],[1,0,"..."],[2,0,"..."]],"h":3,"mode":"day","name":"cave","seen":[[0,0,2],[1,0,2],[2,0,2]],"shown":true,"w":3}],"sights":{"human":[10,0,2]},"tokens":[{"cell":[0,0],"id":"1:ann","layer":"token","light":null,"map":"cave","name":"Ann","own":[],"owners":[1],"props":[],"secret":[],"sight":"human","size":1,"visible":true}]}}
+1 {"n":1,"ok":"hello","seat":1,"seats":2}
+1 {"full":{"lights":{},"maps":[{"ground":[[0,0,"."],[1,0,"."],[2,0,"."]],"h":3,"mode":"day","name":"cave","seen":[[0,0,0],[1,0,0],[2,0,0]],"w":3}],"sights":{"human":[10,0,2]},"tokens":[{"cell":[0,0],"id":"1:ann","layer":"token","light":null,"map":"cave","name":"Ann","own":[],"props":[],"sight":"human","size":1}]}}
+0 {"n":2,"ok":"expose"}
+1 {"change":{"changed":[{"ground":[[0,2,"."],[1,2,"."]],"name":"cave"}]}}
+1 {"n":2,"no":3,"refused":"GmOnly"}
+0 {"field":"to","n":3,"no":4,"refused":"BadField"}
+0 {"dump":{"format":1,"lights":{},"maps":[{"h":3,"mbl":[],"mode":"day","name":"cave","rows":["...","...","..."],"shown":true,"vbl":[[2,0,2,4]],"w":3}],"seats":[{"drawn":0,"fog":{},"key":"g","macros":{},"seed":"0000000000000000000000000000000000000000000000000000000000000000","tags":[]},{"drawn":0,"fog":{"cave":[[0,0,0],[0,2,2],[1,0,0],[1,2,2],[2,0,0]]},"key":"a","macros":{},"seed":"0000000000000000000000000000000000000000000000000000000000000000","tags":["ann"]}],"sights":{"human":[10,0,2]},"tokens":[{"cell":[0,0],"id":"1:ann","layer":"token","light":null,"map":"cave","name":"Ann","own":[],"owners":[1],"props":[],"secret":[],"sight":"human","size":1,"visible":true}]},"n":4,"ok":"dump"}
+0 {"n":5,"ok":"bye"}
 "#,
     ..PLAIN
 };
