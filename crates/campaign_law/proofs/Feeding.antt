@@ -49,11 +49,11 @@ after_follows : (w : World) (e : Entry) → SceneFollows w.scene (scene_after w 
 unfolding scene_after
 after_follows w e = by_done w e (outcome_of w e).done refl
 
-settled_keeps : (s : Scene) → (settled_scene s).fog.players ≡ s.fog.players
+pub settled_keeps : (s : Scene) → (settled_scene s).fog.players ≡ s.fog.players
 unfolding settled_scene
 settled_keeps s = refl
 
-players_stay : (w : World) (e : Entry) → (scene_after w e).fog.players ≡ w.scene.fog.players
+pub players_stay : (w : World) (e : Entry) → (scene_after w e).fog.players ≡ w.scene.fog.players
 unfolding scene_after
 players_stay w e = settled_keeps (scene_by (steps_of w e) (outcome_of w e).intents (seat_of e) w.scene (outcome_of w e).done) ∙ players_kept (steps_of w e) (outcome_of w e).intents (seat_of e) w.scene (outcome_of w e).done
 

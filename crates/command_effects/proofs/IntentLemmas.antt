@@ -22,7 +22,7 @@ use Rattle.command_rules.specs.MacroRules.{mine_with, once_set, intents_rule}
 use Rattle.command_effects.specs.Allowed.{MaySet}
 use Rattle.command_effects.specs.Effects.{own_token}
 use Rattle.command_effects.specs.MacroEffects.{with_intent, with_intents}
-use Rattle.command_effects.specs.Trying.{mine_for, intent_rule}
+use Rattle.command_effects.specs.Setting.{mine_for, intent_rule, MaySetAll}
 use Rattle.command_effects.proofs.Allowed.{may_set_by}
 
 -- ---- one property
@@ -125,20 +125,16 @@ set_more seat s all place now next i before lt is none same =
       scene = ap (with_intents rest) same ∙ sym (ap (λ l. with_intents l now) left) ∙ before.scene;
     }
 
-pub set_stops : (seat : ℕ) (s : Scene) (all : List Intent) (place : ℕ) (now : Scene) (i : Intent) (refusal : Refusal) → IsSetTo seat s all place now → place < length all → i ≡ get_or all place i
-    → intent_rule now seat i ≡ Some refusal → intents_rule seat (mine_for s seat) all ≡ Some refusal
-set_stops seat s all place now i refusal before lt is broken =
-    sym before.rule ∙ ap (intents_rule seat (mine_for now seat)) (begins all place i lt is)
-    ∙ ap (λ r. then_rule r (intents_rule seat (once_set i (mine_for now seat)) (drop (place + 1) all))) broken
+-- the one whose turn comes breaks no rule
+pub next_may : (seat : ℕ) (s : Scene) (all : List Intent) (place : ℕ) (now : Scene) (i : Intent) → MaySetAll s seat all → IsSetTo seat s all place now → place < length all → i ≡ get_or all place i
+    → intent_rule now seat i ≡ None
+next_may seat s all place now i may before lt is =
+    first_none (intent_rule now seat i) (intents_rule seat (once_set i (mine_for now seat)) (drop (place + 1) all))
+    (sym (ap (intents_rule seat (mine_for now seat)) (begins all place i lt is)) ∙ before.rule ∙ may)
+  where
+    first_none : (r rest : Option Refusal) → then_rule r rest ≡ None → r ≡ None
+    first_none None rest h = refl
+    first_none (Some refusal) rest h = h
 
-pub record AreSet (seat : ℕ) (s : Scene) (all : List Intent) (now : Scene) : Type 0 where
-  pub rule : intents_rule seat (mine_for s seat) all ≡ None
-  pub scene : now ≡ with_intents all s
-
-pub set_ends : (seat : ℕ) (s : Scene) (all : List Intent) (place : ℕ) (now : Scene) → IsSetTo seat s all place now → length all ≤ place → AreSet seat s all now
-set_ends seat s all place now before end =
-    let none : drop place all ≡ [] = drop_all place all end in
-    record {
-      rule = sym before.rule ∙ ap (intents_rule seat (mine_for now seat)) none;
-      scene = sym (ap (λ l. with_intents l now) none) ∙ before.scene;
-    }
+pub set_ends : (seat : ℕ) (s : Scene) (all : List Intent) (place : ℕ) (now : Scene) → IsSetTo seat s all place now → length all ≤ place → now ≡ with_intents all s
+set_ends seat s all place now before end = sym (ap (λ l. with_intents l now) (drop_all place all end)) ∙ before.scene

@@ -3,7 +3,7 @@ pub mod GmEffects
 pub mod Effects
 pub mod Tags
 pub mod MacroEffects
-pub mod Trying
+pub mod Setting
 pub mod Settle
 pub mod Allowed
 pub mod Follows

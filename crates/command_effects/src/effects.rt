@@ -11,7 +11,7 @@ ghost use Rattle.command_effects.specs.Making.{players_token, with_new as with_n
 ghost use Rattle.command_effects.specs.Effects.{eye_at as eye_at_lem, eyes_along as eyes_along_lem, free_steps as free_steps_lem, steps_with as steps_with_lem, steps_by as steps_by_lem, own_token, cell_after as cell_after_lem, after_steps as after_steps_lem, scene_by as scene_by_lem};
 ghost use Rattle.command_effects.specs.Allowed.{IsAllowed, MayMove, MaySet, MayStand};
 ghost use Rattle.command_effects.specs.Tags.{MakesNew};
-ghost use Rattle.command_effects.specs.Trying.{MaySetAll};
+ghost use Rattle.command_effects.specs.Setting.{MaySetAll};
 
 use crate::gm_effects::gm_scene_by;
 use crate::intents::with_intents;

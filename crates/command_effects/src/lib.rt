@@ -11,7 +11,6 @@ mod sight;
 mod tags;
 
 pub use effects::{scene_by, steps_by};
-pub use intents::{IntentsSet, set_intents};
 pub use laws::scenes_follow;
 pub use macros::{draw, set_text};
 pub use sight::settle;

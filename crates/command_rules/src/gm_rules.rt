@@ -12,13 +12,13 @@ ghost use Rattle.command_rules.specs.GmRules.{of_map_fault as of_map_fault_lem, 
 
 use crate::places::{coordinate, fits_at, point_at, point_fits, rect_fits};
 use crate::refusal::Refusal;
-use crate::rules::room_rule;
 use command_json::Command;
 use lights::LightFault;
 use maps::{GridMap, MapFault};
 use names::{SeatNo, Tag, TokenId, WallKind};
 use seats::{SeatBook, most_tags};
 use sight_types::SightFault;
+use tokens::Props;
 use topology::{WallFault, Walls};
 use world::Scene;
 
@@ -311,6 +311,17 @@ fn place_rule(scene: &Scene, token: TokenId, map: Tag, place: (i32, i32)) -> Opt
     }
 }
 
+/// The name may be set among these properties.
+fn room_rule(props: &Props, name: Tag) -> Option<Refusal>
+    ensures { result ≡ room_rule_lem props.now name }
+{
+    if props.is_full_for(name) {
+        Some(Refusal::PropertyLimit)
+    } else {
+        None
+    }
+}
+
 fn secret_rule(scene: &Scene, token: TokenId, name: Tag) -> Option<Refusal>
     ensures { result ≡ token_rule (λ t. room_rule_lem t.secret name) (token_of token scene.now.tokens) }
 {
@@ -333,9 +344,10 @@ fn fog_rule(scene: &Scene, seat: SeatNo, map: Tag, rect: (i32, i32, i32, i32)) -
 
 // ---- all commands
 
-/// The first broken rule of a command of the game master, whose seat this is and who has this book.
+/// The first broken rule of a command of the game master, whose seat this is and who has this book. A command that isn't the
+/// game master's alone is `BadCommand` here: its rules are a view's.
 #[tactic(auto, unfolding(crate::specs::GmRules::gm_rule))]
-pub(crate) fn gm_rule(
+pub fn gm_rule(
     scene: &Scene,
     seat: SeatNo,
     book: &SeatBook,

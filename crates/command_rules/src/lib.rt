@@ -1,4 +1,5 @@
-//! The rules of a Joined seat's commands, and the refusals of those that break one.
+//! What the rules of a Joined seat's commands are, the refusals of those that break one, and what judges the game master's own
+//! commands and macros. Rules that are asked of a view are judged by `view_rules`.
 #![tactic(auto)]
 
 mod calls;
@@ -6,10 +7,9 @@ mod gm_rules;
 mod macros;
 mod places;
 mod refusal;
-mod rules;
 
 pub use calls::{Called, MacroRun};
+pub use gm_rules::gm_rule;
 pub use macros::{run_called, setting_rule};
-pub use places::{cell_at, coordinate, point_at, rect_at};
+pub use places::{all_fit, are_king_steps, cell_at, coordinate, fits_at, point_at, rect_at};
 pub use refusal::Refusal;
-pub use rules::{rule_of, setprop_rule};

@@ -14,14 +14,14 @@ fn fits_along(most: u8, more: u32, at: i32) -> bool
 }
 
 /// Whether the square of that side at the place is on a map of the size.
-pub(crate) fn fits_at(size: Size, side: u32, place: (i32, i32)) -> bool
+pub fn fits_at(size: Size, side: u32, place: (i32, i32)) -> bool
     ensures { result ≡ fits_at_lem size side place }
 {
     fits_along(size.w(), side, place.0) && fits_along(size.h(), side, place.1)
 }
 
 /// Whether it is so at each place.
-pub(crate) fn all_fit(size: Size, side: u8, path: &[(i32, i32)]) -> bool
+pub fn all_fit(size: Size, side: u8, path: &[(i32, i32)]) -> bool
     ensures { result ≡ list_all (fits_at_lem size side) path.now }
 {
     for place in path {
@@ -59,7 +59,7 @@ fn is_king_step(from: Cell, to: Cell) -> bool
 
 /// Whether each cell of the path is a king step from the one before, the first from the given cell. The square fits at
 /// each place.
-pub(crate) fn are_king_steps(size: Size, side: u8, from: Cell, path: &[(i32, i32)]) -> bool
+pub fn are_king_steps(size: Size, side: u8, from: Cell, path: &[(i32, i32)]) -> bool
     requires { list_all (fits_at_lem size side) path.now ≡ true }
     ensures { result ≡ are_king_steps_lem from path.now }
 {

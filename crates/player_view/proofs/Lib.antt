@@ -4,7 +4,6 @@ pub mod ListLemmas
 pub mod SceneLemmas
 pub mod SightLemmas
 pub mod ViewLemmas
-pub mod KeepLemmas
 pub mod ToldLemmas
 pub mod LetterOrder
 pub mod LetterRuns
@@ -12,5 +11,6 @@ pub mod OlderLetters
 pub mod ViewIs
 pub mod FollowLemmas
 pub mod FoundLemmas
+pub mod EyeLemmas
 pub mod ReadTables
 pub mod ReadAlike

@@ -115,16 +115,6 @@ pub find_on : {X : Type 0} (p : X → Bool) (xs : List X) (i : ℕ) (x : X) → 
 find_on p xs i x e t so_far =
     sym (ap (find p) (drop_next xs i x e) ∙ ap (λ b. cond b (Some x) (find p (drop (i + 1) xs))) (sym t)) ∙ so_far
 
-pub any_here : {X : Type 0} (p : X → Bool) (xs : List X) (i : ℕ) (x : X) → slice_get xs i ≡ Some x → true ≡ p x
-    → list_any p (drop i xs) ≡ list_any p xs → true ≡ list_any p xs
-any_here p xs i x e t so_far =
-    sym (ap (list_any p) (drop_next xs i x e) ∙ ap (λ b. b || list_any p (drop (i + 1) xs)) (sym t)) ∙ so_far
-
-pub any_on : {X : Type 0} (p : X → Bool) (xs : List X) (i : ℕ) (x : X) → slice_get xs i ≡ Some x → false ≡ p x
-    → list_any p (drop i xs) ≡ list_any p xs → list_any p (drop (i + 1) xs) ≡ list_any p xs
-any_on p xs i x e t so_far =
-    sym (ap (list_any p) (drop_next xs i x e) ∙ ap (λ b. b || list_any p (drop (i + 1) xs)) (sym t)) ∙ so_far
-
 pub none_made : {X Y : Type 0} (f : X → Option Y) (xs : List X) (i : ℕ) (x : X) (ys : List Y) → ys ≡ filter_map f (take i xs)
     → slice_get xs i ≡ Some x → None ≡ f x → ys ≡ filter_map f (take (i + 1) xs)
 none_made f xs i x ys so_far e n =

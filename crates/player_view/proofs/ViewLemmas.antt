@@ -1,5 +1,5 @@
 -- Maps by their names.
-use Rattle.std.proofs.Common.{◌≡◌, ℕ, zero, suc, ◌<◌, Bool, true, false, cond, ◌&&◌, ◌||◌, List, [], ◌∷◌, Some, None, refl, sym, ◌∙◌, ap, subst}
+use Rattle.std.proofs.Common.{◌≡◌, ℕ, zero, suc, Bool, true, false, cond, ◌&&◌, ◌||◌, List, [], ◌∷◌, Some, None, refl, sym, ◌∙◌, ap, subst}
 use Rattle.std.specs.Prelude.{Option, option_map, map, slice_get, unwrap_or}
 use Rattle.std.specs.List.{find, filter}
 use Rattle.std.specs.Ordering.{is_lt}
@@ -8,8 +8,6 @@ use Rattle.std.specs.FinMap.Entries.{below_all, is_sorted}
 use Rattle.names.specs.Tag.{tag_cmp}
 use Rattle.names.specs.declared.kinds.Layer.{Layer}
 use Rattle.names.specs.declared.kinds.Layer.TheVariants.{Token as TokenLayer, Hidden, Object, Background}
-use Rattle.cells.specs.Cells.{has}
-use Rattle.cells.proofs.SetLaws.{has-cells_where}
 use Rattle.maps.specs.Maps.{Grid, AreMaps, map_of, has_name}
 use Rattle.maps.proofs.NameLemmas.{apart, same_name}
 use Rattle.tokens.specs.declared.token.Token.{Token}
@@ -20,10 +18,6 @@ use Rattle.player_view.specs.View.{is_gm, has_map, has_token, all_cells, map_vie
 use Rattle.player_view.specs.Walk.{is_open_by, is_open_in}
 use Rattle.player_view.proofs.Alike.{find-map-filter}
 use Rattle.player_view.proofs.SceneLemmas.{first, second}
-
-pub has_all : (m : Grid) (x y : ℕ) → x < m.walls.extent.w → y < m.walls.extent.h → has (all_cells m) x y ≡ true
-has_all m x y hx hy = has-cells_where m.walls.extent (λ x y. true) x y hx hy
-
 -- ---- one map by its name
 
 abbrev keyed : List Grid → List (List ℕ × Grid)

@@ -2,7 +2,6 @@
 ghost use Rattle.std.specs.Prelude.{◌≡◌, ◌<◌, ◌≤◌, ◌+◌, ◌++◌, ◌∷◌, [], Some, None, true, IfOk, IfSome, OnOk, map, option_copied, take, length, if◌then◌else◌};
 ghost use Rattle.std.specs.List.{filter, find, position};
 ghost use Rattle.std.specs.Str.{bytes_eq};
-ghost use Rattle.cells.specs.Cells.{has};
 ghost use Rattle.fog_book.specs.Exposures.{is_of};
 ghost use Rattle.maps.specs.Maps.{map_of};
 ghost use Rattle.player_view.specs.Fields.{HasFields};
@@ -125,22 +124,6 @@ fn exposed<'a>(scene: &'a Scene, seat: SeatNo, map: &GridMap) -> &'a CellSet
 {
     let fog = scene.fog();
     fog.exposed(seat, map.name())
-}
-
-/// Whether the cell of the map is exposed to the seat: every cell is to the game master. The map is the scene's, and the
-/// cell is on it.
-pub fn is_exposed(scene: &Scene, seat: SeatNo, map: &GridMap, cell: Cell) -> bool
-    requires there { map_of map.now.name scene.now.maps ≡ Some map.now }
-    requires seat { seat ≤ scene.now.fog.players }
-    requires column { cell.x < map.now.walls.extent.w }
-    requires row { cell.y < map.now.walls.extent.h }
-    ensures { result ≡ has (exposed_to scene.now seat map.now) cell.x cell.y }
-{
-    if is_gm(seat) {
-        true
-    } else {
-        exposed(scene, seat, map).has(cell)
-    }
 }
 
 fn exposed_to(alloc: Global, scene: &Scene, seat: SeatNo, map: &GridMap) -> Result<CellSet, Memory>

@@ -1,9 +1,8 @@
 //! What is read of a scene for one seat.
 ghost use Rattle.std.specs.Prelude.{◌≡◌, ◌&&◌, ◌<◌, ◌≤◌, ◌+◌, IfSome, Some, slice_get, length};
 ghost use Rattle.std.specs.Option.{option_copied};
-ghost use Rattle.std.specs.List.{find, list_any};
-ghost use Rattle.std.specs.Str.{bytes_eq};
-ghost use Rattle.maps.specs.Maps.{has_name, map_of};
+ghost use Rattle.std.specs.List.{find};
+ghost use Rattle.maps.specs.Maps.{map_of};
 ghost use Rattle.tokens.specs.Tokens.{has_id};
 ghost use Rattle.player_view.specs.Sight.{is_hidden, map_shown, named_type, owns};
 ghost use Rattle.player_view.specs.View.{acts_on, has_map, is_gm};
@@ -135,48 +134,4 @@ pub fn map_at(scene: &Scene, place: usize) -> &GridMap
     // The table tells with its length that no name is there twice.
     let _count = scene.maps().len();
     scene.maps().at(place)
-}
-
-fn is_known(seat: SeatNo, map: &GridMap, name: Tag) -> bool
-    ensures { result ≡ (has_map seat map.now && has_name name map.now) }
-{
-    has_map(seat, map) && map.name() == name
-}
-
-/// The map of that name, if it is there and the seat is shown it.
-pub fn known(scene: &Scene, seat: SeatNo, name: Tag) -> Option<&GridMap>
-    ensures { option_copied result ≡ find (λ m. has_map seat m && has_name name m) scene.now.maps }
-{
-    for place in 0..scene.maps().len() {
-        let map = map_at(scene, place);
-        if is_known(seat, map, name) {
-            return Some(map);
-        }
-    }
-    None
-}
-
-fn light_at(scene: &Scene, place: usize) -> (Tag, u8)
-    requires { place < length scene.now.lights }
-    ensures { slice_get scene.now.lights place ≡ Some result }
-{
-    scene.lights().at(place)
-}
-
-fn is_light(name: Tag, light: (Tag, u8)) -> bool
-    ensures { result ≡ bytes_eq name light.0 }
-{
-    name == light.0
-}
-
-/// Whether there is a light type of that name.
-pub fn has_light(scene: &Scene, name: Tag) -> bool
-    ensures { result ≡ list_any (λ light. bytes_eq name light.0) scene.now.lights }
-{
-    for place in 0..scene.lights().len() {
-        if is_light(name, light_at(scene, place)) {
-            return true;
-        }
-    }
-    false
 }

@@ -4,7 +4,8 @@ use Rattle.command_looks.specs.Fields.{AreKept}
 use Rattle.campaign_law.specs.State.{State, world_in}
 use Rattle.campaign_core.specs.Changed.{scene_in}
 use Rattle.campaign_core.specs.Places.{law, posted}
-use Rattle.campaign_core.proofs.Nexts.{keeps_fields, players_stay}
+use Rattle.campaign_law.proofs.Feeding.{players_stay}
+use Rattle.campaign_core.proofs.Nexts.{keeps_fields}
 use Rattle.campaign_core.proofs.next.act.Goals as goal
 
 pub go_on-requires-clause-count : goal.go_on-requires-clause-count

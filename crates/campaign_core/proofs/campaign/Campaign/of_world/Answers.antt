@@ -20,7 +20,8 @@ use Rattle.campaign_core.specs.Leaving.{cut_due, cut_due_of, due, due_of}
 use Rattle.campaign_core.proofs.CutLists.{none_yet}
 use Rattle.campaign_core.proofs.Leaving.{due_fresh}
 use Rattle.campaign_core.proofs.Openings.{opening_is, opened_seats}
-use Rattle.campaign_core.proofs.Nexts.{kept_settled, settled_keeps, settled_looks}
+use Rattle.campaign_law.proofs.Feeding.{settled_keeps}
+use Rattle.campaign_core.proofs.Nexts.{kept_settled, settled_looks}
 use Rattle.campaign_core.proofs.Running.{opening_shown}
 use Rattle.campaign_core.proofs.campaign.Campaign.of_world.Goals as goal
 
