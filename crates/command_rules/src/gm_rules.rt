@@ -347,12 +347,7 @@ fn fog_rule(scene: &Scene, seat: SeatNo, map: Tag, rect: (i32, i32, i32, i32)) -
 /// The first broken rule of a command of the game master, whose seat this is and who has this book. A command that isn't the
 /// game master's alone is `BadCommand` here: its rules are a view's.
 #[tactic(auto, unfolding(crate::specs::GmRules::gm_rule))]
-pub fn gm_rule(
-    scene: &Scene,
-    seat: SeatNo,
-    book: &SeatBook,
-    command: &Command,
-) -> Option<Refusal>
+pub fn gm_rule(scene: &Scene, seat: SeatNo, book: &SeatBook, command: &Command) -> Option<Refusal>
     requires { seat ≡ 0 }
     ensures { result ≡ gm_rule_lem scene.now book.now.tags command.now }
 {

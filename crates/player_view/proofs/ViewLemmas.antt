@@ -18,6 +18,7 @@ use Rattle.player_view.specs.View.{is_gm, has_map, has_token, all_cells, map_vie
 use Rattle.player_view.specs.Walk.{is_open_by, is_open_in}
 use Rattle.player_view.proofs.Alike.{find-map-filter}
 use Rattle.player_view.proofs.SceneLemmas.{first, second}
+
 -- ---- one map by its name
 
 abbrev keyed : List Grid → List (List ℕ × Grid)
