@@ -22,7 +22,7 @@ use Rattle.world.specs.Scene.{Scene}
 use Rattle.campaign_law.specs.declared.entry.Entry.{Entry}
 use Rattle.campaign_law.specs.Views.{change_line}
 use Rattle.campaign_law.specs.Seat.{Seat, blank_seat, was_joined}
-use Rattle.campaign_law.specs.Outcome.{Outcome, of_steps, outcome_at, seat_of, blank_entry}
+use Rattle.campaign_law.specs.Outcome.{Outcome, of_steps, seat_of, blank_entry}
 use Rattle.campaign_law.specs.World.{World, seat_at, asked_of, outcome_of, steps_of, report_of, scene_after, is_present, messages_to, step}
 use Rattle.campaign_law.specs.Worlds.{FitsTogether}
 use Rattle.campaign_law.specs.Player.{Item, own, message, view, view_items, items_if_present, entry_items, items_of, trace, Machine, own_outcome, after, opening, started}

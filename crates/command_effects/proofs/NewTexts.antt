@@ -4,7 +4,6 @@ use Rattle.std.specs.Prelude.{Option, option_map}
 use Rattle.seats.specs.declared.book_fault.BookFault.{BookFault}
 use Rattle.seats.specs.Book.{macro_fault}
 use Rattle.macro_parse.specs.Answers.{macro_of as pieces_of_text}
-use Rattle.command_rules.specs.declared.refusal.Refusal.{Refusal}
 use Rattle.command_rules.specs.GmRules.{then_rule}
 use Rattle.command_rules.specs.MacroRules.{Macros, of_book_fault, spelling_rule, new_text_rule}
 

@@ -1,6 +1,6 @@
 -- What runs come to, by the answers of the code.
-use Rattle.std.proofs.Common.{◌≡◌, ℕ, List, Some, None, refl, sym, ◌∙◌, ap, subst}
-use Rattle.std.specs.Prelude.{IfOk, Option, Result, Ok, Err}
+use Rattle.std.proofs.Common.{◌≡◌, ℕ, List, Some, sym, ◌∙◌, ap, subst}
+use Rattle.std.specs.Prelude.{IfOk, Result, Ok, Err}
 use Rattle.seat_random.specs.Stream.{Stream, after}
 use Rattle.seats.specs.Book.{macro_of}
 use Rattle.command_json.specs.declared.command.Command.{Command}

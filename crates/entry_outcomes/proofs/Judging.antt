@@ -1,11 +1,9 @@
 -- Rulings, and what the run of an allowed command may rely on.
-use Rattle.std.proofs.Common.{◌≡◌, ◌≤◌, ℕ, Bool, true, false, cond, eqb, List, length, Some, None, refl, sym, ◌∙◌, ap, subst, arith}
+use Rattle.std.proofs.Common.{◌≡◌, ◌≤◌, ℕ, List, length, Some, None, refl, sym, ◌∙◌, ap, subst, arith}
 use Rattle.std.specs.Prelude.{Option, Result, Ok, Err}
 use Rattle.std.proofs.lemmas.List.FromFn.{length-map-range_with_len}
 use Rattle.seat_random.specs.Stream.{Stream, word_of}
-use Rattle.seats.specs.Book.{Book, freed, join_refusal, macro_of, stream_of}
-use Rattle.seats.specs.SeatState.{is_joined}
-use Rattle.seats.specs.declared.seat_state.JoinRefusal.{JoinRefusal}
+use Rattle.seats.specs.Book.{Book, macro_of}
 use Rattle.macro_grammar.specs.Tree.{Piece}
 use Rattle.macro_parse.specs.declared.texts.MacroParseFault.{MacroParseFault}
 use Rattle.macro_parse.specs.Answers.{macro_of as pieces_of_text}
@@ -14,26 +12,15 @@ use Rattle.macro_eval.specs.Functions.{Setting, setting_of}
 use Rattle.macro_eval.specs.Steps.{fresh}
 use Rattle.macro_eval.specs.Pieces.{pieces_of}
 use Rattle.macro_eval.specs.Runs.{ended, run_of, text_for}
-use Rattle.command_json.specs.Commands.{command_of}
 use Rattle.command_json.specs.declared.command.Command.{Command}
-use Rattle.command_json.specs.declared.command.LineFault.{LineFault}
-use Rattle.player_view.specs.Asked.{Asked, asked_of as asked_of_scene}
+use Rattle.player_view.specs.Asked.{Asked}
 use Rattle.command_rules.specs.declared.calls.Called.{Called}
-use Rattle.command_rules.specs.declared.calls.MacroRun.{MacroRun}
-use Rattle.command_rules.specs.declared.calls.Called.TheVariants.{NoRun, Stopped, Ran}
 use Rattle.command_rules.specs.declared.refusal.Refusal.{Refusal}
-use Rattle.command_rules.specs.declared.refusal.Refusal.TheVariants.{NoHello}
 use Rattle.command_rules.specs.Rules.{rule_of}
 use Rattle.command_rules.specs.GmRules.{then_rule}
-use Rattle.command_rules.specs.MacroRules.{Call, Macros, by_answer, by_call, by_pieces, by_text, call_in, called, intents_rule, new_text_in, run_rule, setting_rule}
-use Rattle.command_effects.specs.MacroEffects.{intents_in}
-use Rattle.world.specs.Scene.{Scene}
-use Rattle.campaign_law.specs.declared.entry.Entry.{Entry}
-use Rattle.campaign_law.specs.declared.entry.Entry.TheVariants.{Join, Line, Leave, Taken, Cut}
+use Rattle.command_rules.specs.MacroRules.{Call, Macros, by_answer, by_call, by_pieces, by_text, call_in, called, new_text_in, run_rule, setting_rule}
 use Rattle.campaign_law.specs.Messages.{texts_in}
-use Rattle.campaign_law.specs.Seat.{Seat}
-use Rattle.campaign_law.specs.Outcome.{Outcome, Report, broken_rule, called_by, decided, dice_in, join_outcome, macro_rule, nothing, outcome_at, read_outcome, refused_direct, roll_rule, seat_of}
-use Rattle.campaign_law.specs.World.{World, asked_of, seat_at}
+use Rattle.campaign_law.specs.Outcome.{broken_rule, called_by, dice_in, roll_rule}
 use Rattle.entry_outcomes.specs.declared.rulings.Ruling.{Ruling}
 use Rattle.entry_outcomes.specs.declared.rulings.Ruling.TheVariants.{Refused, Allowed}
 use Rattle.entry_outcomes.specs.Rulings.{IsRuling, IsRunFor}

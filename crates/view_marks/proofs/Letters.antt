@@ -10,7 +10,6 @@ use Rattle.topology.specs.declared.wall.Wall.{Wall as OneWall}
 use Rattle.topology.specs.Order.{wall_between}
 use Rattle.topology.specs.WallLists.{with_wall, without_wall}
 use Rattle.maps.specs.Maps.{changed, shown_if, walled, with_mode}
-use Rattle.command_json.specs.declared.command.Command.{Command}
 use Rattle.command_json.specs.declared.command.Command.TheVariants.{Macro, Move, Setprop, Light, Make, Remove, Mode, Show, Wall, Unwall, Lighttype, Sighttype, Token, Own, Layer, Visible, Sight, Place, Secret, Expose, Hide}
 use Rattle.world.specs.Scene.{Scene}
 use Rattle.command_rules.specs.Places.{point_at}
