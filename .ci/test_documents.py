@@ -20,7 +20,8 @@ CRATES = ROOT / "crates"
 PROGRAM = os.environ.get("TABLETOP", str(CRATES / "tabletop" / "out" / "tabletop"))
 README, DESIGN, THEOREMS = ROOT / "README.md", ROOT / "docs" / "DESIGN.md", ROOT / "docs" / "THEOREMS.md"
 MOST_LINES, MOST_COLUMNS = 170, 140
-MOST_WORDS = 38_000
+# The words of all documents, when so many crates stood, and for each crate that came since.
+MOST_WORDS, CRATES_THEN, MOST_WORDS_OF_A_CRATE = 38_000, 53, 500
 MOST_WORDS_OF_A_PROMISE = 25
 MOST_LINES_OF_A_DECISION, MOST_COLUMNS_OF_A_DECISION = 3, 160
 # Commands whose names stand for nothing else in the code: one of the game master's and one of everybody's.
@@ -92,7 +93,8 @@ class Limits(unittest.TestCase):
         self.assertEqual([line for line in lines if len(line) > MOST_COLUMNS], [])
 
     def test_all_documents_are_short(self):
-        self.assertLessEqual(sum(len(text(page).split()) for page in documents()), MOST_WORDS)
+        most = MOST_WORDS + MOST_WORDS_OF_A_CRATE * (len(listed()) - CRATES_THEN)
+        self.assertLessEqual(sum(len(text(page).split()) for page in documents()), most)
 
     def test_a_decision_is_short(self):
         for bullet in re.findall(r"^- .*\n(?:  .*\n)*", text(ROOT / "docs" / "DECISIONS.md"), re.M):
