@@ -15,6 +15,7 @@ pub mod Posts
 pub mod Puts
 pub mod Shows
 pub mod Taking
+pub mod Saying
 pub mod Running
 pub mod Lines
 pub mod Dumping

@@ -4,7 +4,7 @@ use Rattle.std.specs.Prelude.{Option, option_map}
 use Rattle.serde_json.specs.Data.{Data}
 use Rattle.seats.specs.Book.{Book}
 use Rattle.command_json.specs.declared.command.Command.{Command}
-use Rattle.command_json.specs.declared.command.Command.TheVariants.{Move, Dump}
+use Rattle.command_json.specs.declared.command.Command.TheVariants.{Dump}
 use Rattle.campaign_law.specs.Texts.{dump_line}
 use Rattle.campaign_law.specs.Outcome.{of_steps}
 use Rattle.entry_outcomes.specs.Steps.{line_reporting}

@@ -4,6 +4,7 @@ use Rattle.std.specs.List.{list_any}
 use Rattle.seats.specs.declared.seat_state.SeatState.{SeatState}
 use Rattle.seats.specs.declared.seat_state.SeatState.TheVariants.{Free, Joined, Closing}
 use Rattle.campaign_law.specs.declared.entry.Entry.{Entry}
+use Rattle.campaign_law.specs.Messages.{Message}
 use Rattle.campaign_law.specs.Outcome.{seat_of}
 use Rattle.campaign_law.specs.World.{World, seat_at}
 use Rattle.campaign_law.specs.Session.{standing}
@@ -33,8 +34,9 @@ cut_of place seat (Closing reader writer) = []
 abbrev pub cut_by : World → ℕ → Entry → List SeatCut
 cut_by w place e = if is_cut e then cut_of place (seat_of e) (standing (seat_at w (seat_of e))) else []
 
--- the list, and how many places are left in the history and in the list
+-- the list, how many places are left in the history and in the list, and what the last entry said
 pub record Ledger : Type 0 where
   pub cuts : List SeatCut
   pub places : ℕ
   pub cut_places : ℕ
+  pub said : List Message

@@ -11,4 +11,5 @@ pub mod Prepared
 pub mod Over
 pub mod Totals
 pub mod CutList
+pub mod Said
 pub mod Running

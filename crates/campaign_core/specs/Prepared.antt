@@ -20,4 +20,5 @@ pub record IsPrepared (before : State) (kept : Kept) (e : Entry) (p : Prepared) 
   pub count : length p.views.items ≤ length before.posts
   pub views : (seat : ℕ) → was_joined (seat_at (step (world_in before) e) seat) ≡ true
       → view_then p.views.items kept.views seat ≡ Some (view_of (scene_after (world_in before) e) seat)
+  pub said : p.said.items ≡ (outcome_of (world_in before) e).messages
   pub answer : p.answer ≡ answer_of (steps_of (world_in before) e) (outcome_of (world_in before) e)

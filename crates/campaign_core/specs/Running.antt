@@ -17,6 +17,7 @@ use Rattle.campaign_core.specs.declared.campaign.Staged.{Staged}
 use Rattle.campaign_core.specs.CutList.{AreCuts, Ledger}
 use Rattle.campaign_core.specs.Leaving.{due, cut_due}
 use Rattle.campaign_core.specs.Places.{Standing, law, HaveRoom}
+use Rattle.campaign_core.specs.Said.{last_messages}
 use Rattle.campaign_core.specs.Shown.{AreShown}
 use Rattle.campaign_core.specs.Prepared.{IsPrepared}
 
@@ -40,9 +41,9 @@ IsMade ledger before kept e Alone = changes_state (world_in (law before)) e ≡ 
 abbrev pub IsStaged : Ledger → Standing → Kept → Staged → Type 0
 IsStaged ledger before kept s = IsMade ledger before kept s.entry s.made
 
--- the state is that after the history; its fields are kept, and the view of each seat that is Joined; so is the list of cuts; in the
--- history there are places for all the Leaves and Cuts that still change a seat's state, and in the list for these Cuts; what is
--- staged fits
+-- the state is that after the history; its fields are kept, and the view of each seat that is Joined; so are the list of cuts and
+-- what the last entry said; in the history there are places for all the Leaves and Cuts that still change a seat's state, and in
+-- the list for these Cuts; what is staged fits
 pub record IsRunning (origin : World) (history : List Entry) (ledger : Ledger) (before : Standing) (kept : Kept) (stage : Option Staged) : Type 0 where
   pub now : law before ≡ state_of origin history
   pub opening : IsOpening origin
@@ -54,6 +55,7 @@ pub record IsRunning (origin : World) (history : List Entry) (ledger : Ledger) (
   pub count : length kept.views ≡ length before.posts
   pub most : length kept.views ≤ 33
   pub cuts : AreCuts origin history ledger.cuts
+  pub said : ledger.said ≡ last_messages origin history
   pub owed : due (law before).posts ≤ ledger.places
   pub owed_cuts : cut_due (law before).posts ≤ ledger.cut_places
   pub staged : IfSome stage (IsStaged ledger before kept)

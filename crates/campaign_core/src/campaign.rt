@@ -10,17 +10,20 @@ ghost use Rattle.std.specs.Option.{option_copied};
 ghost use Rattle.command_looks.specs.Fields.{field_for};
 ghost use Rattle.command_looks.specs.Touched.{looks_of, looks_of_opening};
 ghost use Rattle.campaign_core.specs.Shown.{kept_view};
-ghost use Rattle.campaign_law.specs.World.{outcome_of, seat_at};
+ghost use Rattle.campaign_law.specs.World.{outcome_of, seat_at, some_to_list};
+ghost use Rattle.player_view.specs.View.{view_of as view_of_lem};
 ghost use Rattle.seats.specs.SeatState.{is_joined};
 ghost use Rattle.campaign_law.specs.Session.{session, waiting, standing, changes_state};
 ghost use Rattle.campaign_law.specs.Cuts.{is_cut_since};
 ghost use Rattle.campaign_core.specs.Over.{over_of};
+ghost use Rattle.campaign_core.specs.Said.{last_said};
 ghost use Rattle.campaign_core.specs.Taking.{is_taken as is_taken_lem};
 ghost use Rattle.campaign_core.specs.Totals.{seen_total as seen_total_lem};
 ghost use Rattle.campaign_law.specs.Law.{IsOpening, IsSentAsMachine, ChangesLittle, world_of, answer_after};
 
 use crate::cuts::{SeatCut, add_cut, any_since};
 use crate::next::{Prepared, act, leave, made_by, take};
+use crate::said::heard;
 use crate::state::{Post, State};
 use crate::tables::open_tables;
 use crate::totals::seen_total;
@@ -29,9 +32,11 @@ use campaign_law::{Answer, Entry};
 use cells::CellSet;
 use command_effects::settle;
 use command_looks::{Touched, fields_after, serve};
+use entry_outcomes::Message;
 use mails::Mail;
 use names::{LineText, Memory, SeatNo, TokenId};
-use seats::SeatState;
+use player_view::view_of;
+use seats::{SeatBook, SeatState};
 use std::alloc::Global;
 use std::marker::Model;
 use topology::Eye;
@@ -67,7 +72,8 @@ pub(crate) struct Staged {
 
 /// A campaign: the world that it opened with, and its history since. Its state is the replay of the
 /// history from that world. By its eye it finds what tokens see; the fields that it found are kept, and the
-/// view of each Joined seat; so is the list of the Cuts that freed a seat. An entry may be staged.
+/// view of each Joined seat; so is the list of the Cuts that freed a seat, and what the last entry said. An entry may be
+/// staged.
 #[derive(Drop)]
 pub struct Campaign<E: Eye> {
     alloc: Global,
@@ -77,6 +83,7 @@ pub struct Campaign<E: Eye> {
     keep: Keep,
     history: Vec<Entry>,
     cuts: Vec<SeatCut>,
+    said: Vec<Message>,
     staged: Option<Staged>,
 }
 
@@ -91,7 +98,7 @@ impl<E: Eye> Model for Campaign<E> {
 
     ghost view = { λ c. record { origin = world_in (law c.origin); history = c.history.items; staged = option_map entry_in c.staged; looks = E.looks_made c.eye } };
 
-    ghost invariant = { λ c. IsRunning (world_in (law c.origin)) c.history.items (record { places = vec_capacity c.history - vec_len c.history; cuts = c.cuts.items; cut_places = vec_capacity c.cuts - vec_len c.cuts }) c.state c.keep c.staged };
+    ghost invariant = { λ c. IsRunning (world_in (law c.origin)) c.history.items (record { places = vec_capacity c.history - vec_len c.history; cuts = c.cuts.items; cut_places = vec_capacity c.cuts - vec_len c.cuts; said = c.said.items }) c.state c.keep c.staged };
 }
 
 /// The world that a campaign opened with. No value of it is made.
@@ -191,6 +198,7 @@ impl<E: Eye + Drop> Campaign<E> {
             keep,
             history: Vec::new(alloc),
             cuts: Vec::new(alloc),
+            said: Vec::new(alloc),
             staged: None,
         })
     }
@@ -259,11 +267,18 @@ impl<E: Eye + Drop> Campaign<E> {
                 let place = self.history.len() as u64;
                 add_cut(&mut self.cuts, &self.state, place, &entry);
                 let answer = leave(&mut self.state, &entry);
+                self.said.clear();
                 self.history.push_reserved(entry);
                 return answer;
             }
         };
-        let answer = act(&mut self.state, &mut self.keep, &entry, prepared);
+        let answer = act(
+            &mut self.state,
+            &mut self.keep,
+            &mut self.said,
+            &entry,
+            prepared,
+        );
         self.history.push_reserved(entry);
         answer
     }
@@ -289,6 +304,7 @@ impl<E: Eye + Drop> Campaign<E> {
             return Err(entry);
         }
         let answer = take(&mut self.state, &entry);
+        self.said.clear();
         self.history.push_reserved(entry);
         Ok(answer)
     }
@@ -328,6 +344,22 @@ impl<E: Eye + Drop> Campaign<E> {
             return None;
         }
         Some(self.keep.view(seat))
+    }
+
+    /// What the seat is shown now, whatever its state. `Memory` is want of memory.
+    pub fn copy_view(&self, seat: SeatNo) -> Result<View, Memory>
+        requires { seat < length self.now.origin.seats }
+        ensures { IfOk result (λ view. view ≡ view_of_lem (world_of self.now).scene seat) }
+    {
+        if let Some(view) = self.view(seat) {
+            return view.copy();
+        }
+        // The state tells with its count of seats that all but the first are the scene's players.
+        let _seats = self.state.seats();
+        let scene = self.state.scene();
+        let fields = self.keep.fields();
+        serve(scene, fields);
+        view_of(self.alloc, scene, seat, fields)
     }
 
     /// The field of the token's eye by the walls of its map, as it is kept; `None` exactly where there is no such token or
@@ -380,6 +412,28 @@ impl<E: Eye + Drop> Campaign<E> {
             Some(post) => post,
             None => unreachable!(),
         }
+    }
+
+    /// The seat's book; `None` exactly where the campaign has no such seat. It takes no memory.
+    pub fn book(&self, seat: SeatNo) -> Option<&SeatBook>
+        ensures { option_copied result ≡ option_map (λ s. s.book) (seat_at (world_of self.now) seat) }
+    {
+        match self.state.post(seat.number()) {
+            Some(post) => Some(&post.book),
+            None => None,
+        }
+    }
+
+    /// The message that the last entry addressed to the seat, without its LF; `None` exactly where there was none or the seat
+    /// wasn't there. It takes no memory.
+    pub fn last_message(&self, seat: SeatNo) -> Option<&LineText>
+        ensures { some_to_list (option_copied result) ≡ last_said self.now.origin self.now.history seat }
+    {
+        let Some(post) = self.state.post(seat.number()) else {
+            return None;
+        };
+        let joined = post.book.state().is_joined();
+        heard(&self.said, seat, joined)
     }
 
     /// The seat's state.

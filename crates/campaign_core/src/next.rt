@@ -35,7 +35,7 @@ use cells::CellSet;
 use command_effects::{scene_by, settle};
 use command_json::Command;
 use command_looks::{Touched, fields_after, serve, touched_by};
-use entry_outcomes::Outcome;
+use entry_outcomes::{Message, Outcome};
 use names::{Memory, SeatNo};
 use seats::SeatBook;
 use std::alloc::Global;
@@ -60,6 +60,7 @@ pub(crate) struct Prepared {
     pub(crate) nexts: Vec<Option<NextPost>>,
     pub(crate) views: Vec<Option<Boxed<View>>>,
     pub(crate) changed: Option<Boxed<Changed>>,
+    pub(crate) said: Vec<Message>,
     pub(crate) answer: Answer,
 }
 
@@ -86,11 +87,12 @@ pub(crate) fn made_by<E: Eye>(
     let NextSeats { nexts, views } = seats_after(
         alloc, state, keep, entry, &outcome, book, &changed,
     )?;
-    let answer = told(steps, outcome);
+    let (answer, said) = told(steps, outcome);
     Ok(Prepared {
         nexts,
         views,
         changed,
+        said,
         answer,
     })
 }
@@ -103,15 +105,18 @@ fn take_book(outcome: &mut Outcome) -> Option<SeatBook>
     outcome.book.take()
 }
 
-fn told(steps: u32, mut outcome: Outcome) -> Answer
-    ensures { result ≡ answer_of steps outcome }
+/// The answer to the entry, and what it says.
+fn told(steps: u32, mut outcome: Outcome) -> (Answer, Vec<Message>)
+    ensures answer { result.0 ≡ answer_of steps outcome }
+    ensures said { result.1.items ≡ outcome.messages }
 {
     let line = outcome.reply.take();
-    Answer {
+    let answer = Answer {
         refusal: outcome.refusal.take(),
         taken: steps,
         line: if outcome.direct { line } else { None },
-    }
+    };
+    (answer, outcome.messages)
 }
 
 // ---- the scene
@@ -379,7 +384,13 @@ fn put_fields(keep: &mut Keep, fields: Option<Fields>)
 }
 
 /// The entry acts: all that it makes is put in its place. It takes no memory.
-pub(crate) fn act(state: &mut State, keep: &mut Keep, entry: &Entry, prepared: Prepared) -> Answer
+pub(crate) fn act(
+    state: &mut State,
+    keep: &mut Keep,
+    said: &mut Vec<Message>,
+    entry: &Entry,
+    prepared: Prepared,
+) -> Answer
     requires fields { AreKept state.old.scene keep.old.fields }
     requires count { length keep.old.views ≡ length state.old.posts }
     requires most { length keep.old.views ≤ 33 }
@@ -390,6 +401,7 @@ pub(crate) fn act(state: &mut State, keep: &mut Keep, entry: &Entry, prepared: P
     ensures fields { AreKept state.new.scene keep.new.fields }
     ensures views { AreShown (step (world_in (law state.old)) entry.now) keep.new.views }
     ensures count { length keep.new.views ≡ length keep.old.views }
+    ensures said { said.new.items ≡ (outcome_of (world_in (law state.old)) entry.now).messages }
     ensures answer { result ≡ answer_of (steps_of (world_in (law state.old)) entry.now) (outcome_of (world_in (law state.old)) entry.now) }
 {
     let _entry = entry;
@@ -397,9 +409,11 @@ pub(crate) fn act(state: &mut State, keep: &mut Keep, entry: &Entry, prepared: P
         nexts,
         views,
         changed,
+        said: messages,
         answer,
     } = prepared;
     go_on(state, keep, nexts, views, changed);
+    *said = messages;
     answer
 }
 

@@ -15,6 +15,7 @@ mod refusals;
 mod serve_faults;
 mod serves;
 mod stops;
+mod told;
 mod writing;
 
 use crate::tabletop;

@@ -3,7 +3,6 @@ use Rattle.std.specs.Prelude.{Option, IfSome}
 use Rattle.std.proofs.lemmas.List.{length-map}
 use Rattle.std.proofs.lemmas.Result.{IfOk-weaker}
 use Rattle.world.specs.Scene.{Scene}
-use Rattle.player_view.specs.Asked.{Asked}
 use Rattle.player_view.specs.View.{is_gm}
 use Rattle.view_rules.specs.Asking.{asked_by}
 use Rattle.campaign_law.specs.Outcome.{of_steps, present_outcome, seat_of}

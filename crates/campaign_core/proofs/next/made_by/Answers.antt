@@ -2,6 +2,7 @@ use Rattle.std.proofs.Common.{◌≡◌, ◌∙◌, ap, sym, subst, length, Some
 use Rattle.std.proofs.lemmas.List.{length-map}
 use Rattle.player_view.specs.View.{view_of}
 use Rattle.campaign_law.specs.Seat.{was_joined}
+use Rattle.campaign_law.specs.Outcome.{Outcome}
 use Rattle.campaign_law.specs.World.{World, seat_at, step, scene_after, steps_of, outcome_of}
 use Rattle.campaign_law.specs.Law.{answer_of}
 use Rattle.campaign_law.proofs.Lists.{length-mapped_from, mapped_from-map}
@@ -31,7 +32,9 @@ returns-clause-prepared g c =
       nexts = omega (arith, posts, nexts);
       count = omega (arith, posts, views);
       views = subst (λ (x : World). (seat : ℕ) → was_joined (seat_at (step x e) seat) ≡ true → view_then p.views.items c.args.keep.now.views seat ≡ Some (view_of (scene_after x e) seat)) same seen;
-      answer = c.told-answer.ensures ∙ ap (answer_of _) c.take_book-book.ensures.outcome ∙ (λ i. answer_of (c.in_ok-steps.ensures.steps i) (c.in_ok-steps.ensures.outcome i))
+      said = c.told-answer.ensures.said ∙ ap (λ (o : Outcome). o.messages) c.take_book-book.ensures.outcome ∙ ap (λ (o : Outcome). o.messages) c.in_ok-steps.ensures.outcome
+          ∙ ap (λ (x : World). (outcome_of x e).messages) same;
+      answer = c.told-answer.ensures.answer ∙ ap (answer_of _) c.take_book-book.ensures.outcome ∙ (λ i. answer_of (c.in_ok-steps.ensures.steps i) (c.in_ok-steps.ensures.outcome i))
           ∙ ap (λ (x : World). answer_of (steps_of x e) (outcome_of x e)) same;
     }
 

@@ -19,6 +19,7 @@ use Rattle.campaign_core.proofs.CutLists.{none_cut}
 use Rattle.campaign_core.proofs.Laws.{world_law}
 use Rattle.campaign_core.proofs.Shows.{left_shown}
 use Rattle.campaign_core.proofs.Running.{advances, if_is, made_is, owed_cuts_most, owed_most, running_settled, running_sound, world_now}
+use Rattle.campaign_core.proofs.Saying.{moved_silent}
 use Rattle.campaign_core.proofs.campaign.Campaign.commit.Goals as goal
 
 -- ---- a Leave or a Cut alone
@@ -68,7 +69,8 @@ invariant_of-self g c =
     c.leave-answer.ensures.state c.leave-answer.ensures.seats (subst (λ (s : Scene). AreKept s c.self.inside.keep.fields) (sym c.leave-answer.ensures.scene) c.self.invariant.fields)
     (left_shown (world_in (law c.self.inside.state)) e c.self.inside.keep.views moves (running_settled _ _ _ _ _ _ c.self.invariant) c.self.invariant.views) refl
     (omega (arith, places, less, len, capacity)) (omega (arith, cut_places, less_cuts, left, same)) c.push_reserved.ensures.items
-    (c.add_cut.ensures.items ∙ ap (λ more. c.self.inside.cuts.items ++ more) placed))
+    (c.add_cut.ensures.items ∙ ap (λ more. c.self.inside.cuts.items ++ more) placed)
+    (c.clear.ensures.items ∙ sym (ap (λ (w : World). (outcome_of w e).messages) (sym now) ∙ moved_silent (world_in (law c.self.inside.state)) e moves)))
 
 pub returns-in-Alone-clause-answer : goal.returns-in-Alone-clause-answer
 returns-in-Alone-clause-answer g c =
@@ -137,7 +139,8 @@ invariant_of-self-2 g c =
     c.act-answer.ensures.state c.act-answer.ensures.seats c.act-answer.ensures.fields c.act-answer.ensures.views c.act-answer.ensures.count
     (omega (arith, enough, few, len, capacity)) (omega (arith, enough_cuts, few_cuts)) c.push_reserved-2.ensures.items
     (sym (append_nil c.self.inside.cuts.items)
-    ∙ ap (λ more. c.self.inside.cuts.items ++ more) (sym (none_cut (replay (world_in (law c.self.inside.origin)) c.self.inside.history.items) (length c.self.inside.history.items) c.in-Some.staged.entry still))))
+    ∙ ap (λ more. c.self.inside.cuts.items ++ more) (sym (none_cut (replay (world_in (law c.self.inside.origin)) c.self.inside.history.items) (length c.self.inside.history.items) c.in-Some.staged.entry still)))
+    (c.act-answer.ensures.said ∙ ap (λ (w : World). (outcome_of w c.in-Some.staged.entry).messages) now))
 
 pub returns-clause-answer : goal.returns-clause-answer
 returns-clause-answer g c =

@@ -17,6 +17,7 @@ use Rattle.campaign_law.specs.Law.{IsOpening}
 use Rattle.campaign_law.proofs.States.{opened}
 use Rattle.campaign_core.specs.Places.{law}
 use Rattle.campaign_core.specs.Leaving.{cut_due, cut_due_of, due, due_of}
+use Rattle.campaign_core.specs.Said.{last_messages}
 use Rattle.campaign_core.proofs.CutLists.{none_yet}
 use Rattle.campaign_core.proofs.Leaving.{due_fresh}
 use Rattle.campaign_core.proofs.Openings.{opening_is, opened_seats}
@@ -76,6 +77,7 @@ invariant_of-result g c =
       count = count;
       most = omega (arith, count, c.seats.ensures.value, c.seats.ensures.bound);
       cuts = none_yet (world_in (law c.in_ok-origin.origin)) _ _ c.new-3.ensures.items c.new-4.ensures.items;
+      said = c.new-5.ensures.items ∙ ap (last_messages (world_in (law c.in_ok-origin.origin))) (sym c.new-3.ensures.items);
       owed = omega (arith, none);
       owed_cuts = omega (arith, none_cut);
       staged = tt;

@@ -115,19 +115,19 @@ returns-clause-sent g c = λ p. sent_is_machine _ _ p c.self.invariant.opening
 pub invariant_of-self : goal.invariant_of-self
 invariant_of-self g c =
     restaged (world_in (law c.self.inside.origin)) c.self.inside.history.items _ _ c.self.inside.state c.self.inside.state c.self.inside.keep c.self.inside.staged _ c.self.invariant
-    refl refl refl (omega arith) (omega arith)
+    refl refl refl refl (omega arith) (omega arith)
     (sym (ap (λ (w : World). changes_state w c.args.entry) (world_law c.self.inside.state)) ∙ sym c.is_changed_by.ensures ∙ c.if-is_changed_by.true)
 
 -- all that another entry makes, and room for it
 pub invariant_of-self-2 : goal.invariant_of-self-2
 invariant_of-self-2 g c =
-    let ledger : Ledger = record { cuts = c.make_places.new.cuts.items; places = vec_capacity c.make_places.new.history - vec_len c.make_places.new.history; cut_places = vec_capacity c.make_places.new.cuts - vec_len c.make_places.new.cuts } in
+    let ledger : Ledger = record { cuts = c.make_places.new.cuts.items; places = vec_capacity c.make_places.new.history - vec_len c.make_places.new.history; cut_places = vec_capacity c.make_places.new.cuts - vec_len c.make_places.new.cuts; said = c.self.inside.said.items } in
     let stage : Option Staged = Some (record { entry = c.args.entry; made = Whole c.in-Ok.prepared }) in
     let done = sym c.is_err.ensures.value ∙ c.if-is_err.false in
     let same : law c.make_room.new.self ≡ law c.self.inside.state = c.make_room.ensures.state in
     subst (λ h. IsRunning (world_in (law c.self.inside.origin)) h ledger c.make_room.new.self c.self.inside.keep stage) (sym c.make_places.ensures.history)
     (restaged (world_in (law c.self.inside.origin)) c.self.inside.history.items _ ledger c.self.inside.state c.make_room.new.self c.self.inside.keep c.self.inside.staged stage c.self.invariant
-    c.make_room.ensures.state c.make_room.ensures.count c.make_places.ensures.cuts c.make_places.ensures.kept c.make_places.ensures.kept_cuts
+    c.make_room.ensures.state c.make_room.ensures.count c.make_places.ensures.cuts refl c.make_places.ensures.kept c.make_places.ensures.kept_cuts
     (record {
       still = ap (λ (s : State). changes_state (world_in s) c.args.entry) same ∙ sym (ap (λ (w : World). changes_state w c.args.entry) (world_law c.self.inside.state)) ∙ sym c.is_changed_by.ensures ∙ c.if-is_changed_by.false;
       enough = on_ok c.make_places.result _ done c.make_places.ensures.enough;

@@ -11,6 +11,7 @@ use Rattle.campaign_core.specs.Running.{IsRunning}
 use Rattle.campaign_core.proofs.CutLists.{none_cut}
 use Rattle.campaign_core.proofs.Nexts.{on_ok}
 use Rattle.campaign_core.proofs.Running.{advances, owed_cuts_most, owed_most, running_settled, running_sound}
+use Rattle.campaign_core.proofs.Saying.{taken_silent}
 use Rattle.campaign_core.proofs.Taking.{taken_shown, taken_still}
 use Rattle.campaign_core.proofs.campaign.Campaign.take.Goals as goal
 
@@ -41,7 +42,8 @@ invariant_of-self-2 g c =
     (omega (arith, enough, few, len, capacity)) (omega (arith, enough_cuts, few_cuts)) (c.push_reserved.ensures.items ∙ ap (λ h. h ++ e ∷ []) c.make_places.ensures.history)
     (c.make_places.ensures.cuts
     ∙ sym (append_nil c.self.inside.cuts.items)
-    ∙ ap (λ more. c.self.inside.cuts.items ++ more) (sym (none_cut (replay (world_in (law c.self.inside.origin)) c.self.inside.history.items) (length c.self.inside.history.items) e still))))
+    ∙ ap (λ more. c.self.inside.cuts.items ++ more) (sym (none_cut (replay (world_in (law c.self.inside.origin)) c.self.inside.history.items) (length c.self.inside.history.items) e still)))
+    (c.clear.ensures.items ∙ sym (taken_silent (replay (world_in (law c.self.inside.origin)) c.self.inside.history.items) e c.requires.taken)))
 
 pub returns-clause-sent : goal.returns-clause-sent
 returns-clause-sent g c = λ p. sent_is_machine _ _ p c.self.invariant.opening
