@@ -7,8 +7,8 @@ use Rattle.std.proofs.lemmas.Bool.{cases_eq, cases_lt}
 use Rattle.std.proofs.lemmas.Bool.Decides.{nat_tests}
 use Rattle.std.proofs.lemmas.List.{take_at, drop_at, append-nil, length-take, drop-drop, get_or-take, get_or-drop, get_or_past}
 use Rattle.crash_log.specs.Entries.{entry_bytes, entry_of, kind_of, join_of, leave_of, taken_of, cut_of, flag, InRange, Fits}
-use Rattle.crash_log.specs.declared.entry.Entry.{Entry}
-use Rattle.crash_log.specs.declared.entry.Entry.TheVariants.{Join, Line, Leave, Taken, Cut}
+use Rattle.campaign_law.specs.declared.entry.Entry.{Entry}
+use Rattle.campaign_law.specs.declared.entry.Entry.TheVariants.{Join, Line, Leave, Taken, Cut}
 
 known_seat : (kind seat : ℕ) (rest : List ℕ) → seat ≤ 32 → entry_of (kind ∷ seat ∷ rest) ≡ kind_of kind seat rest
 known_seat kind seat rest le = grind (arith, nat_tests)

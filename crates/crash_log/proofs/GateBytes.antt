@@ -9,7 +9,7 @@ use Rattle.crash_log.specs.Log.{sized_bytes, record_bytes, OpensBadRecord, IsBad
 use Rattle.crash_log.specs.Reading.{OnlyRead, OpensSize, HasRecord, IsGateFault, IsEntryFault, IsWantOrFault}
 use Rattle.crash_log.specs.declared.faults.LogFault.{LogFault}
 use Rattle.crash_log.specs.declared.faults.LogFault.TheVariants.{DiskFault, BadLog, Full, Memory}
-use Rattle.crash_log.specs.declared.entry.Entry.{Entry}
+use Rattle.campaign_law.specs.declared.entry.Entry.{Entry}
 use Rattle.crash_log.proofs.Moments.{started, goes_on}
 use Rattle.crash_log.proofs.EntryLaws.{read_back, two_bytes}
 

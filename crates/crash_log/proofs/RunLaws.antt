@@ -1,11 +1,12 @@
 -- Whatever a crash leaves in a run of calls on a log.
 use Rattle.std.proofs.Common.{◌≡◌, ◌≤◌, inl, inr, ⊎_elim, ℕ, zero, suc, List, [], ◌∷◌, ◌++◌, take, refl, sym, ◌∙◌, ap, subst, append_assoc, Ok, Err}
 use Rattle.std.proofs.lemmas.List.{append-nil}
-use Rattle.crash_log.specs.declared.entry.Entry.{Entry}
+use Rattle.campaign_law.specs.declared.entry.Entry.{Entry}
 use Rattle.crash_log.specs.declared.faults.LogFault.TheVariants.{DiskFault, BadLog, Full, Memory}
 use Rattle.crash_log.specs.Disk.{LeavesOnly}
 use Rattle.crash_log.specs.Log.{IsLog, IsBeforeOrAfter, HoldsLog}
-use Rattle.crash_log.specs.Runs.{LogCall, appends, reads, Reads, Runs, AppendsNone, IsInTurn, acknowledged, in_doubt, IsKept, OutlivesCrashes}
+use Rattle.crash_log.specs.Runs.{LogCall, appends, reads, Reads, Runs, AppendsNone, IsInTurn, acknowledged, in_doubt, IsKept, KeptIsRead, OutlivesCrashes}
+use Rattle.crash_log.proofs.LogLaws.{log_same, log_not_bad}
 use Rattle.crash_log.proofs.Moments.{started, leaves_then, leaves_weaker}
 
 -- ---- calls that append nothing
@@ -42,6 +43,17 @@ kept_one_more text first e done calls file (inr log) = inr (subst (λ (es : List
 kept_in_doubt : (text : List ℕ) (first : List Entry) (e : Entry) (calls : List LogCall) (file : List ℕ) → AppendsNone calls → IsBeforeOrAfter text first e file → IsKept text first (appends e (Err DiskFault) ∷ calls) file
 kept_in_doubt text first e calls file none (inl log) = inl (subst (λ (es : List Entry). IsLog text es file) (sym (ap (λ (es : List Entry). first ++ es) (acknowledged-none calls none) ∙ append-nil first)) log)
 kept_in_doubt text first e calls file none (inr log) = inr (subst (λ (es : List Entry). IsLog text es file) (sym (λ i. first ++ (acknowledged-none calls none i ++ e ∷ in_doubt-none calls none i))) log)
+
+-- what is kept is read as it was
+pub kept_is_read : KeptIsRead
+kept_is_read text first calls file (inl log) = record {
+  not_bad = λ place. log_not_bad text (first ++ acknowledged calls) file place log;
+  alone = λ other entries is. let same = log_same other text entries (first ++ acknowledged calls) file is log in (same.0, inl same.1);
+}
+kept_is_read text first calls file (inr log) = record {
+  not_bad = λ place. log_not_bad text (first ++ (acknowledged calls ++ in_doubt calls)) file place log;
+  alone = λ other entries is. let same = log_same other text entries (first ++ (acknowledged calls ++ in_doubt calls)) file is log in (same.0, inr same.1);
+}
 
 -- ---- runs
 

@@ -7,7 +7,7 @@ use Rattle.std.proofs.lemmas.List.Elements.{All-nil, All-push}
 use Rattle.crash_log.specs.Entries.{entry_bytes, Fits}
 use Rattle.crash_log.specs.Log.{head_bytes, record_bytes, open_part, IsLog, IsBadGate, HasBadGate, HasNoHead}
 use Rattle.crash_log.specs.Reading.{HasHead, IsShut, HasRecord, IsReadTo, IsGateFault, IsRecordsFault}
-use Rattle.crash_log.specs.declared.entry.Entry.{Entry}
+use Rattle.campaign_law.specs.declared.entry.Entry.{Entry}
 use Rattle.crash_log.specs.declared.faults.LogFault.{LogFault}
 use Rattle.crash_log.specs.declared.faults.LogFault.TheVariants.{DiskFault, BadLog, Full, Memory}
 use Rattle.crash_log.proofs.Crash.{open_part-push, length-record}

@@ -3,7 +3,7 @@ use Rattle.std.proofs.Common.{◌≡◌, ◌≤◌, ◌<◌, ◌^◌, inl, inr, 
 use Rattle.crash_log.specs.Disk.{Holds, Torn, TornFrom, Follows, Only, NoMore, Elapses, LeavesOnly}
 use Rattle.crash_log.specs.Entries.{entry_bytes, Fits}
 use Rattle.crash_log.specs.Log.{sized_bytes, record_bytes, open_part, IsLog, IsBeforeOrAfter, IsShutAt, IsPut, IsShutOrPut, HoldsLog}
-use Rattle.crash_log.specs.declared.entry.Entry.{Entry}
+use Rattle.campaign_law.specs.declared.entry.Entry.{Entry}
 use Rattle.crash_log.proofs.Moments.{started, goes_on}
 use Rattle.crash_log.proofs.Crash.{first_write, first_written, second_write, second_written, one_more, still, before_or_after, open_part-push, length-record}
 

@@ -1,21 +1,23 @@
 -- What the calls of a log tell of its disk, and what a crash leaves in a run of them.
 use Rattle.std.specs.Prelude.{◌≡◌, ◌⊎◌, ℕ, List, [], ◌∷◌, ◌++◌, take, Result, Ok, Err, OnOk, OnErr, IfErr, IsErrOf}
-use Rattle.crash_log.specs.declared.entry.Entry.{Entry}
+use Rattle.campaign_law.specs.declared.entry.Entry.{Entry}
 use Rattle.crash_log.specs.declared.faults.LogFault.{LogFault}
 use Rattle.crash_log.specs.declared.faults.LogFault.TheVariants.{DiskFault, BadLog, Full, Memory}
 use Rattle.crash_log.specs.Disk.{LeavesOnly}
 use Rattle.crash_log.specs.Faults.{IsAppendFault}
-use Rattle.crash_log.specs.Log.{IsLog, IsBeforeOrAfter, HoldsLog}
+use Rattle.crash_log.specs.Log.{IsLog, IsBadAt, IsBeforeOrAfter, HoldsLog}
 
 -- ---- one call
 
 -- at Ok the log that the disk held has the entry, and the new journal is the disk's
-abbrev pub Acknowledges : {D : Type 0} (seen : D → List ℕ) (may_leave : D → List ℕ → Type 0) → D → ℕ → D → ℕ → Entry → Result (Unit {0}) LogFault → Type 0
+abbrev pub Acknowledges : {D : Type 0} (seen : D → List ℕ) (may_leave : D → List ℕ → Type 0)
+    → D → ℕ → D → ℕ → Entry → Result (Unit {0}) LogFault → Type 0
 Acknowledges seen may_leave old end new end_after e answer = (text : List ℕ) (entries : List Entry)
     → HoldsLog seen may_leave old end text entries → OnOk answer (HoldsLog seen may_leave new end_after text (entries ++ e ∷ []))
 
 -- a crash at any moment of the call leaves the log that the disk held, with the entry or without
-abbrev pub LeavesBeforeOrAfter : {D : Type 0} (seen : D → List ℕ) (may_leave : D → List ℕ → Type 0) (moment : D → ℕ) (left_since : D → ℕ → List ℕ → Type 0) → D → ℕ → D → Entry → Type 0
+abbrev pub LeavesBeforeOrAfter : {D : Type 0} (seen : D → List ℕ) (may_leave : D → List ℕ → Type 0)
+    (moment : D → ℕ) (left_since : D → ℕ → List ℕ → Type 0) → D → ℕ → D → Entry → Type 0
 LeavesBeforeOrAfter seen may_leave moment left_since old end new e = (text : List ℕ) (entries : List Entry)
     → HoldsLog seen may_leave old end text entries → LeavesOnly moment left_since old new (IsBeforeOrAfter text entries e)
 
@@ -79,6 +81,16 @@ in_doubt (call ∷ calls) = in_doubt calls
 -- a log of this text: the first entries, and those that were acknowledged since, with the one in doubt or without
 abbrev pub IsKept : List ℕ → List Entry → List LogCall → List ℕ → Type 0
 IsKept text first calls file = IsLog text (first ++ acknowledged calls) file ⊎ IsLog text (first ++ (acknowledged calls ++ in_doubt calls)) file
+
+-- the file is a log of this text and these entries alone, with the one in doubt or without, and bad at no place
+pub record IsReadAs (text : List ℕ) (first : List Entry) (calls : List LogCall) (file : List ℕ) : Type 0 where
+  pub not_bad : (place : ℕ) → IsBadAt file place → ⊥
+  pub alone : (other : List ℕ) (entries : List Entry) → IsLog other entries file
+      → (other ≡ text) × ((entries ≡ first ++ acknowledged calls) ⊎ (entries ≡ first ++ (acknowledged calls ++ in_doubt calls)))
+
+-- what is kept is read as it was
+abbrev pub KeptIsRead : Type 0
+KeptIsRead = (text : List ℕ) (first : List Entry) (calls : List LogCall) (file : List ℕ) → IsKept text first calls file → IsReadAs text first calls file
 
 module _ {D : Type 0} (seen : D → List ℕ) (may_leave : D → List ℕ → Type 0) (moment : D → ℕ) (left_since : D → ℕ → List ℕ → Type 0) where
   -- From where a disk holds a log, calls are made in turn, some of them and then others. Whatever a crash leaves since the first of

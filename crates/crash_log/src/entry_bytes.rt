@@ -1,11 +1,11 @@
 //! Entries as the bytes of a log, and back.
 ghost use Rattle.std.specs.Prelude.{◌≡◌, ◌≤◌, ◌<◌, ◌+◌, ◌^◌, ◌++◌, ◌∷◌, [], ℕ, length, IfOk, IfSome, OnOk};
-ghost use Rattle.crash_log.specs.declared.entry.Entry.TheVariants.{Join, Line};
+ghost use Rattle.campaign_law.specs.declared.entry.Entry.TheVariants.{Join, Line};
 ghost use Rattle.std.specs.Int.{w32, w64, to_be_bytes, from_be_bytes};
 ghost use Rattle.crash_log.specs.Entries.{entry_bytes as entry_bytes_lem, entry_of, join_of, leave_of, taken_of, cut_of, InRange};
 ghost use Rattle.crash_log.specs.Log.{sized_bytes};
 
-use crate::entry::Entry;
+use campaign_law::Entry;
 use names::{LineText, Memory, SeatNo};
 use std::alloc::{AllocError, Global};
 

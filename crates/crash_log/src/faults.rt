@@ -1,4 +1,5 @@
 ghost use Rattle.std.specs.Prelude.{◌≡◌};
+ghost use Rattle.line_io.specs.Counts.{next_count, CountRose};
 ghost use Rattle.crash_log.specs.declared.faults.LogFault.TheVariants.{DiskFault, Memory};
 
 use line_io::Failed;
@@ -30,4 +31,12 @@ impl From<names::Memory> for LogFault {
     fn from(_: names::Memory) -> LogFault {
         LogFault::Memory
     }
+}
+
+/// The count after one more. It stands still at its last value.
+pub(crate) fn counted(count: u64) -> u64
+    ensures value { result ≡ next_count count }
+    ensures rose { CountRose count result }
+{
+    count.saturating_add(1)
 }

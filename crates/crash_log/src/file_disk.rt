@@ -3,7 +3,7 @@ ghost use Rattle.std.specs.Prelude.{◌≡◌, ◌≤◌, [], length, IfOk};
 ghost use Rattle.crash_log.specs.RealFiles.{only_empty};
 
 use crate::disk::Disk;
-use crate::mem_disk::counted;
+use crate::faults::counted;
 use line_io::Failed;
 use std::fs::{self, File, OpenOptions};
 use std::io::{self, ErrorKind};

@@ -8,9 +8,9 @@ ghost use Rattle.crash_log.specs.Faults.{IsAppendFault, IsCreateFault};
 ghost use Rattle.crash_log.specs.Runs.{Acknowledges, LeavesBeforeOrAfter};
 
 use crate::disk::Disk;
-use crate::entry::Entry;
 use crate::entry_bytes::{entry_size, sealed};
 use crate::faults::LogFault;
+use campaign_law::Entry;
 use line_io::Failed;
 use std::alloc::Global;
 use std::marker::Model;
@@ -66,7 +66,8 @@ pub fn create<K: Disk>(disk: &mut K, text: &[u8]) -> Result<Journal, LogFault>
     ensures ok { K.tells → IfOk result (λ journal. HoldsLog K.seen K.may_leave disk.new journal text.now []) }
     ensures fault { IfErr result IsCreateFault }
     ensures count { K.faults_of disk.old ≤ K.faults_of disk.new }
-    ensures failed { IsErrOf result LogFault.DiskFault → CountRose (K.faults_of disk.old) (K.faults_of disk.new) }
+    ensures failed { IsErrOf result LogFault.DiskFault
+        → CountRose (K.faults_of disk.old) (K.faults_of disk.new) }
 {
     let size = text.len() as u32;
     let end = 10 + text.len() as u64;
@@ -117,7 +118,8 @@ pub fn append<K: Disk>(
     ensures end { OnErr result (journal.new ≡ journal.old) }
     ensures fault { IfErr result IsAppendFault }
     ensures count { K.faults_of disk.old ≤ K.faults_of disk.new }
-    ensures failed { IsErrOf result LogFault.DiskFault → CountRose (K.faults_of disk.old) (K.faults_of disk.new) }
+    ensures failed { IsErrOf result LogFault.DiskFault
+        → CountRose (K.faults_of disk.old) (K.faults_of disk.new) }
 {
     let size = entry_size(entry);
     let gate = journal.end();

@@ -1,12 +1,12 @@
-//! A log of a run's entries that survives a crash.
+//! A log of a run's entries that survives a crash: it is made on a disk, entries are put behind it, and what a crash left is read. A
+//! disk is a trait whose clauses say what a crash may leave; one in memory meets it, and a file of the system stands behind it.
 #![tactic(auto)]
 
 ghost use Rattle.crash_log.specs.Laws.{LogTellsOne, NoLogIsBad, EntriesAreReadBack};
-ghost use Rattle.crash_log.specs.Runs.{OutlivesCrashes};
+ghost use Rattle.crash_log.specs.Runs.{KeptIsRead, OutlivesCrashes};
 
 mod calls;
 mod disk;
-mod entry;
 mod entry_bytes;
 mod faults;
 mod file_disk;
@@ -18,7 +18,6 @@ mod tests;
 
 pub use calls::Call;
 pub use disk::Disk;
-pub use entry::Entry;
 pub use faults::LogFault;
 pub use file_disk::FileDisk;
 pub use journal::{GATE_LIMIT, Journal, TEXT_BYTES, append, create};
@@ -32,9 +31,11 @@ pub fn log_laws()
     ensures back { EntriesAreReadBack }
 {}
 
-/// The law of the calls of a log, over each disk and each run of calls since a log was made or recovered. Whatever a crash leaves
+/// The laws of the calls of a log, over each disk and each run of calls since a log was made or recovered. Whatever a crash leaves
 /// at any moment of it, inside a call too, is a log of the text: its entries are first those that the log had, then all that were
-/// acknowledged before the moment, in order, and besides at most one whose append was under way or answered `DiskFault`.
+/// acknowledged before that moment, in order, and besides at most one whose append was under way or answered `DiskFault`. Such a
+/// file is read as just these, and is bad at no place.
 pub fn outlives_crashes<K: Disk>()
-    ensures { OutlivesCrashes K.seen K.may_leave K.moment K.left_since }
+    ensures any_moment { OutlivesCrashes K.seen K.may_leave K.moment K.left_since }
+    ensures read { KeptIsRead }
 {}

@@ -1,12 +1,13 @@
 //! A disk in memory, which stops where it is told to, and tells what a crash leaves.
 ghost use Rattle.std.specs.Prelude.{◌≡◌, ◌≤◌, ◌-◌, ◌↔◌, ◌++◌, ◌∷◌, [], ℕ, List, min, length, take, drop, false, IfOk, OnOk, OnErr, IsTrue, is_err};
-ghost use Rattle.line_io.specs.Counts.{CountRose, next_count};
+ghost use Rattle.line_io.specs.Counts.{CountRose};
 ghost use Rattle.crash_log.specs.declared.calls.Call.TheVariants.{Asked, Wrote, Synced};
 ghost use Rattle.crash_log.specs.Disk.{Holds, Torn, Follows, Only, NoMore};
 ghost use Rattle.crash_log.specs.Memory.{HasCalled, IsDue, IsImage, IsLeftAs, LeftSince, Passes, after_call, after_calls, settled, counts_now, current, only_now, overlaid, seen_may_stay, state_of};
 
 use crate::calls::Call;
 use crate::disk::Disk;
+use crate::faults::counted;
 use line_io::Failed;
 use names::{LineText, Memory};
 use std::alloc::{AllocError, Global};
@@ -145,13 +146,6 @@ fn is_due(failing: &[u64], stop: Option<u64>, number: u64) -> bool
         None => false,
     };
     stopped || failing.contains(&number)
-}
-
-pub(crate) fn counted(count: u64) -> u64
-    ensures value { result ≡ next_count count }
-    ensures rose { CountRose count result }
-{
-    count.saturating_add(1)
 }
 
 // Writes unless the call is to fail, and keeps a record of it. At an error nothing is changed.

@@ -8,10 +8,10 @@ ghost use Rattle.crash_log.specs.Faults.{IsBadFault, IsRecoverFault};
 ghost use Rattle.crash_log.specs.Reading.{OnlyRead, HasHead, IsShut, OpensSize, HasRecord, IsHeadFault, IsEntryFault, IsWantOrFault, IsGateFault, IsRecordsFault};
 
 use crate::disk::Disk;
-use crate::entry::Entry;
 use crate::entry_bytes::{ENTRY_BYTES, four, read_entry};
 use crate::faults::LogFault;
 use crate::journal::{GATE_LIMIT, Journal, TEXT_BYTES};
+use campaign_law::Entry;
 use names::{LineText, Memory};
 use std::alloc::Global;
 use std::marker::Model;
@@ -19,12 +19,13 @@ use std::marker::Model;
 /// Entries, in order. Contracts see a list.
 #[derive(Drop)]
 pub struct Entries {
+    /// The entries, the first of them first.
     pub list: Vec<Entry>,
 }
 
 impl Model for Entries {
     ghost use Rattle.std.specs.Prelude.{List};
-    ghost use Rattle.crash_log.specs.declared.entry.Entry.{Entry};
+    ghost use Rattle.campaign_law.specs.declared.entry.Entry.{Entry};
 
     ghost Value = { List Entry };
 
@@ -34,8 +35,11 @@ impl Model for Entries {
 /// What a log was recovered to.
 #[derive(Drop)]
 pub struct Recovered {
+    /// The campaign's text.
     pub text: LineText,
+    /// All entries of the log.
     pub entries: Entries,
+    /// With it further entries are put behind them.
     pub journal: Journal,
 }
 
@@ -52,7 +56,8 @@ pub fn recover<K: Disk>(alloc: Global, disk: &mut K) -> Result<Recovered, LogFau
 
     ensures fault { IfErr result IsRecoverFault }
     ensures count { K.faults_of disk.old ≤ K.faults_of disk.new }
-    ensures failed { IsErrOf result LogFault.DiskFault → CountRose (K.faults_of disk.old) (K.faults_of disk.new) }
+    ensures failed { IsErrOf result LogFault.DiskFault
+        → CountRose (K.faults_of disk.old) (K.faults_of disk.new) }
 {
     disk.sync()?;
     let text = read_head(alloc, disk)?;
@@ -73,7 +78,8 @@ fn read_head<K: Disk>(alloc: Global, disk: &mut K) -> Result<LineText, LogFault>
     ensures read { K.tells → OnlyRead K.seen K.may_leave K.moment K.left_since disk.old disk.new }
     ensures fault { IfErr result IsRecoverFault }
     ensures count { K.faults_of disk.old ≤ K.faults_of disk.new }
-    ensures failed { IsErrOf result LogFault.DiskFault → CountRose (K.faults_of disk.old) (K.faults_of disk.new) }
+    ensures failed { IsErrOf result LogFault.DiskFault
+        → CountRose (K.faults_of disk.old) (K.faults_of disk.new) }
 {
     let mut piece = [0; 10];
     let count = disk.read_at(0, &mut piece)?;
@@ -107,7 +113,8 @@ fn read_piece<K: Disk>(
     ensures read { K.tells → OnlyRead K.seen K.may_leave K.moment K.left_since disk.old disk.new }
     ensures fault { IfErr result IsRecoverFault }
     ensures count { K.faults_of disk.old ≤ K.faults_of disk.new }
-    ensures failed { IsErrOf result LogFault.DiskFault → CountRose (K.faults_of disk.old) (K.faults_of disk.new) }
+    ensures failed { IsErrOf result LogFault.DiskFault
+        → CountRose (K.faults_of disk.old) (K.faults_of disk.new) }
 {
     let mut bytes = zeros(alloc, size)?;
     let count = disk.read_at(at, &mut bytes)?;
@@ -147,7 +154,8 @@ fn read_records<K: Disk>(
     ensures read { K.tells → OnlyRead K.seen K.may_leave K.moment K.left_since disk.old disk.new }
     ensures fault { IfErr result IsRecoverFault }
     ensures count { K.faults_of disk.old ≤ K.faults_of disk.new }
-    ensures failed { IsErrOf result LogFault.DiskFault → CountRose (K.faults_of disk.old) (K.faults_of disk.new) }
+    ensures failed { IsErrOf result LogFault.DiskFault
+        → CountRose (K.faults_of disk.old) (K.faults_of disk.new) }
 {
     let mut gate = 10 + text.len() as u64;
     let mut entries = Vec::new(alloc);
@@ -189,7 +197,8 @@ fn read_record<K: Disk>(
     ensures read { K.tells → OnlyRead K.seen K.may_leave K.moment K.left_since disk.old disk.new }
     ensures fault { IfErr result IsRecoverFault }
     ensures count { K.faults_of disk.old ≤ K.faults_of disk.new }
-    ensures failed { IsErrOf result LogFault.DiskFault → CountRose (K.faults_of disk.old) (K.faults_of disk.new) }
+    ensures failed { IsErrOf result LogFault.DiskFault
+        → CountRose (K.faults_of disk.old) (K.faults_of disk.new) }
 {
     match open_gate(disk, gate)? {
         None => Ok(None),
@@ -209,7 +218,8 @@ fn open_gate<K: Disk>(disk: &mut K, gate: u64) -> Result<Option<usize>, LogFault
     ensures read { K.tells → OnlyRead K.seen K.may_leave K.moment K.left_since disk.old disk.new }
     ensures fault { IfErr result IsRecoverFault }
     ensures count { K.faults_of disk.old ≤ K.faults_of disk.new }
-    ensures failed { IsErrOf result LogFault.DiskFault → CountRose (K.faults_of disk.old) (K.faults_of disk.new) }
+    ensures failed { IsErrOf result LogFault.DiskFault
+        → CountRose (K.faults_of disk.old) (K.faults_of disk.new) }
 {
     let mut piece = [0; 5];
     let count = disk.read_at(gate, &mut piece)?;
@@ -241,7 +251,8 @@ fn entry_at<K: Disk>(alloc: Global, disk: &mut K, gate: u64, size: usize) -> Res
     ensures read { K.tells → OnlyRead K.seen K.may_leave K.moment K.left_since disk.old disk.new }
     ensures fault { IfErr result IsRecoverFault }
     ensures count { K.faults_of disk.old ≤ K.faults_of disk.new }
-    ensures failed { IsErrOf result LogFault.DiskFault → CountRose (K.faults_of disk.old) (K.faults_of disk.new) }
+    ensures failed { IsErrOf result LogFault.DiskFault
+        → CountRose (K.faults_of disk.old) (K.faults_of disk.new) }
 {
     let Some(bytes) = read_piece(alloc, disk, gate + 5, size)? else {
         return Err(LogFault::BadLog { at: gate });

@@ -1,4 +1,5 @@
 use crate::*;
+use campaign_law::Entry;
 use names::{LineText, SeatNo};
 use std::alloc::Global;
 use std::process::Abort;
