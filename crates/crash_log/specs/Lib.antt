@@ -1,0 +1,9 @@
+pub mod Disk
+pub mod Entries
+pub mod Log
+pub mod Memory
+pub mod Faults
+pub mod RealFiles
+pub mod Laws
+pub mod Reading
+pub mod Runs
