@@ -16,10 +16,11 @@ use seats::SeatState;
 use std::alloc::Global;
 use topology::Eye;
 
-/// The entry of a script line. None exactly where the line isn't a seat's number, one space and a
-/// command, or the campaign has no such seat.
+/// The entry of a script line: a good `hello` with the number of its own seat, while the seat isn't Joined, is a Join with that number as
+/// both pass numbers; every other line is a Line. `None` exactly where the line isn't a seat's number, one space and a command, or the
+/// campaign, which has so many seats, has no such seat. `Memory` is want of memory.
 #[tactic(auto, using(crate::proofs::EntryLines::seats_of_replay))]
-pub(crate) fn entry_of_line<E: Eye + Drop>(
+pub fn entry_of_line<E: Eye + Drop>(
     alloc: Global,
     campaign: &Campaign<E>,
     seats: u8,

@@ -8,5 +8,7 @@ mod seat_tag;
 mod sending;
 mod tally;
 
+pub use entries::entry_of_line;
 pub use run::{LINE_BYTES, LINE_LIMIT, Played, play, play_counted};
+pub use sending::{send_all, takens_due};
 pub use tally::Tally;

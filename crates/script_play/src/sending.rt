@@ -27,7 +27,7 @@ const TEXT_ROOM: usize = 1_024;
 
 /// Writes the direct reply to the seat that acted and the lines that wait for each seat, in ascending
 /// order of seats and in one piece. The answer has a Taken for each seat with waiting lines.
-pub(crate) fn send_all<O: Sink, E: Eye + Drop>(
+pub fn send_all<O: Sink, E: Eye + Drop>(
     alloc: Global,
     campaign: &Campaign<E>,
     acting: SeatNo,
@@ -77,6 +77,23 @@ fn add_all<E: Eye + Drop>(
         add_next(campaign, number, acting, reply, text, tally, &mut entries)?;
     }
     Ok(entries)
+}
+
+/// The Takens that are due: one for each seat with waiting lines, of all that was queued since its Join, in ascending order of seats.
+/// `Memory` is want of memory.
+pub fn takens_due<E: Eye + Drop>(
+    alloc: Global,
+    campaign: &Campaign<E>,
+) -> Result<Vec<Entry>, Memory>
+    ensures { IfOk result (λ entries. entries.items ≡ takens (world_of campaign.now)) }
+{
+    let seats = campaign.seat_count();
+    let Some(acting) = SeatNo::new(0) else {
+        unreachable!();
+    };
+    let mut text = Vec::new(alloc);
+    let mut tally = Tally::new();
+    add_all(alloc, campaign, seats, acting, &None, &mut text, &mut tally)
 }
 
 fn make_room(text: &mut Vec<u8>) -> Result<(), Memory>
