@@ -1,0 +1,5 @@
+mod KeptLemmas
+mod Stops
+mod Sizes
+mod Whole
+mod LineEntries
