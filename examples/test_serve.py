@@ -12,6 +12,7 @@ import socket
 import subprocess
 import sys
 import tempfile
+import threading
 import time
 import unittest
 
@@ -38,6 +39,21 @@ TEXT = json.dumps(CAMPAIGN, separators=(",", ":"))
 
 def hello(key):
     return {"do": "hello", "key": key, "seat": 1}
+
+
+MASTER = {"do": "hello", "key": "g", "seat": 0}
+BYE = {"do": "bye"}
+
+# Its full line has more than 150,000 bytes, and 32 of them more than may wait for a seat.
+PROPERTIES = [[f"p{number}", "x" * 200] for number in range(64)]
+HEAVY = CAMPAIGN | {
+    "maps": [{"h": 1, "mbl": [], "mode": "day", "name": "hall", "rows": ["."], "shown": True, "vbl": [], "w": 1}],
+    "seats": [seat("g") | {"tags": ["a", "b", "c", "d"]}, seat("a")],
+    "tokens": [{"cell": [0, 0], "id": f"0:{tag}", "layer": "token", "light": None, "map": "hall", "name": "n", "own": PROPERTIES, "owners": [1],
+                "props": PROPERTIES, "secret": PROPERTIES, "sight": None, "size": 1, "visible": True} for tag in "abcd"],
+}
+# So many lines are a flood.
+FLOOD = 4_000
 
 
 # What each connection sends, and the lines that it is sent. The number of the last shows that all share one hall.
@@ -144,6 +160,33 @@ class Connections(unittest.TestCase):
                 connection.sendall(b"more")
         told = "".join(f"{number} {word}\n" for number, (_, _, word) in enumerate(ENDINGS, 1))
         self.assertEqual(self.ended(server), (told, 0))
+
+    def test_looks_in_one_packet(self):
+        self.file.write_text(json.dumps(HEAVY), encoding="utf-8")
+        server, port = self.started("1")
+        lines = self.sat(port, [MASTER, *[{"do": "look"}] * 32, BYE])
+        self.assertEqual((len(lines), lines[-1]), (67, b'{"n":34,"ok":"bye"}\n'))
+        self.assertEqual(self.ended(server), ("1 Left\n", 0))
+
+    def test_a_line_has_its_turn_among_a_flood(self):
+        server, port = self.started("2")
+        message = {"do": "say", "text": "x", "to": "self"}
+        with connected(port).socket as master, connected(port).socket as anna, master.makefile("rb") as masters, anna.makefile("rb") as annas:
+            anna.sendall(written(hello("a")))
+            self.assertEqual([annas.readline(), annas.readline()], [b'{"n":1,"ok":"hello","seat":1,"seats":3}\n', FULL])
+            sending = threading.Thread(target=master.sendall, args=(written(MASTER, *[message] * FLOOD, BYE),))
+            sending.start()
+            for _ in range(10):
+                masters.readline()
+            anna.sendall(written(message | {"to": 0}))
+            # Once its bye is told the master's seat is Free, and is told nothing more.
+            lines = masters.readlines()
+            sending.join()
+            anna.shutdown(socket.SHUT_WR)
+            annas.readlines()
+        self.assertIn(b'{"from":1,"text":"x","to":0}\n', lines)
+        self.assertEqual(lines[-1], f'{{"n":{FLOOD + 2},"ok":"bye"}}\n'.encode())
+        self.assertEqual(self.ended(server), ("1 Left\n2 Left\n", 0))
 
     def test_more_connections_than_descriptors(self):
         server, port = self.started(str(2 * DESCRIPTORS), descriptors=DESCRIPTORS)

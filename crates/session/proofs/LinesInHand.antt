@@ -1,28 +1,14 @@
 -- Lines that were read and not entered yet.
 use Rattle.std.proofs.Common.{◌≡◌, ◌≤◌, ℕ, Bool, true, false, cond, nat_le, List, [], ◌∷◌, ◌++◌, length, refl, sym, ◌∙◌, ap, subst, arith, append_assoc}
-use Rattle.std.specs.Prelude.{Option, Some, None, Ok, All}
+use Rattle.std.specs.Prelude.{Option, Some, None, All}
 use Rattle.std.proofs.lemmas.Bool.Decides.{nat_tests}
 use Rattle.std.proofs.lemmas.List.Elements.{All-nil, All-cons, All-append}
 use Rattle.line_io.specs.declared.lines.NextLine.{NextLine}
 use Rattle.line_io.specs.declared.lines.NextLine.TheVariants.{Line, End, TooLong, ReadFault, Memory}
-use Rattle.line_io.specs.Lines.{lines_of as text_lines, first_within, next_line}
-use Rattle.line_io.specs.Reader.{bytes_to_come, Answers, GivesReady}
-use Rattle.line_io.specs.ReaderState.{ReaderState}
+use Rattle.line_io.specs.Lines.{lines_of as text_lines, first_within}
+use Rattle.line_io.specs.Reader.{Answers}
 use Rattle.line_io.specs.Told.{WhereTold}
-use Rattle.line_io.proofs.AnswerLemmas.{ready_came}
 use Rattle.session.specs.Inputs.{IsShort, CameFirst, CamePast}
-
-one_more : (lines : List (List ℕ)) (line : List ℕ) (t u v : Option (List ℕ)) → CameFirst lines t u → WhereTold u v (λ bytes rest. text_lines bytes ≡ line ∷ text_lines rest) → CameFirst (lines ++ line ∷ []) t v
-one_more lines line None None None came next = tt
-one_more lines line None None (Some v) came next = next
-one_more lines line None (Some u) v came next = absurd came
-one_more lines line (Some t) None v came next = absurd came
-one_more lines line (Some t) (Some u) None came next = next
-one_more lines line (Some t) (Some u) (Some v) came next = came ∙ ap (λ l. lines ++ l) next ∙ sym (append_assoc lines (line ∷ []) (text_lines v))
-
--- a line that was ready came behind them
-pub ready_more : (lines : List (List ℕ)) (line : List ℕ) (old new : ReaderState) (text left : Option (List ℕ)) → GivesReady old (Ok (Some line)) new → CameFirst lines text (bytes_to_come old left) → CameFirst (lines ++ line ∷ []) text (bytes_to_come new left)
-ready_more lines line old new text left gives came = one_more lines line text (bytes_to_come old left) (bytes_to_come new left) came (ready_came old new line left gives)
 
 -- ---- lines that came, entered or not
 
@@ -87,11 +73,3 @@ past_next cap text rest answer ended is told = by_told text rest (subst (λ c. W
     by_told None (Some rest) told = absurd told
     by_told (Some text) None told = absurd told
     by_told (Some text) (Some rest) told = by_answer text rest answer ended told
-
--- a line that was ready behind them is short too
-pub ready_short : (lines : List (List ℕ)) (line : List ℕ) (old new : ReaderState) → GivesReady old (Ok (Some line)) new → old.cap ≡ 4096 → All IsShort lines → All IsShort (lines ++ line ∷ [])
-ready_short lines line old new gives cap short = All-append IsShort lines (line ∷ []) short (All-cons IsShort line [] (omega (arith, gives.2, cap)) (All-nil IsShort))
-
--- one line alone
-pub one_short : (line : List ℕ) → IsShort line → All IsShort (line ∷ [])
-one_short line short = All-cons IsShort line [] short (All-nil IsShort)

@@ -1,5 +1,5 @@
 -- Turn after turn of the reading half.
-use Rattle.std.proofs.Common.{◌≡◌, ◌≢◌, ℕ, suc, ◌≤◌, ◌+◌, Bool, true, false, cond, not, ◌&&◌, List, [], ◌∷◌, ◌++◌, length, take, drop, map, get_or, slice_get, refl, sym, ◌∙◌, ap, subst, arith, append_assoc, length-append, inl, inr}
+use Rattle.std.proofs.Common.{◌≡◌, ◌≢◌, ℕ, suc, ◌≤◌, Bool, true, false, cond, not, ◌&&◌, List, [], ◌∷◌, ◌++◌, length, take, drop, map, get_or, slice_get, refl, sym, ◌∙◌, ap, subst, arith, append_assoc, length-append, inl, inr}
 use Rattle.std.specs.Prelude.{Option, Some, None, All, Contains}
 use Rattle.std.proofs.lemmas.List.{append-nil, append_cancel_left, take-append-le, take_all}
 use Rattle.std.proofs.lemmas.List.Elements.{All-nil, All-cons, All-append, All-contains_itself, Contains-push, Contains-append_left, Contains-append_right}
@@ -26,8 +26,8 @@ use Rattle.session.specs.Inputs.{IsShort, CameFirst, CamePast, StopsBefore, is_m
 use Rattle.session.specs.Held.{is_held, is_read, is_cut, is_parted}
 use Rattle.session.specs.Own.{StandsAt, Got}
 use Rattle.session.specs.Heard.{IsReadBehind, IsReaders, line_in, lines_at, Came, CameBut, AreFirst, IsByeAt, IsSpentAt, IsUnspent, ClosedBy, AreCutBehind, CutsBehindLine, CutsBehindLines, stopped, IsReading, HasHeard}
-use Rattle.session.specs.Turned.{SpeaksAll, Leaves}
-use Rattle.session.specs.Spoken.{is_spent, is_memory, AreOver, Says, Enters, Speaks, AllGo, EndsSo, Spoken, SpokenSo}
+use Rattle.session.specs.Turned.{SpeaksIn, Leaves}
+use Rattle.session.specs.Spoken.{is_spent, is_memory, AreOver, Says, Enters, Speaks, SpokenSo}
 use Rattle.session.proofs.Alone.{stands_longer}
 use Rattle.session.proofs.LinesInHand.{past_none, past_of, past_more}
 use Rattle.session.proofs.Byes.{closed_by_bye, spent_closes}
@@ -84,10 +84,6 @@ lines_behind h (e ∷ es) =
     let rest : lines_at (h ++ e ∷ es) (places (suc (length h)) es) ≡ lines_in es =
     (λ i. lines_at (longer i) (places (counted i) es)) ∙ lines_behind (h ++ e ∷ []) es in
     ap (λ o. line_in o ++ lines_at (h ++ e ∷ es) (places (suc (length h)) es)) (get_here h e es) ∙ ap (λ l. line_in (Some e) ++ l) rest
-
-places-append : (n : ℕ) (xs ys : List Entry) → places n (xs ++ ys) ≡ places n xs ++ places (n + length xs) ys
-places-append n [] ys = ap (λ m. places m ys) (omega arith)
-places-append n (x ∷ xs) ys = ap (λ l. n ∷ l) (places-append (suc n) xs ys ∙ ap (λ m. places (suc n) xs ++ places m ys) (omega arith))
 
 -- ---- Cuts behind a history
 
@@ -474,151 +470,96 @@ module _ (w : World) (hold : Hold) (p : PassState Entry World) (t : Option (List
     unspent = λ other c. absurd (c refl);
   }
 
-  -- ---- the lines of a turn
+  -- ---- the turn of a line
 
-  -- so many were entered, and the rest are in hand
-  record WentOn (v : Option (List ℕ)) (q : PassState Entry World) (rest : List (List ℕ)) (mid : List Entry) : Type 0 where
-    es : List Entry
-    there : mid ≡ q.front ++ es
-    reading : IsReading w hold p (record q { front = mid; own = q.own ++ places (length q.front) es }) rest t v
-
-  own_more : (q : PassState Entry World) (m : List Entry) (es more : List Entry) → m ≡ q.front ++ es → (q.own ++ places (length q.front) es) ++ places (length m) more ≡ q.own ++ places (length q.front) (es ++ more)
-  own_more q m es more is =
-      append_assoc q.own (places (length q.front) es) (places (length m) more)
-      ∙ ap (λ n. q.own ++ (places (length q.front) es ++ places n more)) (ap length is ∙ length-append q.front es)
-      ∙ ap (λ l. q.own ++ l) (sym (places-append (length q.front) es more))
-
-  all_go : (v : Option (List ℕ)) (firsts rest : List (List ℕ)) (q : PassState Entry World) (mid : List Entry) → IsReading w hold p q (firsts ++ rest) t v → AllGo w hold q.front firsts mid → WentOn v q rest mid
-  all_go v [] rest q mid is go = record {
-    es = [];
-    there = go ∙ sym (append-nil q.front);
-    reading = subst (λ f. IsReading w hold p (record q { front = f; own = q.own ++ [] }) rest t v) (sym go) (subst (λ o. IsReading w hold p (record q { own = o }) rest t v) (sym (append-nil q.own)) is);
-  }
-  all_go v (line ∷ firsts) rest q mid is go =
-      let m : List Entry = go.0 in
-      let one : List Entry = Line hold.seat line ∷ map Cut go.1.cuts.are.seats in
-      let r : PassState Entry World = record q { front = m; own = q.own ++ places (length q.front) one } in
-      let on : WentOn v r rest mid = all_go v firsts rest r mid (line_goes v q line (firsts ++ rest) saying.Goes m is go.1 refl) go.2 in
-      let there_is : m ≡ q.front ++ one = enters_there w hold q.front line saying.Goes m go.1 in
-      record {
-        es = one ++ on.es;
-        there = on.there ∙ ap (λ l. l ++ on.es) there_is ∙ append_assoc q.front one on.es;
-        reading = subst (λ o. IsReading w hold p (record q { front = mid; own = o }) rest t v) (own_more q m one on.es there_is) on.reading;
-      }
-
-  module _ (q r : PassState Entry World) (lines : List (List ℕ)) (said : Said) (u v : Option (List ℕ)) (is : IsReading w hold p q [] t u) (answer : CameFirst lines u v) (short : All IsShort lines) (turn : SpeaksAll w hold lines said q r) where
-    abbrev run : SpokenSo w hold turn.turn.found lines said r.front
+  module _ (q r : PassState Entry World) (line : List ℕ) (said : Said) (u v : Option (List ℕ)) (is : IsReading w hold p q [] t u) (answer : CameFirst (line ∷ []) u v) (short : IsShort line) (turn : SpeaksIn w hold line said q r) where
+    abbrev run : SpokenSo w hold turn.turn.found line said r.front
     run = turn.turn.has_run
 
-    -- what became of the lines
+    -- what became of the line
     abbrev by : Said
     by = run.by
 
     abbrev parted : Bool
     parted = is_parted w r.front hold
 
-    abbrev spoken : Spoken w hold turn.turn.found lines by r.front
-    spoken = run.spoken
-
     -- the pass as it found the history
     abbrev f : PassState Entry World
     f = record r { front = turn.turn.found; own = q.own }
 
-    in_hand : IsReading w hold p q lines t v
-    in_hand = record { more = is.more; got = is.got; came = came_more (lines_at q.front is.more) lines t u v is.came answer; short = short; kept = is.kept; unspent = is.unspent; cuts = is.cuts }
+    in_hand : IsReading w hold p q (line ∷ []) t v
+    in_hand = record { more = is.more; got = is.got; came = came_more (lines_at q.front is.more) (line ∷ []) t u v is.came answer; short = All-cons IsShort line [] short (All-nil IsShort); kept = is.kept; unspent = is.unspent; cuts = is.cuts }
 
-    went : WentOn v f spoken.rest spoken.mid
-    went = all_go v spoken.firsts spoken.rest f spoken.mid (subst (λ ls. IsReading w hold p f ls t v) spoken.whole (reads_further q f lines v turn.turn.begins refl turn.number in_hand)) spoken.go
-
-    abbrev at : PassState Entry World
-    at = record f { front = spoken.mid; own = f.own ++ places (length f.front) went.es }
+    reading : IsReading w hold p f (line ∷ []) t v
+    reading = reads_further q f (line ∷ []) v turn.turn.begins refl turn.number in_hand
 
     -- the pass behind the turn has what was entered in it
     own_is : (es : List Entry) → r.front ≡ f.front ++ es → f.own ++ places (length f.front) es ≡ r.own
     own_is es there = ap (λ l. f.own ++ places (length f.front) l) (append_cancel_left f.front es turn.entered (sym there ∙ turn.turn.front_is)) ∙ sym turn.turn.own_is
 
-    reading_end : (hand : List (List ℕ)) → r.front ≡ spoken.mid → IsReading w hold p at hand t v → IsReading w hold p r hand t v
-    reading_end hand last reading =
-        subst (λ o. IsReading w hold p (record r { own = o }) hand t v) (own_is went.es (last ∙ went.there)) (subst (λ l. IsReading w hold p (record r { front = l; own = f.own ++ places (length f.front) went.es }) hand t v) (sym last) reading)
+    behind_is : (last : Said) (enters : Enters w hold f.front line last r.front) → f.own ++ length f.front ∷ places (suc (length f.front)) (map Cut enters.cuts.are.seats) ≡ r.own
+    behind_is last enters = own_is (Line hold.seat line ∷ map Cut enters.cuts.are.seats) (enters_there w hold f.front line last r.front enters)
 
-    heard_end : (end : ReadEnd) (line : List ℕ) (last : Said) → (enters : Enters w hold spoken.mid line last r.front)
-        → HasHeard w hold p (record at { front = r.front; own = at.own ++ length spoken.mid ∷ places (suc (length spoken.mid)) (map Cut enters.cuts.are.seats) }) end false t v → HasHeard w hold p r end false t v
-    heard_end end line last enters heard =
-        let one : List Entry = Line hold.seat line ∷ map Cut enters.cuts.are.seats in
-        subst (λ o. HasHeard w hold p (record r { own = o }) end false t v)
-        (own_more f spoken.mid went.es one went.there ∙ own_is (went.es ++ one) (enters_there w hold spoken.mid line last r.front enters ∙ ap (λ l. l ++ one) went.there ∙ append_assoc f.front went.es one)) heard
+    heard_end : (end : ReadEnd) (last : Said) → (enters : Enters w hold f.front line last r.front)
+        → HasHeard w hold p (record f { front = r.front; own = f.own ++ length f.front ∷ places (suc (length f.front)) (map Cut enters.cuts.are.seats) }) end false t v → HasHeard w hold p r end false t v
+    heard_end end last enters heard = subst (λ o. HasHeard w hold p (record r { own = o }) end false t v) (behind_is last enters) heard
 
-    ends_as : (other : Said) → by ≡ other → EndsSo w hold spoken.mid spoken.rest other r.front
-    ends_as other so = subst (λ s. EndsSo w hold spoken.mid spoken.rest s r.front) so spoken.ends
+    -- where nothing was entered it is as it was
+    reading_end : r.front ≡ f.front → IsReading w hold p r (line ∷ []) t v
+    reading_end same =
+        subst (λ o. IsReading w hold p (record r { own = o }) (line ∷ []) t v) (sym (append-nil q.own) ∙ own_is [] (same ∙ sym (append-nil f.front)))
+        (subst (λ l. IsReading w hold p (record r { front = l; own = q.own }) (line ∷ []) t v) (sym same) reading)
+
+    spoke_as : (other : Said) → by ≡ other → Speaks w hold f.front line other r.front
+    spoke_as other so = subst (λ s. Speaks w hold f.front line s r.front) so run.spoken
 
     -- no cut was told
     told : (said ≡ saying.Cut → ⊥) → Told parted by said
     told other = told_by parted by said run.said_is other
 
     pub goes : said ≡ saying.Goes → IsReading w hold p r [] t v
-    goes so = by_rest spoken.rest went.reading (ends_as saying.Goes (sym (told (λ e. cc)).same ∙ so))
-      where
-        by_rest : (rest : List (List ℕ)) → IsReading w hold p at rest t v → EndsSo w hold spoken.mid rest saying.Goes r.front → IsReading w hold p r [] t v
-        by_rest [] reading ends = reading_end [] ends.1 reading
-        by_rest (line ∷ rest) reading ends = absurd (ends.0 refl)
+    goes so =
+        let enters : Enters w hold f.front line saying.Goes r.front = spoke_as saying.Goes (sym (told (λ e. cc)).same ∙ so) in
+        subst (λ o. IsReading w hold p (record r { own = o }) [] t v) (behind_is saying.Goes enters) (line_goes v f line [] saying.Goes r.front reading enters refl)
 
-    -- a line was the session's last
+    -- the line was the session's last
     pub ends_bye : said ≡ saying.Bye → HasHeard w hold p r Bye false t v
-    ends_bye so = by_rest spoken.rest went.reading (ends_as saying.Bye is_bye)
-      where
-        is_told : Told parted by said
-        is_told = told (λ e. cc)
-
-        is_bye : by ≡ saying.Bye
-        is_bye = sym is_told.same ∙ so
-
-        by_rest : (rest : List (List ℕ)) → IsReading w hold p at rest t v → EndsSo w hold spoken.mid rest saying.Bye r.front → HasHeard w hold p r Bye false t v
-        by_rest [] reading ends = let z = ends.0 in cc
-        by_rest (line ∷ rest) reading ends = heard_end Bye line saying.Bye ends.1 (line_bye v at line rest saying.Bye r.front reading ends.1 refl (is_told.unparted (ap is_memory is_bye)))
+    ends_bye so =
+        let is_told : Told parted by said = told (λ e. cc) in
+        let is_bye : by ≡ saying.Bye = sym is_told.same ∙ so in
+        let enters : Enters w hold f.front line saying.Bye r.front = spoke_as saying.Bye is_bye in
+        heard_end Bye saying.Bye enters (line_bye v f line [] saying.Bye r.front reading enters refl (is_told.unparted (ap is_memory is_bye)))
 
     pub ends_spent : said ≡ saying.Spent → HasHeard w hold p r Spent false t v
-    ends_spent so = by_rest spoken.rest went.reading (ends_as saying.Spent is_spent_so)
-      where
-        is_told : Told parted by said
-        is_told = told (λ e. cc)
-
-        is_spent_so : by ≡ saying.Spent
-        is_spent_so = sym is_told.same ∙ so
-
-        by_rest : (rest : List (List ℕ)) → IsReading w hold p at rest t v → EndsSo w hold spoken.mid rest saying.Spent r.front → HasHeard w hold p r Spent false t v
-        by_rest [] reading ends = let z = ends.0 in cc
-        by_rest (line ∷ rest) reading ends = heard_end Spent line saying.Spent ends.1 (line_spent v at line rest saying.Spent r.front reading ends.1 refl (is_told.unparted (ap is_memory is_spent_so)))
+    ends_spent so =
+        let is_told : Told parted by said = told (λ e. cc) in
+        let is_last : by ≡ saying.Spent = sym is_told.same ∙ so in
+        let enters : Enters w hold f.front line saying.Spent r.front = spoke_as saying.Spent is_last in
+        heard_end Spent saying.Spent enters (line_spent v f line [] saying.Spent r.front reading enters refl (is_told.unparted (ap is_memory is_last)))
 
     -- it found that the passes no longer held the seat as Joined
     pub ends_gone : said ≡ saying.Gone → (stop : Stop) (rest : Option (List ℕ)) → CamePast [] v rest → HasHeard w hold p r (Stopped stop) true t rest
-    ends_gone so stop left past = by_rest spoken.rest went.reading (ends_as saying.Gone is_gone)
-      where
-        is_told : Told parted by said
-        is_told = told (λ e. cc)
-
-        is_gone : by ≡ saying.Gone
-        is_gone = sym is_told.same ∙ so
-
-        by_rest : (rest : List (List ℕ)) → IsReading w hold p at rest t v → EndsSo w hold spoken.mid rest saying.Gone r.front → HasHeard w hold p r (Stopped stop) true t left
-        by_rest [] reading ends = let z = ends.0 in cc
-        by_rest (line ∷ rest) reading ends =
-            let here = reading_end (line ∷ rest) ends.1.1 reading in
-            let closing : is_read w r.front hold ≡ false = ap (λ l. is_read w l hold) ends.1.1 ∙ ends.1.0 in
-            record {
-              more = here.more;
-              got = here.got;
-              first = are_first (line ∷ rest) (lines_at r.front here.more) t v here.came;
-              past = past_more (lines_at r.front here.more) t v left (past_of (line ∷ rest) (lines_at r.front here.more) t v here.short here.came) past;
-              hand = [];
-              behind = λ other. absurd (other refl);
-              all = λ g c n. cc;
-              closed = closing;
-              kept = λ _. here.kept;
-              cause = tt;
-              uncut = λ c n. not_cut (is_cut w r.front hold) (is_read w r.front hold) (is_told.unparted (ap is_memory is_gone)) closing;
-              cuts = here.cuts;
-              unspent = λ other c. here.unspent;
-            }
+    ends_gone so stop left past =
+        let is_told : Told parted by said = told (λ e. cc) in
+        let is_gone : by ≡ saying.Gone = sym is_told.same ∙ so in
+        let found : (is_read w f.front hold ≡ false) × (r.front ≡ f.front) = spoke_as saying.Gone is_gone in
+        let here : IsReading w hold p r (line ∷ []) t v = reading_end found.1 in
+        let closing : is_read w r.front hold ≡ false = ap (λ l. is_read w l hold) found.1 ∙ found.0 in
+        record {
+          more = here.more;
+          got = here.got;
+          first = are_first (line ∷ []) (lines_at r.front here.more) t v here.came;
+          past = past_more (lines_at r.front here.more) t v left (past_of (line ∷ []) (lines_at r.front here.more) t v here.short here.came) past;
+          hand = [];
+          behind = λ other. absurd (other refl);
+          all = λ g c n. cc;
+          closed = closing;
+          kept = λ _. here.kept;
+          cause = tt;
+          uncut = λ c n. not_cut (is_cut w r.front hold) (is_read w r.front hold) (is_told.unparted (ap is_memory is_gone)) closing;
+          cuts = here.cuts;
+          unspent = λ other c. here.unspent;
+        }
 
     -- the session was cut
     pub ends_cut : said ≡ saying.Cut → HasHeard w hold p r reads.Cut false t v
@@ -630,68 +571,51 @@ module _ (w : World) (hold : Hold) (p : PassState Entry World) (t : Option (List
         cut : (by ≡ saying.Cut → ⊥) → (is_cut w r.front hold ≡ true) × (is_read w r.front hold ≡ false)
         cut other = parted_cut (is_cut w r.front hold) (is_read w r.front hold) (told_cut other).0
 
-        by_line : (last : Said) → (rest : List (List ℕ)) → (last ≡ saying.Goes → ⊥) → IsReading w hold p at rest t v → EndsSo w hold spoken.mid rest last r.front → ((line : List ℕ) → Speaks w hold spoken.mid line last r.front → Enters w hold spoken.mid line last r.front) → (is_cut w r.front hold ≡ true) × (is_read w r.front hold ≡ false) → HasHeard w hold p r reads.Cut false t v
-        by_line last [] other reading ends enters is = absurd (other ends.0)
-        by_line last (line ∷ rest) other reading ends enters is =
-            let one = enters line ends.1 in heard_end reads.Cut line last one (line_cut v at line rest last r.front reading one is.0 is.1)
+        by_line : (last : Said) → Enters w hold f.front line last r.front → (is_cut w r.front hold ≡ true) × (is_read w r.front hold ≡ false) → HasHeard w hold p r reads.Cut false t v
+        by_line last enters is = heard_end reads.Cut last enters (line_cut v f line [] last r.front reading enters is.0 is.1)
 
-        by_gone : (rest : List (List ℕ)) → IsReading w hold p at rest t v → EndsSo w hold spoken.mid rest saying.Gone r.front → (is_cut w r.front hold ≡ true) × (is_read w r.front hold ≡ false) → HasHeard w hold p r reads.Cut false t v
-        by_gone [] reading ends is = let z = ends.0 in cc
-        by_gone (line ∷ rest) reading ends is = cut_now v r (line ∷ rest) (reading_end (line ∷ rest) ends.1.1 reading) is.0 is.1
-
-        by_going : (rest : List (List ℕ)) → IsReading w hold p at rest t v → EndsSo w hold spoken.mid rest saying.Goes r.front → (is_cut w r.front hold ≡ true) × (is_read w r.front hold ≡ false) → HasHeard w hold p r reads.Cut false t v
-        by_going [] reading ends is = cut_now v r [] (reading_end [] ends.1 reading) is.0 is.1
-        by_going (line ∷ rest) reading ends is = absurd (ends.0 refl)
-
-        no_cut : (rest : List (List ℕ)) → EndsSo w hold spoken.mid rest saying.Cut r.front → ⊥
-        no_cut [] ends = let z = ends.0 in cc
-        no_cut (line ∷ rest) ends = ends.1
+        by_gone : (is_read w f.front hold ≡ false) × (r.front ≡ f.front) → (is_cut w r.front hold ≡ true) × (is_read w r.front hold ≡ false) → HasHeard w hold p r reads.Cut false t v
+        by_gone found is = cut_now v r (line ∷ []) (reading_end found.1) is.0 is.1
 
         by_said : (last : Said) → by ≡ last → HasHeard w hold p r reads.Cut false t v
-        by_said saying.Goes is = by_going spoken.rest went.reading (ends_as saying.Goes is) (cut (λ c. cc))
-        by_said saying.Bye is = by_line saying.Bye spoken.rest (λ g. cc) went.reading (ends_as saying.Bye is) (λ line one. one) (cut (λ c. cc))
-        by_said saying.Spent is = by_line saying.Spent spoken.rest (λ g. cc) went.reading (ends_as saying.Spent is) (λ line one. one) (cut (λ c. cc))
-        by_said saying.Cut is = absurd (no_cut spoken.rest (ends_as saying.Cut is))
-        by_said saying.Gone is = by_gone spoken.rest went.reading (ends_as saying.Gone is) (cut (λ c. cc))
+        by_said saying.Goes is = by_line saying.Goes (spoke_as saying.Goes is) (cut (λ c. cc))
+        by_said saying.Bye is = by_line saying.Bye (spoke_as saying.Bye is) (cut (λ c. cc))
+        by_said saying.Spent is = by_line saying.Spent (spoke_as saying.Spent is) (cut (λ c. cc))
+        by_said saying.Cut is = absurd (spoke_as saying.Cut is)
+        by_said saying.Gone is = by_gone (spoke_as saying.Gone is) (cut (λ c. cc))
         by_said saying.Memory is = let z : true ≡ false = sym (ap is_memory is) ∙ (told_cut (λ c. cc)).1 in absurd cc
 
     -- want of memory: the seat is left
     pub ends_unsaid : said ≡ saying.Memory → (cut : Bool) (s : PassState Entry World) → Leaves w hold cut r s → HasHeard w hold p s (Stopped Memory) false t v
-    ends_unsaid so cut s left = by_rest spoken.rest went.reading (ends_as saying.Memory (sym (told (λ e. cc)).same ∙ so))
-      where
-        by_rest : (rest : List (List ℕ)) → IsReading w hold p at rest t v → EndsSo w hold spoken.mid rest saying.Memory r.front → HasHeard w hold p s (Stopped Memory) false t v
-        by_rest [] reading ends = let z = ends.0 in cc
-        by_rest (line ∷ rest) reading ends = leaves_unsaid r s (line ∷ rest) Memory cut v v (reading_end (line ∷ rest) ends.1 reading) (λ other. absurd (other refl)) (past_none v) left
+    ends_unsaid so cut s left =
+        let same : r.front ≡ f.front = spoke_as saying.Memory (sym (told (λ e. cc)).same ∙ so) in
+        leaves_unsaid r s (line ∷ []) Memory cut v v (reading_end same) (λ other. absurd (other refl)) (past_none v) left
 
 -- ---- no further line is read
 
 pub ends_input : (w : World) (hold : Hold) (p q r : PassState Entry World) (stop : Stop) (cut : Bool) (t u v : Option (List ℕ)) → IsOpening w → IsReading w hold p q [] t u → StopsBefore stop u v → CamePast [] u v → Leaves w hold cut q r → HasHeard w hold p r (stopped cut stop) false t v
 ends_input w hold p q r stop cut t u v opening is same past left = leaves_reading w hold p t opening q r [] stop cut u v is (λ other. (refl, same other)) past left
 
--- ---- the lines of a turn, entered one after another
+-- ---- what a line appends
 
--- entries were appended to a history that had grown
-pub grown_by : (f h after es : List Entry) → h ≡ f ++ drop (length f) h → after ≡ h ++ es → after ≡ f ++ drop (length f) after
-grown_by f h after es grew more =
-    let whole : after ≡ f ++ (drop (length f) h ++ es) = more ∙ ap (λ l. l ++ es) grew ∙ append_assoc f (drop (length f) h) es in
-    whole ∙ ap (λ l. f ++ l) (sym (drop_here f (drop (length f) h ++ es)) ∙ ap (drop (length f)) (sym whole))
+-- it stands behind the history that the line found
+pub speaks_grew : (w : World) (hold : Hold) (before : List Entry) (line : List ℕ) (said : Said) (after : List Entry) → Speaks w hold before line said after → after ≡ before ++ drop (length before) after
+speaks_grew w hold before line said after speaks = by_said said speaks
   where
-    drop_here : (f x : List Entry) → drop (length f) (f ++ x) ≡ x
-    drop_here [] x = refl
-    drop_here (y ∷ f) x = drop_here f x
+    drop_here : (f es : List Entry) → drop (length f) (f ++ es) ≡ es
+    drop_here [] es = refl
+    drop_here (e ∷ f) es = drop_here f es
 
--- the first ones went on, and the next one does too
-pub go_further : (w : World) (hold : Hold) (before : List Entry) (firsts : List (List ℕ)) (line : List ℕ) (mid after : List Entry) → AllGo w hold before firsts mid → Enters w hold mid line saying.Goes after → AllGo w hold before (firsts ++ line ∷ []) after
-go_further w hold before [] line mid after go enters = (after, subst (λ h. Enters w hold h line saying.Goes after) go enters, refl)
-go_further w hold before (first ∷ firsts) line mid after go enters = (go.0, go.1, go_further w hold go.0 firsts line mid after go.2 enters)
+    grown : (es : List Entry) → after ≡ before ++ es → after ≡ before ++ drop (length before) after
+    grown es is = is ∙ ap (λ l. before ++ l) (sym (drop_here before es) ∙ ap (drop (length before)) (sym is))
 
-pub none_spoken : (w : World) (hold : Hold) (h : List Entry) → Spoken w hold h [] saying.Goes h
-none_spoken w hold h = record { firsts = []; rest = []; mid = h; whole = refl; go = refl; ends = (refl, refl) }
+    by_line : (last : Said) → Enters w hold before line last after → after ≡ before ++ drop (length before) after
+    by_line last enters = grown (Line hold.seat line ∷ map Cut enters.cuts.are.seats) (enters_there w hold before line last after enters)
 
--- a line of them didn't go on
-pub stopped_at : (w : World) (hold : Hold) (before mid after : List Entry) (lines firsts : List (List ℕ)) (line : List ℕ) (rest : List (List ℕ)) (said : Said) → lines ≡ firsts ++ line ∷ rest → AllGo w hold before firsts mid → said ≢ saying.Goes → Speaks w hold mid line said after → Spoken w hold before lines said after
-stopped_at w hold before mid after lines firsts line rest said whole go other speaks = record { firsts = firsts; rest = line ∷ rest; mid = mid; whole = whole; go = go; ends = (other, speaks) }
-
--- all went on
-pub all_spoken : (w : World) (hold : Hold) (before after : List Entry) (lines firsts : List (List ℕ)) → lines ≡ firsts ++ [] → AllGo w hold before firsts after → Spoken w hold before lines saying.Goes after
-all_spoken w hold before after lines firsts whole go = record { firsts = firsts; rest = []; mid = after; whole = whole; go = go; ends = (refl, refl) }
+    by_said : (last : Said) → Speaks w hold before line last after → after ≡ before ++ drop (length before) after
+    by_said saying.Goes enters = by_line saying.Goes enters
+    by_said saying.Bye enters = by_line saying.Bye enters
+    by_said saying.Spent enters = by_line saying.Spent enters
+    by_said saying.Cut none = absurd none
+    by_said saying.Gone found = grown [] (found.1 ∙ sym (append-nil before))
+    by_said saying.Memory same = grown [] (same ∙ sym (append-nil before))

@@ -2,7 +2,7 @@
 use Rattle.std.proofs.Common.{◌≡◌, ◌≢◌, ℕ, ◌≤◌, ◌<◌, Bool, true, false, cond, eqb, ◌&&◌, List, ◌∷◌, ◌++◌, length, take, suc, drop, slice_get, get_or, refl, sym, ◌∙◌, ap, subst, arith, inl, inr, append_assoc}
 use Rattle.std.specs.Prelude.{Option, Some, All, Contains}
 use Rattle.std.proofs.lemmas.List.{take-append-le, take_all}
-use Rattle.std.proofs.lemmas.List.Elements.{All-cons, All-append, All-contains, Contains-append_cases}
+use Rattle.std.proofs.lemmas.List.Elements.{All-cons, All-contains, Contains-append_cases}
 use Rattle.std.proofs.lemmas.Option.{slice_get_within}
 use mathlib.Core.List.{IsPrefix}
 use Rattle.campaign_law.specs.declared.entry.Entry.{Entry}

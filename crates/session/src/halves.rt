@@ -13,9 +13,9 @@ use crate::Table;
 use crate::hearing::{ReadEnd, read_half};
 use crate::hold::Hold;
 use crate::input::Stop;
+use crate::pace::Pace;
 use crate::writing::{Wrote, write_half};
 use line_io::{LineReader, Sink, Source};
-use std::alloc::Global;
 use std::sync::Wait;
 use std::thread::{Threads, join_mut};
 use turn_lock::{Hall, Pass};
@@ -23,7 +23,6 @@ use turn_lock::{Hall, Pass};
 /// The two halves of an accepted session, each by its own pass and in a thread of its own.
 pub(crate) fn run_halves<R: Threads + Wait + Sync, I: Source + Send, O: Sink + Send>(
     rt: &R,
-    alloc: Global,
     hall: &Hall<Table>,
     reading: &mut Pass<Table>,
     writing: &mut Pass<Table>,
@@ -49,10 +48,11 @@ pub(crate) fn run_halves<R: Threads + Wait + Sync, I: Source + Send, O: Sink + S
 {
     // Where no second thread can be made, the second one is run first: the lines are read and entered, and then what waits is
     // written. The other way round it would wait for ever for lines that nobody reads.
+    let pace = Pace::new(hold.place.saturating_add(1));
     let (wrote, read) = join_mut(
         rt,
-        &mut || write_half(rt, hall, writing, hold, output),
-        &mut || read_half(rt, alloc, hall, reading, hold, lines, input),
+        &mut || write_half(rt, hall, writing, hold, &pace, output),
+        &mut || read_half(rt, hall, reading, hold, &pace, lines, input),
     );
     (read, wrote)
 }

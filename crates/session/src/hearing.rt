@@ -8,16 +8,16 @@ ghost use Rattle.session.specs.Inputs.{IsReaderOf, Stops};
 ghost use Rattle.session.specs.declared.hearing.ReadEnd.TheVariants.{Stopped};
 ghost use Rattle.session.specs.Heard.{HasHeard, stopped as stopped_lem};
 ghost use Rattle.session.specs.Ends.{wants_memory};
-ghost use Rattle.session.specs.Turned.{SpeaksAll, Leaves};
+ghost use Rattle.session.specs.Turned.{SpeaksIn, Leaves};
 
 use crate::Table;
 use crate::hold::Hold;
-use crate::input::{Stop, next_lines, read_on};
+use crate::input::{Stop, next_line, read_on};
 use crate::leaving::Leaving;
+use crate::pace::Pace;
 use crate::speaking::{Said, Speaking};
 use line_io::{LineReader, Source};
 use names::LineText;
-use std::alloc::Global;
 use std::sync::Wait;
 use turn_lock::{Hall, Pass};
 
@@ -43,15 +43,15 @@ impl ReadEnd {
     }
 }
 
-/// Enters the lines of the input, those that came together in one turn, until the session ends or the input does. Where
-/// the session was cut it ends. Where its passes no longer hold the seat as Joined for another cause, it reads on to the
-/// end and enters nothing more; the second part of the answer tells that.
+/// Enters the lines of the input, each in a turn of its own and no further ahead of the writing half than the pace lets it, until
+/// the session ends or the input does. Where the session was cut it ends. Where its passes no longer hold the seat as Joined for
+/// another cause, it reads on to the end and enters nothing more; the second part of the answer tells that.
 pub(crate) fn read_half<R: Wait, I: Source>(
     rt: &R,
-    alloc: Global,
     hall: &Hall<Table>,
     pass: &mut Pass<Table>,
     hold: &Hold,
+    pace: &Pace,
     reader: &mut LineReader,
     input: &mut I,
 ) -> (ReadEnd, bool)
@@ -66,14 +66,15 @@ pub(crate) fn read_half<R: Wait, I: Source>(
     ensures read_fault { result.0 ≡ Stopped Stop.ReadFault → CountRose (I.faults_of input.old) (I.faults_of input.new) }
 {
     for _ in rt.forever() {
-        let lines = match next_lines(alloc, reader, input) {
-            Ok(lines) => lines,
+        let line = match next_line(reader, input) {
+            Ok(line) => line,
             Err(stop) => {
                 let cut = leave(rt, hall, pass, hold);
                 return (stopped(stop, cut), false);
             }
         };
-        match speak(rt, hall, pass, hold, lines) {
+        pace.wait(rt);
+        match speak(rt, hall, pass, hold, pace, line) {
             Said::Goes => {}
             Said::Bye => return (ReadEnd::Bye, false),
             Said::Spent => return (ReadEnd::Spent, false),
@@ -98,25 +99,29 @@ fn stopped(stop: Stop, cut: bool) -> ReadEnd
     ReadEnd::Stopped(stop)
 }
 
-// One turn: the lines are entered, as long as the passes hold the seat as Joined.
+// One turn: the line is entered, where the passes hold the seat as Joined.
 fn speak<R: Wait>(
     rt: &R,
     hall: &Hall<Table>,
     pass: &mut Pass<Table>,
     hold: &Hold,
-    lines: Vec<LineText>,
+    pace: &Pace,
+    line: LineText,
 ) -> Said
     requires { IsPassOf hall.now pass.old }
     ensures hall { IsPassOf hall.now pass.new }
-    ensures turn { SpeaksAll hall.now.origin hold.now lines.items result pass.old pass.new }
+    ensures turn { SpeaksIn hall.now.origin hold.now line result pass.old pass.new }
 {
     let mut turn = Speaking {
         hold: hold.copy(),
-        lines: Some(lines),
+        line: Some(line),
         said: Said::Gone,
+        length: 0,
+        queued: 0,
         turn: None,
     };
     hall.act(rt, pass, &mut turn);
+    pace.entered(turn.length, turn.queued);
     turn.said
 }
 

@@ -13,6 +13,7 @@ mod hold;
 mod input;
 mod joining;
 mod leaving;
+mod pace;
 mod service;
 mod sitting;
 mod speaking;

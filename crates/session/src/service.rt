@@ -91,7 +91,7 @@ fn serve<R: Threads + Wait + Sync, I: Source + Send, O: Sink + Send>(
     };
     match read_first(alloc, &mut lines, input) {
         FirstLine::Hello { seat, key } => sit(
-            rt, alloc, hall, reader, writer, seat, key, &mut lines, input, output,
+            rt, hall, reader, writer, seat, key, &mut lines, input, output,
         ),
         FirstLine::Other => no_hello(alloc, output),
         FirstLine::Missing(stop) => stopped(stop),

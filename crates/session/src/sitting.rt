@@ -16,11 +16,11 @@ use crate::hearing::ReadEnd;
 use crate::hold::Hold;
 use crate::input::Stop;
 use crate::joining::{Joined, Joining};
+use crate::pace::Pace;
 use crate::writing::{Wrote, write_half};
 use line_io::{LineReader, Sink, Source, write_whole};
 use names::{LineText, SeatNo};
 use seats::JoinRefusal;
-use std::alloc::Global;
 use std::sync::Wait;
 use std::thread::Threads;
 use turn_lock::{Hall, Pass};
@@ -50,7 +50,6 @@ pub enum Ended {
 /// Joins by the hello, and then runs both halves.
 pub(crate) fn sit<R: Threads + Wait + Sync, I: Source + Send, O: Sink + Send>(
     rt: &R,
-    alloc: Global,
     hall: &Hall<Table>,
     reader: &mut Pass<Table>,
     writer: &mut Pass<Table>,
@@ -92,7 +91,7 @@ pub(crate) fn sit<R: Threads + Wait + Sync, I: Source + Send, O: Sink + Send>(
                 reader: reader.number(),
                 writer: number,
             };
-            let wrote = write_half(rt, hall, writer, &hold, output);
+            let wrote = write_half(rt, hall, writer, &hold, &Pace::new(0), output);
             return ended_by(ReadEnd::Spent, wrote);
         }
     };
@@ -102,9 +101,7 @@ pub(crate) fn sit<R: Threads + Wait + Sync, I: Source + Send, O: Sink + Send>(
         reader: reader.number(),
         writer: number,
     };
-    let ((read, _), wrote) = run_halves(
-        rt, alloc, hall, reader, writer, &hold, lines, input, output,
-    );
+    let ((read, _), wrote) = run_halves(rt, hall, reader, writer, &hold, lines, input, output);
     ended_by(read, wrote)
 }
 

@@ -4,6 +4,7 @@ ghost use Rattle.turn_lock.specs.Pass.{IsPassOf, IsUsherOf};
 ghost use Rattle.campaign_law.specs.Law.{IsOpening};
 
 mod cut_off;
+mod floods;
 mod guests;
 mod long_lines;
 mod side_by_side;
@@ -19,25 +20,34 @@ use turn_lock::{Hall, Pass, Usher};
 const THREE_SEATS: &[u8] =
     br#"{"format":1,"lights":{},"maps":[],"seats":[{"drawn":0,"fog":{},"key":"g","macros":{},"seed":"0000000000000000000000000000000000000000000000000000000000000000","tags":[]},{"drawn":0,"fog":{},"key":"a","macros":{},"seed":"0000000000000000000000000000000000000000000000000000000000000000","tags":[]},{"drawn":0,"fog":{},"key":"b","macros":{},"seed":"0000000000000000000000000000000000000000000000000000000000000000","tags":[]}],"sights":{},"tokens":[]}"#;
 
-fn opened(alloc: Global) -> Result<Table, Fail>
+fn opened(alloc: Global, text: &[u8]) -> Result<Table, Fail>
     ensures { IfOk result (λ table. IsOpening table.origin) }
 {
-    match Campaign::open(alloc, THREE_SEATS, SweepEye::new(alloc)) {
+    match Campaign::open(alloc, text, SweepEye::new(alloc)) {
         Ok(table) => Ok(table),
         Err(_) => Err(Fail::from("no campaign")),
     }
 }
 
-// A hall over these seats, its usher and its first pass.
+// A hall over the campaign of a text, its usher and its first pass.
+fn hall_of(alloc: Global, text: &[u8]) -> Result<(Hall<Table>, Usher<Table>, Pass<Table>), Fail>
+    ensures opening { IfOk result (λ made. IsOpening made.0.origin) }
+    ensures usher { IfOk result (λ made. IsUsherOf made.0 made.1 × (made.1.count ≡ 1)) }
+    ensures pass { IfOk result (λ made. IsPassOf made.0 made.2 × (made.2.number ≡ 0)) }
+{
+    match Hall::open(alloc, opened(alloc, text)?) {
+        Ok(made) => Ok(made),
+        Err(_) => Err(Fail::from("memory")),
+    }
+}
+
+// One over these seats.
 fn opened_hall(alloc: Global) -> Result<(Hall<Table>, Usher<Table>, Pass<Table>), Fail>
     ensures opening { IfOk result (λ made. IsOpening made.0.origin) }
     ensures usher { IfOk result (λ made. IsUsherOf made.0 made.1 × (made.1.count ≡ 1)) }
     ensures pass { IfOk result (λ made. IsPassOf made.0 made.2 × (made.2.number ≡ 0)) }
 {
-    match Hall::open(alloc, opened(alloc)?) {
-        Ok(made) => Ok(made),
-        Err(_) => Err(Fail::from("memory")),
-    }
+    hall_of(alloc, THREE_SEATS)
 }
 
 // Two passes of one.

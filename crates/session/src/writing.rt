@@ -10,6 +10,7 @@ use crate::Table;
 use crate::exchange::{Exchange, Found};
 use crate::hold::Hold;
 use crate::leaving::Leaving;
+use crate::pace::Pace;
 use line_io::{Sink, write_whole};
 use names::LineText;
 use std::sync::Wait;
@@ -35,6 +36,7 @@ pub(crate) fn write_half<R: Wait, O: Sink>(
     hall: &Hall<Table>,
     pass: &mut Pass<Table>,
     hold: &Hold,
+    pace: &Pace,
     output: &mut O,
 ) -> Wrote
     requires hall { IsPassOf hall.now pass.old }
@@ -48,12 +50,12 @@ pub(crate) fn write_half<R: Wait, O: Sink>(
     let mut count = 0;
     let mut news = false;
     for _ in rt.forever() {
-        let (found, length) = exchange(rt, hall, pass, hold, count, news);
+        let (found, length) = exchange(rt, hall, pass, hold, pace, count, news);
         let (text, lines) = match found {
             Found::Gone => return Wrote::All,
             Found::Cut => return Wrote::Cut,
             Found::Memory => {
-                leave(rt, hall, pass, hold);
+                leave(rt, hall, pass, hold, pace);
                 return Wrote::Memory;
             }
             Found::Lines { text, lines } => (text, lines),
@@ -66,7 +68,7 @@ pub(crate) fn write_half<R: Wait, O: Sink>(
         match send(&text, count, lines, output) {
             Ok(next) => count = next,
             Err(stop) => {
-                leave(rt, hall, pass, hold);
+                leave(rt, hall, pass, hold, pace);
                 return stop;
             }
         }
@@ -81,6 +83,7 @@ fn exchange<R: Wait>(
     hall: &Hall<Table>,
     pass: &mut Pass<Table>,
     hold: &Hold,
+    pace: &Pace,
     count: u64,
     news: bool,
 ) -> (Found, u64)
@@ -98,11 +101,12 @@ fn exchange<R: Wait>(
         news: _,
         entered: _,
     } = turn;
+    pace.found(length);
     (found, length)
 }
 
-// One turn, in which the session leaves the seat and its waiting lines are dropped.
-fn leave<R: Wait>(rt: &R, hall: &Hall<Table>, pass: &mut Pass<Table>, hold: &Hold)
+// One turn, the last, in which the session leaves the seat and its waiting lines are dropped.
+fn leave<R: Wait>(rt: &R, hall: &Hall<Table>, pass: &mut Pass<Table>, hold: &Hold, pace: &Pace)
     requires { IsPassOf hall.now pass.old }
     ensures hall { IsPassOf hall.now pass.new }
     ensures turn { Drops hall.now.origin hold.now pass.old pass.new }
@@ -114,6 +118,7 @@ fn leave<R: Wait>(rt: &R, hall: &Hall<Table>, pass: &mut Pass<Table>, hold: &Hol
         cut: false,
     };
     hall.act(rt, pass, &mut turn);
+    pace.end();
 }
 
 // So many further lines in one piece, and then how many were written in all.

@@ -1,4 +1,3 @@
-use Rattle.line_io.specs.Reader.{bytes_to_come}
 use Rattle.session.proofs.LinesInHand.{past_next}
 use Rattle.session.proofs.input.next_line.Goals as goal
 
