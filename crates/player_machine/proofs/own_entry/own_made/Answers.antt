@@ -1,7 +1,7 @@
 use Rattle.std.proofs.Common.{◌≡◌, ap, length, arith, rules, refl}
 use Rattle.campaign_law.specs.Player.{Machine}
-use Rattle.transcript_check.proofs.Seated.{seat_is}
-use Rattle.transcript_check.proofs.own_entry.own_made.Goals as goal
+use Rattle.player_machine.proofs.Seated.{seat_is}
+use Rattle.player_machine.proofs.own_entry.own_made.Goals as goal
 
 pub returns-clause-seat : goal.returns-clause-seat
 returns-clause-seat c =

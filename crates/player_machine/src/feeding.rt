@@ -4,7 +4,7 @@ ghost use Rattle.campaign_law.specs.Feeding.{MayFeed};
 ghost use Rattle.campaign_law.specs.Player.{after, message, printed, view};
 ghost use Rattle.campaign_law.specs.Seat.{settled as settled_lem};
 ghost use Rattle.campaign_law.specs.World.{view_lines};
-ghost use Rattle.transcript_check.specs.Items.{item_of};
+ghost use Rattle.player_machine.specs.Items.{item_of};
 ghost use Rattle.view_change.specs.Views.{FitsAmong};
 
 use crate::item::TraceItem;

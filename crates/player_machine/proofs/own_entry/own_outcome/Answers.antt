@@ -4,7 +4,7 @@ use Rattle.player_view.specs.Asked.{asked_of_view}
 use Rattle.campaign_law.specs.Outcome.{Outcome, of_steps}
 use Rattle.entry_outcomes.specs.Steps.{report_line, told}
 use Rattle.entry_outcomes.proofs.Steps.{told_at}
-use Rattle.transcript_check.proofs.own_entry.own_outcome.Goals as goal
+use Rattle.player_machine.proofs.own_entry.own_outcome.Goals as goal
 
 pub returns : goal.returns
 returns c =

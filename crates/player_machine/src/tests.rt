@@ -2,7 +2,7 @@
 //! program from the same seed.
 ghost use Rattle.std.specs.Prelude.{◌≡◌, ◌≤◌, IsTrue};
 ghost use Rattle.campaign_law.specs.Feeding.{MayFeed};
-ghost use Rattle.transcript_check.specs.Items.{item_of};
+ghost use Rattle.player_machine.specs.Items.{item_of};
 
 use crate::{Machine, Opening, TraceItem};
 use campaign_law::Entry;

@@ -8,8 +8,12 @@ mod lines;
 mod machine;
 mod machine_seat;
 mod own_entry;
+mod printing;
+mod same;
 #[cfg(test)]
 mod tests;
 
 pub use item::TraceItem;
 pub use machine::{Machine, Opening};
+pub use printing::printed_bytes;
+pub use same::{same_item, same_opening};

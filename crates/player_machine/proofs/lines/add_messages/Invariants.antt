@@ -1,6 +1,6 @@
 use Rattle.std.proofs.Common.{◌≡◌, ◌++◌, drop}
 use Rattle.campaign_law.specs.World.{addressed}
-use Rattle.transcript_check.proofs.lines.add_messages.Given as goal
+use Rattle.player_machine.proofs.lines.add_messages.Given as goal
 
 -- what was added and what is left make the whole
 abbrev pub invariant-loop-message : goal.invariant-loop-message

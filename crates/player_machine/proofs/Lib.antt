@@ -1,0 +1,4 @@
+pub mod Seated
+pub mod SameLoops
+pub mod SameLemmas
+pub mod Printed
