@@ -44,12 +44,7 @@ static LINES: [Told<'static>; 3] = [
 ];
 
 // The last entry told the seat this.
-fn is_told(
-    rt: &impl Abort,
-    campaign: &Campaign<SweepEye>,
-    number: u8,
-    told: Option<&str>,
-) -> bool {
+fn is_told(rt: &impl Abort, campaign: &Campaign<SweepEye>, number: u8, told: Option<&str>) -> bool {
     match (campaign.last_message(seat(rt, number)), told) {
         (Some(line), Some(told)) => line.bytes() == told.as_bytes(),
         (None, None) => true,
