@@ -1,11 +1,21 @@
+//! The bytes of a log, a stop at each call of its disk, the places of bad logs, and a real file.
+ghost use Rattle.std.specs.Prelude.{◌≡◌, [], IfSome, IsTrue};
+ghost use Rattle.crash_log.specs.Log.{IsDisks};
+ghost use Rattle.crash_log.specs.Memory.{IsImage, state_of};
+
 use crate::*;
 use campaign_law::Entry;
 use names::{LineText, SeatNo};
 use std::alloc::Global;
 use std::process::Abort;
 
-fn text(rt: &impl Abort, alloc: Global, bytes: &[u8]) -> LineText {
-    LineText::copy(alloc, bytes).expect(rt, "memory")
+fn text(rt: &impl Abort, alloc: Global, bytes: &[u8]) -> LineText
+    ensures { result ≡ bytes.now }
+{
+    match LineText::copy(alloc, bytes) {
+        Ok(copy) => copy,
+        Err(_) => panic!(rt; "memory"),
+    }
 }
 
 fn seat(rt: &impl Abort, number: u8) -> SeatNo {
@@ -36,33 +46,78 @@ fn sample(rt: &impl Abort, alloc: Global, number: u8) -> Entry {
     }
 }
 
-fn disk_of(rt: &impl Abort, alloc: Global, bytes: &[u8], stop: Option<u64>) -> MemDisk {
-    MemDisk::new(alloc, text(rt, alloc, bytes), Vec::new(alloc), stop)
+fn disk_of(rt: &impl Abort, alloc: Global, bytes: &[u8], stop: Option<u64>) -> MemDisk
+    ensures { (state_of result).seen ≡ bytes.now }
+{
+    let held = text(rt, alloc, bytes);
+    MemDisk::new(alloc, held, Vec::new(alloc), stop)
+}
+
+fn made(rt: &impl Abort, disk: &mut MemDisk) -> Journal
+    requires { (state_of disk.old).seen ≡ [] }
+    ensures { IsDisks (λ d. (state_of d).seen) (λ d c. IsImage (state_of d) c) disk.new result }
+{
+    match create(disk, b"C1") {
+        Ok(journal) => journal,
+        Err(_) => panic!(rt; "made"),
+    }
+}
+
+fn recovered(alloc: Global, disk: &mut MemDisk) -> Option<Journal>
+    ensures { IfSome result (λ journal. IsDisks (λ d. (state_of d).seen) (λ d c. IsImage (state_of d) c) disk.new journal) }
+{
+    match recover(alloc, disk) {
+        Ok(found) => Some(found.journal),
+        Err(_) => None,
+    }
+}
+
+// Whether the sample is acknowledged. Where it isn't, the disk failed.
+fn put(
+    rt: &impl Abort,
+    alloc: Global,
+    disk: &mut MemDisk,
+    journal: &mut Journal,
+    number: u8,
+) -> bool
+    requires { IsDisks (λ d. (state_of d).seen) (λ d c. IsImage (state_of d) c) disk.old journal.old }
+    ensures { IsTrue result → IsDisks (λ d. (state_of d).seen) (λ d c. IsImage (state_of d) c) disk.new journal.new }
+{
+    let entry = sample(rt, alloc, number);
+    let size = entry_bytes::entry_size(&entry);
+    assert!(rt; size <= 4_098);
+    match append(alloc, disk, journal, &entry) {
+        Ok(()) => true,
+        Err(fault) => {
+            assert!(rt; fault == LogFault::DiskFault);
+            false
+        }
+    }
 }
 
 #[test]
 fn the_bytes_of_a_log(rt: HostRuntime) {
     let alloc = rt.alloc();
     let mut disk = disk_of(&rt, alloc, b"", None);
-    let mut journal = create(&mut disk, b"C1").expect(&rt, "made");
+    let mut journal = made(&rt, &mut disk);
     assert_eq!(&rt;
         disk.leave(false).expect(&rt, "memory").bytes(),
         b"TTLOG1\x00\x00\x00\x02C1\x00".as_slice()
     );
-    append(alloc, &mut disk, &mut journal, &sample(&rt, alloc, 0)).expect(&rt, "appended");
+    assert!(&rt; put(&rt, alloc, &mut disk, &mut journal, 0));
     let left = disk.leave(false).expect(&rt, "memory");
-    assert_eq!(&rt; &left.bytes()[12..], [1, 0, 0, 0, 2, 4, 1, 0].as_slice());
+    assert!(&rt;
+        left.bytes()
+            .ends_with(b"C1\x01\x00\x00\x00\x02\x04\x01\x00")
+    );
+    assert_eq!(&rt; left.bytes().len(), 20);
 }
 
-// The bytes of the entries' records, one behind the other.
-fn records(rt: &impl Abort, alloc: Global, entries: &[Entry]) -> Vec<u8> {
-    let mut all = Vec::new(alloc);
-    for entry in entries {
-        let size = entry_bytes::entry_size(entry) as u32;
-        let piece = entry_bytes::sealed(alloc, entry, size).expect(rt, "memory");
-        all.extend_from_slice(&piece).expect(rt, "memory");
-    }
-    all
+// The bytes of an entry's record.
+fn record(rt: &impl Abort, alloc: Global, entry: &Entry) -> Vec<u8> {
+    let size = entry_bytes::entry_size(entry);
+    assert!(rt; size <= 4_098);
+    entry_bytes::sealed(alloc, entry, size as u32).expect(rt, "memory")
 }
 
 // How many of the samples a log of these bytes has. It has to have the first of them.
@@ -70,18 +125,27 @@ fn prefix_of(rt: &impl Abort, alloc: Global, bytes: LineText) -> u64 {
     let mut disk = MemDisk::new(alloc, bytes, Vec::new(alloc), None);
     let found = recover(alloc, &mut disk).expect(rt, "a log");
     assert_eq!(rt; found.text.bytes(), b"text".as_slice());
-    let count = found.entries.list.len() as u64;
-    let mut wanted = Vec::new(alloc);
+    let mut count = 0u8;
+    for entry in &found.entries.list {
+        assert_eq!(rt;
+            record(rt, alloc, entry),
+            record(rt, alloc, &sample(rt, alloc, count))
+        );
+        count = count.saturating_add(1);
+    }
+    u64::from(count)
+}
+
+// How many samples are acknowledged before the disk fails.
+fn put_samples(rt: &impl Abort, alloc: Global, disk: &mut MemDisk, journal: &mut Journal) -> u64
+    requires { IsDisks (λ d. (state_of d).seen) (λ d c. IsImage (state_of d) c) disk.old journal.old }
+{
     for number in 0..5u8 {
-        if u64::from(number) < count {
-            wanted.push(sample(rt, alloc, number)).expect(rt, "memory");
+        if !put(rt, alloc, disk, journal, number) {
+            return u64::from(number);
         }
     }
-    assert_eq!(rt;
-        records(rt, alloc, &found.entries.list),
-        records(rt, alloc, &wanted)
-    );
-    count
+    5
 }
 
 // Samples are appended to a disk that stops at its call `stop`. How many were acknowledged; at a stop each crash leaves these, or
@@ -93,24 +157,14 @@ fn stops_at(rt: &impl Abort, alloc: Global, stop: u64) -> u64 {
         b"TTLOG1\x00\x00\x00\x04text\x07\x01\x01\x01\x01\x01\x01\x01",
         Some(stop),
     );
-    let Ok(mut found) = recover(alloc, &mut disk) else {
+    let Some(mut journal) = recovered(alloc, &mut disk) else {
         return 0;
     };
-    let mut done = 0;
-    for number in 0..5u8 {
-        let entry = sample(rt, alloc, number);
-        match append(alloc, &mut disk, &mut found.journal, &entry) {
-            Ok(()) => done += 1,
-            Err(fault) => {
-                assert!(rt; fault == LogFault::DiskFault);
-                break;
-            }
-        }
-    }
+    let done = put_samples(rt, alloc, &mut disk, &mut journal);
     for unsynced in [false, true] {
         let left = disk.leave(unsynced).expect(rt, "memory");
         let count = prefix_of(rt, alloc, left);
-        assert!(rt; count == done || count == done + 1);
+        assert!(rt; count == done || count.wrapping_sub(done) == 1);
     }
     done
 }
@@ -173,20 +227,17 @@ fn a_real_file(rt: HostRuntime) {
     disk.open(path).expect(&rt, "opened");
     assert_eq!(&rt; disk.length().expect(&rt, "length"), 0);
     let mut journal = create(&mut disk, b"C1").expect(&rt, "made");
-    for number in 0..5u8 {
-        let entry = sample(&rt, alloc, number);
-        append(alloc, &mut disk, &mut journal, &entry).expect(&rt, "appended");
-    }
+    let entry = sample(&rt, alloc, 1);
+    let size = entry_bytes::entry_size(&entry);
+    assert!(&rt; size <= 4_098);
+    append(alloc, &mut disk, &mut journal, &entry).expect(&rt, "appended");
     let mut other = FileDisk::new(&rt);
-    assert!(&rt; other.open(path).is_err());
-    assert_eq!(&rt; other.faults(), 1);
+    assert!(&rt; other.open(path).is_err() && other.faults() == 1);
     disk.open(path).expect(&rt, "opened");
     let found = recover(alloc, &mut disk).expect(&rt, "recovered");
-    assert_eq!(&rt; found.entries.list.len(), 5);
+    assert_eq!(&rt; found.entries.list.len(), 1);
     assert_eq!(&rt; found.journal.end(), journal.end());
-    assert_eq!(&rt; disk.length().expect(&rt, "length"), journal.end() + 1);
-    assert!(&rt; disk.open("crash_log_files").is_err());
-    assert!(&rt; disk.length().is_err());
+    assert!(&rt; disk.open("crash_log_files").is_err() && disk.length().is_err());
     other.open(path).expect(&rt, "opened");
     std::fs::remove_file(&rt, path).expect(&rt, "removed");
     std::fs::remove_dir(&rt, "crash_log_files").expect(&rt, "removed");
