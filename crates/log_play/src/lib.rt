@@ -4,8 +4,6 @@
 mod entering;
 mod logged;
 mod run;
-#[cfg(test)]
-mod tests;
 
 pub use logged::Logged;
 pub use run::play_logged;
