@@ -1,0 +1,12 @@
+pub mod Accepted
+pub mod EntryItems
+pub mod Histories
+pub mod Followed
+pub mod PlayedLines
+pub mod TextLines
+pub mod Differences
+pub mod ItemLists
+pub mod Begun
+pub mod Traced
+pub mod NewViews
+pub mod Results

@@ -1,0 +1,13 @@
+use Rattle.std.proofs.Common.{◌≡◌, ◌++◌}
+use Rattle.std.specs.Vec.Iter.{into_iter_items}
+use Rattle.transcript_check.specs.Tracing.{Follows}
+use Rattle.transcript_check.proofs.tracing.Follower.enter_all.Given as goal
+
+abbrev pub invariant-loop-entry : goal.invariant-loop-entry
+invariant-loop-entry g l = record {
+  origin : l.campaign.origin ≡ l.fn.campaign.origin;
+  history : l.campaign.history ≡ l.fn.campaign.history ++ l.yielded;
+  follows : Follows l.campaign l.self;
+  seat : l.self.seat ≡ l.fn.self.seat;
+  whole : l.yielded ++ into_iter_items l.entry-iterator ≡ l.fn.entries.items;
+}
