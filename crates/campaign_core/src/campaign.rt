@@ -500,6 +500,16 @@ impl<E: Eye + Drop> Campaign<E> {
         text_past(self.alloc, &post.mail, first.saturating_sub(post.taken))
     }
 
+    /// How many bytes the lines of the seat's session have that weren't taken, from the number `first` on, counted from 0 at its
+    /// Join, the LF of each counted; `None`, where they are more than can be counted. It takes no memory, and these lines alone are walked.
+    pub fn size_for(&self, seat: SeatNo, first: u64) -> Option<usize>
+        requires { seat < length self.now.origin.seats }
+        ensures size { IfSome result (λ n. Some n ≡ option_map (λ s. length (flat_map (λ line. line) (waiting first s.taken (session self.now.origin self.now.history seat)))) (seat_at (world_of self.now) seat)) }
+    {
+        let post = self.post(seat);
+        size_past(&post.mail, first.saturating_sub(post.taken))
+    }
+
     /// Adds the lines of the seat's session that weren't taken, from the number `first` on, counted from 0 at its Join, to a
     /// text, each behind the tag. The answer is how many they are. Each ends with LF.
     pub fn add_lines_for(
@@ -572,6 +582,16 @@ fn text_past(alloc: Global, mail: &Mail, gone: u64) -> Result<(LineText, u64), M
     }
     let text = mail.text_from(alloc, gone as usize)?;
     Ok((text, count as u64 - gone))
+}
+
+/// How many bytes the lines but for the first `gone` have, the LF of each counted.
+fn size_past(mail: &Mail, gone: u64) -> Option<usize>
+    ensures { IfSome result (λ n. n ≡ length (text_of (drop gone mail.now.lines))) }
+{
+    if gone >= mail.len() as u64 {
+        return Some(0);
+    }
+    mail.size_from(gone as usize)
 }
 
 /// Adds the lines but for the first `gone` to the text, each behind the tag and with its LF. The answer is how many they are.

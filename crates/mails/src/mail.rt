@@ -78,8 +78,9 @@ impl Mail {
         Ok(all)
     }
 
-    /// How many bytes the lines from the place `first` on have, with their LFs; none, where they are more than can be counted.
-    fn size_from(&self, first: usize) -> Option<usize>
+    /// How many bytes the lines from the place `first` on have, with their LFs; none, where they are more than can be counted. These
+    /// lines alone are walked.
+    pub fn size_from(&self, first: usize) -> Option<usize>
         ensures { IfSome result (λ n. n ≡ length (text_of (drop first self.now.lines))) }
     {
         let mut size: usize = 0;
