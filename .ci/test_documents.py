@@ -181,10 +181,6 @@ class Figures(unittest.TestCase):
         told = re.search(r"the first time this takes ([^,;\"]*)", text(ROOT / "tabletop"))[1]
         self.assertIn(f" takes {told}", " ".join(text(README).split()))
 
-    def test_the_cave_is_that_of_the_tests(self):
-        ran = subprocess.run([str(ROOT / "examples" / "same")], capture_output=True, check=False)
-        self.assertEqual((ran.returncode, ran.stdout), (0, b""))
-
 
 def commands(page, heading):
     """The indented commands of a section, in order."""

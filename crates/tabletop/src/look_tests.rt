@@ -1,14 +1,11 @@
 //! How often the eye is asked at each line.
 
+use crate::tests::campaigns::CAVE;
 use campaign_core::{Answer, Campaign, Entry};
 use names::{LineText, SeatNo};
 use sight_sweep::SweepEye;
 use std::alloc::Global;
 use std::process::Abort;
-
-// The game master and one player, whose token stands in a cave that a wall cuts in two.
-const CAVE: &[u8] =
-    br#"{"format":1,"lights":{},"maps":[{"h":3,"mbl":[],"mode":"day","name":"cave","rows":["...","...","..."],"shown":true,"vbl":[[2,0,2,4]],"w":3}],"seats":[{"drawn":0,"fog":{},"key":"g","macros":{},"seed":"0000000000000000000000000000000000000000000000000000000000000000","tags":[]},{"drawn":0,"fog":{},"key":"a","macros":{},"seed":"0000000000000000000000000000000000000000000000000000000000000000","tags":["ann"]}],"sights":{"human":[10,0,2]},"tokens":[{"cell":[0,0],"id":"1:ann","layer":"token","light":null,"map":"cave","name":"Ann","own":[],"owners":[1],"props":[],"secret":[],"sight":"human","size":1,"visible":true}]}"#;
 
 pub(crate) fn seat(rt: &impl Abort, number: u8) -> SeatNo {
     SeatNo::new(number).expect(rt, "a seat")
@@ -120,7 +117,7 @@ fn join_both(rt: &impl Abort, alloc: Global, campaign: &mut Campaign<SweepEye>) 
 
 #[test]
 fn looks(rt: HostRuntime) {
-    let mut campaign = opened(&rt, rt.alloc(), CAVE);
+    let mut campaign = opened(&rt, rt.alloc(), CAVE.as_bytes());
     join_both(&rt, rt.alloc(), &mut campaign);
     for asked in &LINES {
         ask(&rt, rt.alloc(), &mut campaign, asked);

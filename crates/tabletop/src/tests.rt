@@ -1,22 +1,16 @@
-//! Whole runs of the program over memory: what is printed, and the status. With ample memory none ends
-//! for want of it.
+//! Runs of the top calls over memory, of which outside calls fail, and what only memory shows. With ample memory none ends for want
+//! of it. What the program prints over files is tested by `examples/test_runs.py`.
 
 mod at_once;
-mod campaigns;
-mod checks;
+pub(crate) mod campaigns;
 mod cuts;
 mod drills;
-mod evening;
 mod faults;
 mod full_table;
-mod macros;
-mod plays;
-mod refusals;
 mod serve_faults;
 mod serves;
 mod stops;
 mod told;
-mod writing;
 
 use crate::tabletop;
 use line_io::{MemDesk, MemSink, MemSource};
@@ -151,49 +145,8 @@ fn check(rt: &impl Abort, alloc: Global, run: &Run<'_>) {
 }
 
 #[test]
-fn plays_scripts(rt: HostRuntime) {
-    for run in &plays::PLAYS {
-        check(&rt, rt.alloc(), run);
-    }
-    check(&rt, rt.alloc(), &evening::EVENING);
-}
-
-#[test]
 fn stops_scripts(rt: HostRuntime) {
     for run in &stops::STOPS {
         check(&rt, rt.alloc(), run);
     }
-}
-
-#[test]
-fn plays_macros(rt: HostRuntime) {
-    for run in &macros::MACROS {
-        check(&rt, rt.alloc(), run);
-    }
-}
-
-// The lines of the first player.
-fn first_players(rt: &impl Abort, alloc: Global, output: &str) -> String {
-    let mut lines = String::new(alloc);
-    for line in output.split_inclusive('\n') {
-        if line.starts_with("1\t") {
-            add(rt, &mut lines, line);
-        }
-    }
-    lines
-}
-
-#[test]
-fn the_game_master_has_the_campaign_told(rt: HostRuntime) {
-    check(&rt, rt.alloc(), &plays::DUMPED);
-}
-
-#[test]
-fn what_is_unseen_changes_no_roll(rt: HostRuntime) {
-    check(&rt, rt.alloc(), &plays::ROLL_ALONE);
-    check(&rt, rt.alloc(), &plays::ROLL_AMONG_OTHERS);
-    let (_, alone) = played(&rt, rt.alloc(), &WORDS, &plays::ROLL_ALONE);
-    let (_, all) = played(&rt, rt.alloc(), &WORDS, &plays::ROLL_AMONG_OTHERS);
-    let among_others = first_players(&rt, rt.alloc(), &all);
-    assert_eq!(rt; among_others.as_str(), alone.as_str());
 }

@@ -25,7 +25,9 @@ fn say(rt: &impl Abort, alloc: Global, campaign: &mut Campaign<SweepEye>, line: 
 fn waiting(rt: &impl Abort, campaign: &Campaign<SweepEye>, seat: SeatNo) -> usize {
     assert!(rt; seat.number() < campaign.seat_count());
     let (text, _) = campaign.text_for(seat, 0).ok().expect(rt, "memory");
-    text.bytes().len()
+    let size = text.bytes().len();
+    assert!(rt; campaign.size_for(seat, 0) == Some(size));
+    size
 }
 
 // So many bytes wait for the seat, and too many for this one.
