@@ -483,7 +483,8 @@ impl<E: Eye + Drop> Campaign<E> {
     /// at its Join. Each ends with LF.
     pub fn lines_for(&self, seat: SeatNo, first: u64) -> Result<Vec<LineText>, Memory>
         requires { seat < length self.now.origin.seats }
-        ensures { IfOk result (λ v. Some v.items ≡ option_map (λ s. waiting first s.taken (session self.now.origin self.now.history seat)) (seat_at (world_of self.now) seat)) }
+        ensures { IfOk result (λ v. Some v.items ≡ option_map (λ s. waiting first s.taken (session self.now.origin self.now.history seat))
+            (seat_at (world_of self.now) seat)) }
     {
         let post = self.post(seat);
         lines_past(self.alloc, &post.mail, first.saturating_sub(post.taken))
@@ -493,8 +494,11 @@ impl<E: Eye + Drop> Campaign<E> {
     /// at its Join, and how many they are. Each ends with LF. It is one piece of memory.
     pub fn text_for(&self, seat: SeatNo, first: u64) -> Result<(LineText, u64), Memory>
         requires { seat < length self.now.origin.seats }
-        ensures text { IfOk result (λ r. Some r.0 ≡ option_map (λ s. flat_map (λ line. line) (waiting first s.taken (session self.now.origin self.now.history seat))) (seat_at (world_of self.now) seat)) }
-        ensures count { IfOk result (λ r. Some r.1 ≡ option_map (λ s. length (waiting first s.taken (session self.now.origin self.now.history seat))) (seat_at (world_of self.now) seat)) }
+        ensures text { IfOk result (λ r. Some r.0 ≡ option_map
+            (λ s. flat_map (λ line. line) (waiting first s.taken (session self.now.origin self.now.history seat)))
+            (seat_at (world_of self.now) seat)) }
+        ensures count { IfOk result (λ r. Some r.1 ≡ option_map
+            (λ s. length (waiting first s.taken (session self.now.origin self.now.history seat))) (seat_at (world_of self.now) seat)) }
     {
         let post = self.post(seat);
         text_past(self.alloc, &post.mail, first.saturating_sub(post.taken))
@@ -504,7 +508,9 @@ impl<E: Eye + Drop> Campaign<E> {
     /// Join, the LF of each counted; `None`, where they are more than can be counted. It takes no memory, and these lines alone are walked.
     pub fn size_for(&self, seat: SeatNo, first: u64) -> Option<usize>
         requires { seat < length self.now.origin.seats }
-        ensures size { IfSome result (λ n. Some n ≡ option_map (λ s. length (flat_map (λ line. line) (waiting first s.taken (session self.now.origin self.now.history seat)))) (seat_at (world_of self.now) seat)) }
+        ensures size { IfSome result (λ n. Some n ≡ option_map
+            (λ s. length (flat_map (λ line. line) (waiting first s.taken (session self.now.origin self.now.history seat))))
+            (seat_at (world_of self.now) seat)) }
     {
         let post = self.post(seat);
         size_past(&post.mail, first.saturating_sub(post.taken))
@@ -520,8 +526,11 @@ impl<E: Eye + Drop> Campaign<E> {
         text: &mut Vec<u8>,
     ) -> Result<u64, Memory>
         requires { seat < length self.now.origin.seats }
-        ensures text { OnOk result (Some text.new.items ≡ option_map (λ s. text.old.items ++ flat_map (λ line. tag.now ++ line) (waiting first s.taken (session self.now.origin self.now.history seat))) (seat_at (world_of self.now) seat)) }
-        ensures count { IfOk result (λ n. Some n ≡ option_map (λ s. length (waiting first s.taken (session self.now.origin self.now.history seat))) (seat_at (world_of self.now) seat)) }
+        ensures text { OnOk result (Some text.new.items ≡ option_map
+            (λ s. text.old.items ++ flat_map (λ line. tag.now ++ line)
+            (waiting first s.taken (session self.now.origin self.now.history seat))) (seat_at (world_of self.now) seat)) }
+        ensures count { IfOk result (λ n. Some n ≡ option_map (λ s.
+            length (waiting first s.taken (session self.now.origin self.now.history seat))) (seat_at (world_of self.now) seat)) }
     {
         let post = self.post(seat);
         add_past(&post.mail, first.saturating_sub(post.taken), tag, text)

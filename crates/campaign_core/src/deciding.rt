@@ -53,7 +53,8 @@ fn still_outcome(
 ) -> Result<Outcome, Memory>
     requires fits { FitsTogether (world_at state.now) }
     requires views { AreShown (world_at state.now) keep.now.views }
-    ensures { IfOk result (λ o. o ≡ outcome_at (asked_of (world_at state.now) (seat_of entry.now)) (of_steps 0) (seat_at (world_at state.now) (seat_of entry.now)) entry.now) }
+    ensures { IfOk result (λ o. o ≡ outcome_at (asked_of (world_at state.now) (seat_of entry.now)) (of_steps 0)
+        (seat_at (world_at state.now) (seat_of entry.now)) entry.now) }
 {
     let seat = entry.seat();
     let Some(post) = state.post(seat.number()) else {
@@ -76,7 +77,8 @@ fn shown_outcome(
     entry: &Entry,
 ) -> Result<Outcome, Memory>
     requires seat { book.now.seat ≡ seat_of entry.now }
-    ensures { IfOk result (λ o. o ≡ present_outcome_lem (answers_by (world_at state.now) (seat_of entry.now) view.now) (of_steps 0) book.now entry.now) }
+    ensures { IfOk result (λ o. o ≡ present_outcome_lem (answers_by (world_at state.now) (seat_of entry.now) view.now)
+        (of_steps 0) book.now entry.now) }
 {
     let asking = Asking {
         seats: state.seats(),
@@ -99,7 +101,8 @@ fn whole_for(state: &State, seat: SeatNo) -> Option<&Scene>
 
 /// The steps of an accepted move, else 0.
 fn done_steps(alloc: Global, state: &State, entry: &Entry, outcome: &Outcome) -> Result<u32, Memory>
-    requires { outcome.now ≡ outcome_at (asked_of (world_at state.now) (seat_of entry.now)) (of_steps 0) (seat_at (world_at state.now) (seat_of entry.now)) entry.now }
+    requires { outcome.now ≡ outcome_at (asked_of (world_at state.now) (seat_of entry.now)) (of_steps 0)
+        (seat_at (world_at state.now) (seat_of entry.now)) entry.now }
     ensures { IfOk result (λ steps. steps ≡ steps_of (world_at state.now) entry.now) }
 {
     match &outcome.done {
@@ -117,7 +120,8 @@ fn is_dumped(seat: SeatNo, outcome: &Outcome) -> bool
 
 /// The outcome whose reply has the campaign as it is now.
 fn with_campaign(alloc: Global, state: &State, mut outcome: Outcome) -> Result<Outcome, Memory>
-    ensures { IfOk result (λ o. o ≡ told (option_map (λ b. dump_line b.lines (campaign_tree (opened_of (world_at state.now)))) outcome.book) outcome) }
+    ensures { IfOk result (λ o. o ≡ told (option_map (λ b. dump_line b.lines (campaign_tree (opened_of (world_at state.now))))
+        outcome.book) outcome) }
 {
     if let Some(book) = &outcome.book {
         let line = dumped_line(alloc, state, book.lines())?;
@@ -134,7 +138,8 @@ fn with_report(
     outcome: Outcome,
     steps: u32,
 ) -> Result<Outcome, Memory>
-    ensures { IfOk result (λ o. o ≡ told (report_line (record { steps = steps; dumped = dumped_of (world_at state.now) seat }) outcome) outcome) }
+    ensures { IfOk result (λ o. o ≡ told (report_line (record { steps = steps; dumped = dumped_of (world_at state.now) seat }) outcome)
+        outcome) }
 {
     if is_dumped(seat, &outcome) {
         with_campaign(alloc, state, outcome)

@@ -79,7 +79,8 @@ pub(crate) fn made_by<E: Eye>(
     requires fields { AreKept state.now.scene keep.now.fields }
     requires views { AreShown (world_at state.now) keep.now.views }
     ensures prepared { IfOk result (IsPrepared (law state.now) keep.now entry.now) }
-    ensures looks { E.looks_made eye.new ≤ E.looks_made eye.old + looks_of state.now.scene (outcome_of (world_at state.now) entry.now).done }
+    ensures looks { E.looks_made eye.new ≤ E.looks_made eye.old
+        + looks_of state.now.scene (outcome_of (world_at state.now) entry.now).done }
 {
     let (steps, mut outcome) = decide(alloc, state, keep, entry)?;
     let changed = changed_scene(alloc, state, keep, eye, entry, &outcome, steps)?;
@@ -129,7 +130,8 @@ fn next_fields<E: Eye>(
     fields: &Fields,
     eye: &mut E,
 ) -> Result<Option<Fields>, Memory>
-    requires kept { (id : TokenId) → is_touched scene.now.tokens (touched command.now) id ≡ false → field_at id fields.now ≡ field_for scene.now id }
+    requires kept { (id : TokenId) → is_touched scene.now.tokens (touched command.now) id ≡ false → field_at id fields.now
+        ≡ field_for scene.now id }
     requires behind { AreBehind (touched command.now) scene.now fields.now }
     ensures fields { IfOk result (λ next. AreKept scene.now (unwrap_or next fields.now)) }
     ensures looks { E.looks_made eye.new ≤ E.looks_made eye.old + looks_for scene.now.tokens (touched command.now) }
@@ -188,7 +190,8 @@ pub(crate) fn changed_scene<E: Eye>(
     requires outcome { outcome.now ≡ outcome_of (world_at state.now) entry.now }
     requires steps { steps ≡ steps_of (world_at state.now) entry.now }
     ensures changed { IfOk result (IsChanged (world_at state.now) entry.now keep.now.fields) }
-    ensures looks { E.looks_made eye.new ≤ E.looks_made eye.old + looks_of state.now.scene (outcome_of (world_at state.now) entry.now).done }
+    ensures looks { E.looks_made eye.new ≤ E.looks_made eye.old
+        + looks_of state.now.scene (outcome_of (world_at state.now) entry.now).done }
 {
     let Some(command) = &outcome.done else {
         return Ok(None);
@@ -235,8 +238,13 @@ pub(crate) fn seats_after(
     requires outcome { with_book outcome.now book ≡ outcome_of (world_at state.now) entry.now }
     requires changed { IsChanged (world_at state.now) entry.now keep.now.fields changed.now }
     ensures count { IfOk result (λ n. length n.nexts.items ≡ length state.now.posts) }
-    ensures state { IfOk result (λ n. record { posts = put_all n.nexts.items (law state.now).posts; scene = scene_in state.now.scene changed.now } ≡ state_after (law state.now) entry.now) }
-    ensures views { IfOk result (λ n. n.views.items ≡ mapped_from (λ seat p. made_view (is_none changed.now) (seat_of entry.now == seat) (outcome_of (world_at state.now) entry.now) (scene_after (world_at state.now) entry.now) seat p.seat) 0 state.now.posts) }
+    ensures state { IfOk result (λ n. record {
+      posts = put_all n.nexts.items (law state.now).posts;
+      scene = scene_in state.now.scene changed.now;
+    } ≡ state_after (law state.now) entry.now) }
+    ensures views { IfOk result (λ n. n.views.items ≡ mapped_from
+        (λ seat p. made_view (is_none changed.now) (seat_of entry.now == seat) (outcome_of (world_at state.now) entry.now)
+        (scene_after (world_at state.now) entry.now) seat p.seat) 0 state.now.posts) }
 {
     let glances = glances(state, keep, entry, changed);
     next_seats(alloc, outcome, book, entry.seat(), state.posts(), &glances)
@@ -320,7 +328,8 @@ fn put_made(keep: &mut Keep, seat: SeatNo, made: Option<Boxed<View>>)
     requires { seat < length keep.old.views }
     ensures fields { keep.new.fields ≡ keep.old.fields }
     ensures count { length keep.new.views ≡ length keep.old.views }
-    ensures views { (other : ℕ) → view_at other keep.new.views ≡ (if seat == other then made_or made (view_at other keep.old.views) else view_at other keep.old.views) }
+    ensures views { (other : ℕ) → view_at other keep.new.views
+        ≡ (if seat == other then made_or made (view_at other keep.old.views) else view_at other keep.old.views) }
 {
     if let Some(view) = made {
         keep.put_view(seat, view.into_inner());
@@ -426,7 +435,8 @@ pub(crate) fn leave(state: &mut State, entry: &Entry) -> Answer
     ensures seats { length state.new.posts ≡ length state.old.posts }
     ensures scene { state.new.scene ≡ state.old.scene }
     ensures owed { due (law state.new).posts + 1 ≤ due (law state.old).posts }
-    ensures owed_cuts { (place : ℕ) → cut_due (law state.new).posts + length (cut_by (world_in (law state.old)) place entry.now) ≤ cut_due (law state.old).posts }
+    ensures owed_cuts { (place : ℕ) → cut_due (law state.new).posts + length (cut_by (world_in (law state.old)) place entry.now)
+        ≤ cut_due (law state.old).posts }
     ensures answer { result ≡ answer_of (steps_of (world_in (law state.old)) entry.now) (outcome_of (world_in (law state.old)) entry.now) }
 {
     state.leave(entry.seat(), frees(entry));

@@ -37,8 +37,10 @@ pub fn send_all<O: Sink, E: Eye + Drop>(
 ) -> Result<Vec<Entry>, Played>
     ensures few { length campaign.now.origin.seats ≤ 33 }
     ensures takens { IfOk result (λ entries. entries.items ≡ takens (world_of campaign.now)) }
-    ensures sends { Sends result (sent_below campaign.now acting reply.now (length campaign.now.origin.seats)) (O.written out.old) (O.written out.new) }
-    ensures counted { OnOk result (tally.new ≡ with_sent tally.old (lines_below campaign.now acting reply.now (length campaign.now.origin.seats))) }
+    ensures sends { Sends result (sent_below campaign.now acting reply.now (length campaign.now.origin.seats)) (O.written out.old)
+        (O.written out.new) }
+    ensures counted { OnOk result (tally.new ≡ with_sent tally.old
+        (lines_below campaign.now acting reply.now (length campaign.now.origin.seats))) }
     ensures count { O.faults_of out.old ≤ O.faults_of out.new }
     ensures write_fault { played result ≡ Played.WriteFault → CountRose (O.faults_of out.old) (O.faults_of out.new) }
 {
@@ -68,8 +70,10 @@ fn add_all<E: Eye + Drop>(
     requires few { seats ≤ 33 }
     requires opening { IsOpening campaign.now.origin }
     ensures takens { IfOk result (λ entries. entries.items ≡ takens (world_of campaign.now)) }
-    ensures text { OnOk result (text.new.items ≡ text.old.items ++ sent_below campaign.now acting reply.now (length campaign.now.origin.seats)) }
-    ensures counted { OnOk result (tally.new ≡ with_sent tally.old (lines_below campaign.now acting reply.now (length campaign.now.origin.seats))) }
+    ensures text { OnOk result (text.new.items ≡ text.old.items ++ sent_below campaign.now acting reply.now
+        (length campaign.now.origin.seats)) }
+    ensures counted { OnOk result (tally.new ≡ with_sent tally.old
+        (lines_below campaign.now acting reply.now (length campaign.now.origin.seats))) }
 {
     make_room(text)?;
     let mut entries = places_for(alloc, seats)?;
@@ -129,8 +133,10 @@ fn add_next<E: Eye + Drop>(
     requires known { number ≤ 32 }
     requires opening { IsOpening campaign.now.origin }
     ensures taken { OnOk result (entries.new.items ≡ entries.old.items ++ taken_of number (seat_at (world_of campaign.now) number)) }
-    ensures text { OnOk result (text.new.items ≡ text.old.items ++ tagged_lines number (reply_to acting number reply.now ++ waiting_lines campaign.now number)) }
-    ensures counted { OnOk result (tally.new ≡ with_sent tally.old (reply_to acting number reply.now ++ waiting_lines campaign.now number)) }
+    ensures text { OnOk result (text.new.items ≡ text.old.items ++ tagged_lines number
+        (reply_to acting number reply.now ++ waiting_lines campaign.now number)) }
+    ensures counted { OnOk result (tally.new ≡ with_sent tally.old
+        (reply_to acting number reply.now ++ waiting_lines campaign.now number)) }
 {
     let Some(seat) = SeatNo::new(number) else {
         unreachable!();
@@ -162,7 +168,8 @@ fn add_seat<E: Eye + Drop>(
     requires there { seat < length campaign.now.origin.seats }
     requires opening { IsOpening campaign.now.origin }
     ensures taken { IfOk result (λ entry. option_to_list entry ≡ taken_of seat (seat_at (world_of campaign.now) seat)) }
-    ensures text { OnOk result (text.new.items ≡ text.old.items ++ tagged_lines seat (reply_to acting seat reply.now ++ waiting_lines campaign.now seat)) }
+    ensures text { OnOk result (text.new.items ≡ text.old.items ++ tagged_lines seat
+        (reply_to acting seat reply.now ++ waiting_lines campaign.now seat)) }
     ensures counted { OnOk result (tally.new ≡ with_sent tally.old (reply_to acting seat reply.now ++ waiting_lines campaign.now seat)) }
 {
     let tag = SeatTag::new(seat);

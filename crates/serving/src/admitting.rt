@@ -147,7 +147,8 @@ fn seat<
     ensures split { HasSplit (arc_value hall.now) 2 pass result.0 usher.old usher.new }
     ensures own { result.0.own ≡ pass.own }
     ensures new { AdmitsByNewPasses P.work_of usher.old.count result.1 usher.new.count }
-    ensures seats { Seats P.work_of (arc_value hall.now) ends result.1 (P.started spawner.old) (P.started spawner.new) (P.faults_of spawner.old) (P.faults_of spawner.new) }
+    ensures seats { Seats P.work_of (arc_value hall.now) ends result.1 (P.started spawner.old) (P.started spawner.new)
+        (P.faults_of spawner.old) (P.faults_of spawner.new) }
 {
     let Some((rt, shared)) = shared(rt, hall) else {
         return (pass, Admission::Stopped(Stop::Memory));

@@ -72,7 +72,8 @@ impl SessionSource<TcpSink<HostRuntime>> for TcpSource<HostRuntime> {
         requires sync { IsSync R.row }
         requires passes { IsPassOf hall.now reader × IsPassOf hall.now writer }
         requires opening { IsOpening hall.now.origin }
-        ensures { HasRun hall.now reader result.reader writer result.writer None None None None input.old input.new output.old output.new result.ended }
+        ensures { HasRun hall.now reader result.reader writer result.writer None None None None input.old input.new output.old output.new
+            result.ended }
     {
         serve_session(rt, alloc, hall, reader, writer, input, output)
     }

@@ -66,8 +66,10 @@ impl Exchange {
     fn exchanged(&mut self, campaign: &mut Table) -> Found
         requires { self.old.entered ≡ false }
         ensures origin { campaign.new.origin ≡ campaign.old.origin }
-        ensures history { campaign.new.history ≡ campaign.old.history ++ (if self.new.entered then Taken self.old.hold.seat self.old.count ∷ [] else []) }
-        ensures ran { Exchanged campaign.old.origin self.old.hold self.old.count campaign.old.history self.new.entered result campaign.new.history }
+        ensures history { campaign.new.history ≡ campaign.old.history
+            ++ (if self.new.entered then Taken self.old.hold.seat self.old.count ∷ [] else []) }
+        ensures ran { Exchanged campaign.old.origin self.old.hold self.old.count campaign.old.history self.new.entered result
+            campaign.new.history }
     {
         if !is_held(campaign, &self.hold) {
             return gone(campaign, &self.hold);

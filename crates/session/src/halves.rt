@@ -38,7 +38,8 @@ pub(crate) fn run_halves<R: Threads + Wait + Sync, I: Source + Send, O: Sink + S
     ensures reading { IsPassOf hall.now reading.new }
     ensures writing { IsPassOf hall.now writing.new }
     ensures lines { IsReaderOf lines.new (I.left input.new) }
-    ensures heard { HasHeard hall.now.origin hold.now reading.old reading.new result.0.0 result.0.1 (bytes_to_come lines.old (I.left input.old)) (bytes_to_come lines.new (I.left input.new)) }
+    ensures heard { HasHeard hall.now.origin hold.now reading.old reading.new result.0.0 result.0.1
+        (bytes_to_come lines.old (I.left input.old)) (bytes_to_come lines.new (I.left input.new)) }
     ensures stops { (stop : Stop) → result.0.0 ≡ Stopped stop → Stops stop lines.new (I.left input.new) }
     ensures written { HasWritten hall.now.origin hold.now writing.old writing.new result.1 (O.written output.old) (O.written output.new) }
     ensures input_count { I.faults_of input.old ≤ I.faults_of input.new }

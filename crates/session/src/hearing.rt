@@ -60,7 +60,8 @@ pub(crate) fn read_half<R: Wait, I: Source>(
     requires reader { IsReaderOf reader.old (I.left input.old) }
     ensures hall { IsPassOf hall.now pass.new }
     ensures reader { IsReaderOf reader.new (I.left input.new) }
-    ensures heard { HasHeard hall.now.origin hold.now pass.old pass.new result.0 result.1 (bytes_to_come reader.old (I.left input.old)) (bytes_to_come reader.new (I.left input.new)) }
+    ensures heard { HasHeard hall.now.origin hold.now pass.old pass.new result.0 result.1 (bytes_to_come reader.old (I.left input.old))
+        (bytes_to_come reader.new (I.left input.new)) }
     ensures stops { (stop : Stop) → result.0 ≡ Stopped stop → Stops stop reader.new (I.left input.new) }
     ensures count { I.faults_of input.old ≤ I.faults_of input.new }
     ensures read_fault { result.0 ≡ Stopped Stop.ReadFault → CountRose (I.faults_of input.old) (I.faults_of input.new) }

@@ -36,10 +36,12 @@ impl Stop {
 pub(crate) fn next_line<I: Source>(reader: &mut LineReader, input: &mut I) -> Result<LineText, Stop>
     requires { IsReaderOf reader.old (I.left input.old) }
     ensures reader { IsReaderOf reader.new (I.left input.new) }
-    ensures line { IfOk result (λ line. CameFirst (line ∷ []) (bytes_to_come reader.old (I.left input.old)) (bytes_to_come reader.new (I.left input.new))) }
+    ensures line { IfOk result (λ line. CameFirst (line ∷ []) (bytes_to_come reader.old (I.left input.old))
+        (bytes_to_come reader.new (I.left input.new))) }
     ensures short { IfOk result IsShort }
     ensures past { CamePast [] (bytes_to_come reader.old (I.left input.old)) (bytes_to_come reader.new (I.left input.new)) }
-    ensures stop { IfErr result (λ stop. StopsBefore stop (bytes_to_come reader.old (I.left input.old)) (bytes_to_come reader.new (I.left input.new)) × Stops stop reader.new (I.left input.new)) }
+    ensures stop { IfErr result (λ stop. StopsBefore stop (bytes_to_come reader.old (I.left input.old))
+        (bytes_to_come reader.new (I.left input.new)) × Stops stop reader.new (I.left input.new)) }
     ensures count { I.faults_of input.old ≤ I.faults_of input.new }
     ensures read_fault { result ≡ Err Stop.ReadFault → CountRose (I.faults_of input.old) (I.faults_of input.new) }
 {

@@ -49,7 +49,8 @@ pub fn serve_session<R: Threads + Wait + Sync, I: Source + Send, O: Sink + Send>
     ensures grew { Grew reader result.reader × Grew writer result.writer }
 
     // What it entered and wrote, and why it ended so.
-    ensures served { HasServed hall.now.origin reader result.reader writer result.writer (I.left input.old) (I.left input.new) (O.written output.old) (O.written output.new) (O.faults_of output.old) (O.faults_of output.new) result.ended }
+    ensures served { HasServed hall.now.origin reader result.reader writer result.writer (I.left input.old) (I.left input.new)
+        (O.written output.old) (O.written output.new) (O.faults_of output.old) (O.faults_of output.new) result.ended }
     ensures input_count { I.faults_of input.old ≤ I.faults_of input.new }
     ensures read_fault { result.ended ≡ Ended.ReadFault → CountRose (I.faults_of input.old) (I.faults_of input.new) }
     ensures output_count { O.faults_of output.old ≤ O.faults_of output.new }
@@ -80,7 +81,8 @@ fn serve<R: Threads + Wait + Sync, I: Source + Send, O: Sink + Send>(
     ensures reader { IsPassOf hall.now reader.new }
     ensures writer { IsPassOf hall.now writer.new }
     ensures grew { Grew reader.old reader.new × Grew writer.old writer.new }
-    ensures served { HasServed hall.now.origin reader.old reader.new writer.old writer.new (I.left input.old) (I.left input.new) (O.written output.old) (O.written output.new) (O.faults_of output.old) (O.faults_of output.new) result }
+    ensures served { HasServed hall.now.origin reader.old reader.new writer.old writer.new (I.left input.old) (I.left input.new)
+        (O.written output.old) (O.written output.new) (O.faults_of output.old) (O.faults_of output.new) result }
     ensures input_count { I.faults_of input.old ≤ I.faults_of input.new }
     ensures read_fault { result ≡ Ended.ReadFault → CountRose (I.faults_of input.old) (I.faults_of input.new) }
     ensures output_count { O.faults_of output.old ≤ O.faults_of output.new }

@@ -67,7 +67,9 @@ pub(crate) fn sit<R: Threads + Wait + Sync, I: Source + Send, O: Sink + Send>(
     ensures writer { IsPassOf hall.now writer.new }
     ensures lines { IsReaderOf lines.new (I.left input.new) }
     ensures grew { Grew reader.old reader.new × Grew writer.old writer.new }
-    ensures sat { HasSat hall.now.origin seat key reader.old reader.new writer.old writer.new (bytes_to_come lines.old (I.left input.old)) lines.new (I.left input.new) (O.written output.old) (O.written output.new) (O.faults_of output.old) (O.faults_of output.new) result }
+    ensures sat { HasSat hall.now.origin seat key reader.old reader.new writer.old writer.new (bytes_to_come lines.old (I.left input.old))
+        lines.new (I.left input.new) (O.written output.old) (O.written output.new) (O.faults_of output.old)
+        (O.faults_of output.new) result }
     ensures input_count { I.faults_of input.old ≤ I.faults_of input.new }
     ensures read_fault { result ≡ Ended.ReadFault → CountRose (I.faults_of input.old) (I.faults_of input.new) }
     ensures output_count { O.faults_of output.old ≤ O.faults_of output.new }
