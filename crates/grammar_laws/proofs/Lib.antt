@@ -1,0 +1,9 @@
+mod Settled
+mod Whole
+mod DiceTurns
+mod DiceLaws
+mod LevelTurns
+mod WordTurns
+mod RollTurns
+mod MacroTurns
+mod MacroLaws
