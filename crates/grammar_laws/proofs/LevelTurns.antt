@@ -1,16 +1,15 @@
 -- Expressions have one answer for every number of turns past the length of the text, where unaries have.
-use Rattle.std.proofs.Common.{◌≡◌, ℕ, ◌+◌, ◌≤◌, List, [], ◌∷◌, length, Some, ap, arith}
+use Rattle.std.proofs.Common.{◌≡◌, ℕ, ◌≤◌, List, length, arith}
 use Rattle.std.specs.Prelude.{nat_eq}
 use Rattle.reading.specs.Reading.{Read, done, bind, on_head, item}
-use Rattle.reading.specs.Placed.{Grammar, bind_at, more_at}
-use Rattle.reading.proofs.Laws.{Reads}
+use Rattle.reading.specs.Placed.{bind_at, more_at}
 use Rattle.macro_grammar.specs.declared.words.Operator.{Operator}
 use Rattle.macro_grammar.specs.declared.words.Operator.TheVariants.{Or, And, Equal, NotEqual, LessOrEqual, GreaterOrEqual, Less, Greater, Add, Subtract, Multiply, Divide, Remainder}
 use Rattle.macro_grammar.specs.Tree.{Tree, Name, Binary, Assigned}
 use Rattle.macro_grammar.specs.Grammar.{operator_text, OrOperator, AndOperator, CompareOperator, SumOperator, ProductOperator}
 use Rattle.macro_grammar.specs.Readers.{is_product, product_operator_at, is_sum, sum_operator_at, is_compare, compare_operator_at, and_operator_at, or_operator_at, product_at, sum_at, compared_with, compared_at, conjunction_at, expression_at, expression_from, equal_from, after_name}
 use Rattle.macro_grammar.proofs.Operators.{reads_product_operator, reads_sum_operator, reads_and_operator, reads_or_operator, reads_compare_operator}
-use Rattle.grammar_laws.proofs.Settled.{Settles, Settled, settled_reads, settled_done, settled_item, settled_bind_at, settled_bind, settled_head, Takes, takes_reads, settled_more, settled_chain}
+use Rattle.grammar_laws.proofs.Settled.{Settled, settled_reads, settled_done, settled_item, settled_bind_at, settled_bind, settled_head, Takes, takes_reads, settled_more, settled_chain}
 
 -- an operator has a byte at least
 operator_longer : (o : Operator) → 1 ≤ length (operator_text o)

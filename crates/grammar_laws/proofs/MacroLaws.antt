@@ -1,14 +1,13 @@
 -- The laws of macro texts.
-use Rattle.std.proofs.Common.{◌≡◌, ◌-◌, ◌<◌, ◌≤◌, ◌&&◌, ℕ, suc, Bool, true, false, List, [], ◌∷◌, length, Option, Some, None, Ok, Err, refl, sym, ap, ◌∙◌, subst, inl, inr, arith}
+use Rattle.std.proofs.Common.{◌≡◌, ◌-◌, ◌&&◌, ℕ, Bool, true, false, List, [], ◌∷◌, length, Some, None, Ok, Err, refl, sym, ap, ◌∙◌, subst, inl, inr, arith}
 use Rattle.std.specs.Prelude.{Result, nat_le}
 use Rattle.std.proofs.lemmas.Bool.Decides.{nat_tests}
-use Rattle.reading.specs.Reading.{IsLongest}
 use Rattle.dice_parse.specs.declared.parts.Group.{Group}
 use Rattle.dice_parse.specs.declared.parts.Part.TheVariants.{Group as AGroup}
 use Rattle.dice_parse.specs.Grammar.{GroupFits}
 use Rattle.dice_parse.specs.Answers.{part_fits}
 use Rattle.macro_grammar.specs.Tree.{Tree, Number, Dice, Quoted, Name, Call0, Call1, Call2, Call3, Negated, Inverted, Binary, Assigned, Address, Receivers, Hidden, Master, Runner, Both, Whisper, Branch, If, Count, Options, Addressed, Branched, AddressFirst, BranchFirst, Piece, Plain, Roll}
-use Rattle.macro_grammar.specs.Grammar.{DiceFit, IsMacro}
+use Rattle.macro_grammar.specs.Grammar.{DiceFit}
 use Rattle.macro_grammar.specs.Limits.{AddressFits, BranchFits, OptionsFit, PieceFits, PiecesFit}
 use Rattle.macro_grammar.specs.Readers.{macro_at}
 use Rattle.macro_grammar.proofs.WholeMacros.{macro_again, macro_off, macro_longest, one_macro}

@@ -1,9 +1,9 @@
 -- Statements, options and rolls have one answer for every number of turns past the length of the text.
-use Rattle.std.proofs.Common.{◌≡◌, ℕ, suc, ◌+◌, true, ◌&&◌, List, [], ◌∷◌, Some, None}
+use Rattle.std.proofs.Common.{ℕ, suc, true, ◌&&◌, List, [], ◌∷◌, Some, None}
 use Rattle.std.specs.Prelude.{nat_eq}
 use Rattle.reading.specs.Reading.{Read, done, bind, on_head, item}
 use Rattle.reading.specs.Placed.{bind_at}
-use Rattle.macro_grammar.specs.Tree.{Tree, Number, Dice, Quoted, Name, Call0, Call1, Call2, Call3, Negated, Inverted, Binary, Assigned, Address, Receivers, Hidden, Master, Runner, Both, Whisper, Branch, If, Count, Options, AddressFirst, BranchFirst, Piece, Roll, FirstOption, ForWhom, OnWhat}
+use Rattle.macro_grammar.specs.Tree.{Tree, Number, Dice, Quoted, Name, Call0, Call1, Call2, Call3, Negated, Inverted, Binary, Assigned, Address, Receivers, Hidden, Master, Runner, Both, Whisper, If, Count, Options, AddressFirst, BranchFirst, Piece, Roll, FirstOption, ForWhom, OnWhat}
 use Rattle.macro_grammar.specs.Grammar.{has_if}
 use Rattle.macro_grammar.specs.Readers.{blanks_at, is_letter, closed, word_at, then_blanks, expression_from, unary_at, expr_at, after_word, statement_at, bracketed_at, letter_at, address_word_at, bytes_at, branch_word_at, between_at, is_branch_letter, first_word_at, second_option, alone, options_at, roll_end, roll_at}
 use Rattle.macro_grammar.proofs.OptionWords.{TheBytes, reads_bytes}

@@ -4,7 +4,6 @@ use Rattle.std.proofs.lemmas.List.{length-append}
 use Rattle.reading.specs.Reading.{Read, done, bind, on_head, item}
 use Rattle.reading.specs.Placed.{bind_at, more_at, chain_at}
 use Rattle.reading.proofs.Laws.{Fate, Reads}
-use Rattle.reading.proofs.Pairs.{same_pair}
 
 -- from m turns on this is the answer of s, and no more is left than there was
 pub record Settles {A : Type 0} (m : ℕ) (read : ℕ → Read A) (s : List ℕ) : Type 0 where

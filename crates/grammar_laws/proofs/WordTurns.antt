@@ -1,5 +1,5 @@
 -- Atoms, unaries and expressions have one answer for every number of turns past the length of the text.
-use Rattle.std.proofs.Common.{◌≡◌, ℕ, zero, suc, ◌+◌, Bool, true, false, ◌&&◌, List, Option, Some, None}
+use Rattle.std.proofs.Common.{ℕ, zero, suc, Bool, true, false, ◌&&◌, List, Option, Some, None}
 use Rattle.std.specs.Prelude.{nat_eq}
 use Rattle.reading.specs.Reading.{Read, done, bind, on_head, item}
 use Rattle.reading.specs.Number.{is_digit}
