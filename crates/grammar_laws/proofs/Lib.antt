@@ -2,6 +2,7 @@ mod Settled
 mod Whole
 mod DiceTurns
 mod DiceLaws
+mod Written
 mod LevelTurns
 mod WordTurns
 mod RollTurns

@@ -5,9 +5,12 @@ use Rattle.dice_parse.specs.declared.texts.DiceFault.TheVariants.{BadDice, DiceL
 use Rattle.dice_parse.specs.Grammar.{IsDice, IsWithin}
 use Rattle.dice_parse.specs.Faults.{IsFaultOf}
 use Rattle.dice_parse.specs.Answers.{dice_of}
+use Rattle.grammar_laws.specs.Written.{CanBeWritten, IsWriting}
 use Rattle.macro_grammar.specs.Tree.{Piece}
+use Rattle.macro_grammar.specs.Grammar.{IsMacro}
+use Rattle.macro_grammar.specs.Limits.{PiecesFit}
 use Rattle.macro_parse.specs.declared.texts.MacroParseFault.TheVariants.{MacroSyntax, DiceLimit as MacroDiceLimit, Memory as MacroMemory}
-use Rattle.macro_parse.specs.Faults.{IsReadFrom, IsFaultOf as IsMacroFaultOf}
+use Rattle.macro_parse.specs.Faults.{IsFaultOf as IsMacroFaultOf}
 use Rattle.macro_parse.specs.Answers.{macro_of}
 
 -- ---- dice
@@ -27,11 +30,15 @@ LimitedDiceAreOffTheLimits = (text : List ℕ) → dice_of text ≡ Err DiceLimi
 abbrev pub DiceWantNoMemory : Type 0
 DiceWantNoMemory = (text : List ℕ) → dice_of text ≡ Err Memory → ⊥
 
+-- of the grammar itself: a text spells exactly the terms of which it is a writing
+abbrev pub DiceAreTheWritten : Type 0
+DiceAreTheWritten = (text : List ℕ) (terms : List Term) → IsDice text terms ↔ (CanBeWritten terms × IsWriting text terms)
+
 -- ---- macros
 
--- the answer is some pieces exactly where the text spells them, 32 deep at most, with dice within their limits
+-- the answer is some pieces exactly where the text spells them (32 deep at most, with places from 0) and all their dice are within the limits
 abbrev pub MacrosAreTheSpelled : Type 0
-MacrosAreTheSpelled = (text : List ℕ) (pieces : List Piece) → macro_of text ≡ Ok pieces ↔ IsReadFrom text pieces
+MacrosAreTheSpelled = (text : List ℕ) (pieces : List Piece) → macro_of text ≡ Ok pieces ↔ (IsMacro 32 0 text pieces × PiecesFit pieces)
 
 -- it is this fault at a place exactly where the text spells none, and its longest front that begins some macro ends there
 abbrev pub BadMacrosAreOffTheGrammar : Type 0

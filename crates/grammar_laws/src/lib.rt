@@ -5,16 +5,19 @@
 #![tactic(auto)]
 
 ghost use Rattle.grammar_laws.specs.Laws.{DiceAreTheSpelled, BadDiceAreOffTheGrammar, LimitedDiceAreOffTheLimits, DiceWantNoMemory};
+ghost use Rattle.grammar_laws.specs.Laws.{DiceAreTheWritten};
 ghost use Rattle.grammar_laws.specs.Laws.{MacrosAreTheSpelled, BadMacrosAreOffTheGrammar, LimitedMacrosAreOffTheLimits, MacrosWantNoMemory};
 
 /// The laws of dice texts. A text's answer is the terms that it spells, where these are within the limits; `DiceLimit` where
 /// they aren't; and `BadDice` where it spells none, with the length in bytes of its longest front that begins some dice. Each
-/// comes exactly there, and want of memory never.
+/// comes exactly there, and want of memory never. The texts of given terms are just their writings, in which each count of 1
+/// may be left out.
 pub fn dice_laws()
     ensures spelled { DiceAreTheSpelled }
     ensures off { BadDiceAreOffTheGrammar }
     ensures limit { LimitedDiceAreOffTheLimits }
     ensures memory { DiceWantNoMemory }
+    ensures written { DiceAreTheWritten }
 {}
 
 /// The laws of macro texts. A text's answer is the pieces that it spells, where all their dice are within the limits;
