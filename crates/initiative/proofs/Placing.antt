@@ -46,6 +46,7 @@ module _ {X : Type 0} (cmp : X → X → Ordering) (k : X) where
     where
       first : p x ≡ false
       first = All-head (λ y. p y ≡ false) x xs far
+
       by : (r : Ordering) → cmp k x ≡ r → filter p (insert_key cmp xs k) ≡ k ∷ [] → filter p (match_ordering r (k ∷ x ∷ xs) (x ∷ xs) (x ∷ insert_key cmp xs k)) ≡ k ∷ []
       by Less e rest = ap (λ b. cond b (k ∷ filter p (x ∷ xs)) (filter p (x ∷ xs))) on ∙ ap (λ ys. k ∷ ys) (none_pass p (x ∷ xs) far)
       by Equal e rest = absurd (both_ways (p x) first (tied x e))

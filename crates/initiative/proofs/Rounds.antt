@@ -20,7 +20,7 @@ use Rattle.names.specs.declared.token_id.TokenId.{TokenId}
 use Rattle.names.specs.TokenId.{id_cmp, id_eq}
 use Rattle.names.proofs.SameIds.{id_eq-Decides}
 use Rattle.initiative.specs.declared.entry.Entry.{Entry}
-use Rattle.initiative.specs.Fights.{IsFight, PassesTurn, Rounds, SetsEntry, begun_with, entry_cmp, following, has_turn, is_listed, is_of, left_with, no_fight, passed, passed_by, passed_to, place_of, round_limit, token_at, with_entry, with_list, without}
+use Rattle.initiative.specs.Fights.{IsFight, PassesTurn, Rounds, SetsEntry, begun_with, entry_cmp, following, has_turn, is_listed, is_of, left_with, list_with, no_fight, passed, passed_by, passed_to, place_of, token_at, with_list, without}
 use Rattle.initiative.proofs.Placing.{apart_put, filter_twice, others_put, own_put}
 
 abbrev pub Apart : Entry → Entry → Type 0
@@ -58,7 +58,7 @@ far id list = All-weaker (λ e. not (is_of id e) ≡ true) (λ e. is_of id e ≡
 
 -- ---- an entry is set
 
-pub sets : (e : Entry) (r : Rounds) → SetsEntry e r (with_list (with_entry e r.list) r)
+sets : (e : Entry) (r : Rounds) → SetsEntry e.id e.value r (with_list (list_with e r.list) r)
 sets e r = record {
   own = own_put entry_cmp e (is_of e.id) (id_laws.refl e.id) (λ x h. tied e x h) (without e.id r.list) (far e.id r.list);
   others = others_put entry_cmp e (λ o. not (is_of e.id o)) (ap not (id_laws.refl e.id)) (without e.id r.list) ∙ filter_twice (λ o. not (is_of e.id o)) r.list;
@@ -66,28 +66,34 @@ sets e r = record {
   round = refl;
 }
 
-still_listed : (e : Entry) (r : Rounds) (q : TokenId) → is_listed q r.list ≡ true → is_listed q (with_entry e r.list) ≡ true
+still_listed : (e : Entry) (r : Rounds) (q : TokenId) → is_listed q r.list ≡ true → is_listed q (list_with e r.list) ≡ true
 still_listed e r q listed = by (id_eq q e.id) refl
   where
     new : List Entry
-    new = with_entry e r.list
+    new = list_with e r.list
+
     own : is_listed e.id new ≡ true
     own = sym (any-filter_same (is_of e.id) (is_of e.id) true (λ x h. h) new) ∙ ap (list_any (is_of e.id)) (sets e r).own ∙ ap (λ b. b || false) (id_laws.refl e.id)
+
     by : (b : Bool) → id_eq q e.id ≡ b → is_listed q new ≡ true
     by true same = subst (λ t. is_listed t new ≡ true) (sym ((id_eq-Decides q e.id).0 same)) own
     by false other =
         sym (ap (λ b. not b && is_listed q new) other) ∙ sym (listed_without q e.id new) ∙ ap (is_listed q) (sets e r).others ∙ kept q e.id r.list other listed
 
-pub set_is_fight : (e : Entry) (r : Rounds) → IsFight r → IsStrictlySortedBy entry_cmp (with_entry e r.list) → IsFight (with_list (with_entry e r.list) r)
-set_is_fight e r f sorted = record {
-  in_order = sorted;
-  apart = apart_put entry_cmp e Apart (λ x y h. id_laws.symm y.id x.id ∙ h) (without e.id r.list)
-      (All-weaker (λ x. is_of e.id x ≡ false) (Apart e) (λ x h. id_laws.symm e.id x.id ∙ h) (without e.id r.list) (far e.id r.list))
-      (AllPairs-filter Apart (λ o. not (is_of e.id o)) r.list f.apart);
-  turn = IfSome_then r.turn f.turn (λ q h. still_listed e r q h);
-  begun = f.begun;
-  limit = f.limit;
-}
+pub set_leaves : (e : Entry) (r : Rounds) (es : List Entry) → IsFight r → IsStrictlySortedBy entry_cmp es → es ≡ list_with e r.list
+    → IsFight (with_list es r) × SetsEntry e.id e.value r (with_list es r)
+set_leaves e r es f sorted is = (
+  record {
+    in_order = sorted;
+    apart = subst (AllPairs Apart) (sym is) (apart_put entry_cmp e Apart (λ x y h. id_laws.symm y.id x.id ∙ h) (without e.id r.list)
+        (All-weaker (λ x. is_of e.id x ≡ false) (Apart e) (λ x h. id_laws.symm e.id x.id ∙ h) (without e.id r.list) (far e.id r.list))
+        (AllPairs-filter Apart (λ o. not (is_of e.id o)) r.list f.apart));
+    turn = IfSome_then r.turn f.turn (λ q h. ap (is_listed q) is ∙ still_listed e r q h);
+    begun = f.begun;
+    limit = f.limit;
+  },
+  subst (λ (es : List Entry). SetsEntry e.id e.value r (with_list es r)) (sym is) (sets e r),
+)
 
 -- ---- places
 

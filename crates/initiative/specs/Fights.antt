@@ -13,10 +13,10 @@ use Rattle.initiative.specs.declared.entry.Entry.{Entry}
 
 -- the greater value is first, and of equal values the lesser id
 abbrev pub entry_cmp : Entry → Entry → Ordering
-entry_cmp = then_cmp (flip_args (on (λ e. e.value) int_cmp)) (on (λ e. e.id) id_cmp)
+entry_cmp = then_cmp (flip_args (on (λ entry. entry.value) int_cmp)) (on (λ entry. entry.id) id_cmp)
 
 abbrev pub is_of : TokenId → Entry → Bool
-is_of id e = id_eq e.id id
+is_of id entry = id_eq entry.id id
 
 -- the token has an entry
 abbrev pub is_listed : TokenId → List Entry → Bool
@@ -24,15 +24,15 @@ is_listed id list = list_any (is_of id) list
 
 -- the list without the token's entry
 abbrev pub without : TokenId → List Entry → List Entry
-without id list = filter (λ e. not (is_of id e)) list
+without id list = filter (λ entry. not (is_of id entry)) list
 
--- the list with this one entry of its token, at its place in the order
-abbrev pub with_entry : Entry → List Entry → List Entry
-with_entry e list = insert_key entry_cmp (without e.id list) e
+-- the list with this as the one entry of its token, at its place in the order
+abbrev pub list_with : Entry → List Entry → List Entry
+list_with entry list = insert_key entry_cmp (without entry.id list) entry
 
 -- whose entry stands at that place
 abbrev pub token_at : List Entry → ℕ → Option TokenId
-token_at list place = option_map (λ e. e.id) (slice_get list place)
+token_at list place = option_map (λ entry. entry.id) (slice_get list place)
 
 -- where the token's entry stands
 abbrev pub place_of : TokenId → List Entry → ℕ
@@ -55,35 +55,47 @@ abbrev pub round_limit : ℕ
 round_limit = 999999999
 
 -- what is true of every fight
-pub record IsFight (r : Rounds) : Type 0 where
-  pub in_order : IsStrictlySortedBy entry_cmp r.list
+pub record IsFight (fight : Rounds) : Type 0 where
+  pub in_order : IsStrictlySortedBy entry_cmp fight.list
   -- no token has two entries
-  pub apart : AllPairs (λ one other. id_eq one.id other.id ≡ false) r.list
-  pub turn : IfSome r.turn (λ id. is_listed id r.list ≡ true)
-  pub begun : IsNone r.turn ↔ (r.round ≡ 0)
-  pub limit : r.round ≤ round_limit
+  pub apart : AllPairs (λ one other. id_eq one.id other.id ≡ false) fight.list
+  pub turn : IfSome fight.turn (λ id. is_listed id fight.list ≡ true)
+  pub begun : IsNone fight.turn ↔ (fight.round ≡ 0)
+  pub limit : fight.round ≤ round_limit
 
 -- before it begins
 abbrev pub no_fight : Rounds
 no_fight = record { list = []; turn = None; round = 0 }
 
 abbrev pub with_list : List Entry → Rounds → Rounds
-with_list list r = record { list = list; turn = r.turn; round = r.round }
+with_list list fight = record { list = list; turn = fight.turn; round = fight.round }
+
+-- ---- an entry is set
+
+abbrev pub with_entry : TokenId → ℤ → Rounds → Rounds
+with_entry id value fight = with_list (list_with (record { value = value; id = id }) fight.list) fight
+
+-- the same in words: the token has the one entry with that value, all other entries stay, and so do turn and round
+pub record SetsEntry (id : TokenId) (value : ℤ) (old new : Rounds) : Type 0 where
+  pub own : filter (is_of id) new.list ≡ record { value = value; id = id } ∷ []
+  pub others : without id new.list ≡ without id old.list
+  pub turn : new.turn ≡ old.turn
+  pub round : new.round ≡ old.round
 
 -- ---- the turn passes on
 
 -- a round begins with the first token, and the number of rounds stays at its limit
 abbrev pub begun_with : Option TokenId → Rounds → Rounds
-begun_with None r = r
-begun_with (Some first) r = record { list = r.list; turn = Some first; round = min (r.round + 1) round_limit }
+begun_with None fight = fight
+begun_with (Some first) fight = record { list = fight.list; turn = Some first; round = min (fight.round + 1) round_limit }
 
 abbrev pub passed_to : Option TokenId → Rounds → Rounds
-passed_to None r = begun_with (token_at r.list 0) r
-passed_to (Some next) r = record { list = r.list; turn = Some next; round = r.round }
+passed_to None fight = begun_with (token_at fight.list 0) fight
+passed_to (Some next) fight = record { list = fight.list; turn = Some next; round = fight.round }
 
 -- the turn goes to the token whose entry follows, if there is one, or else a round begins
 abbrev pub passed : Rounds → Rounds
-passed r = passed_to (following r.turn r.list) r
+passed fight = passed_to (following fight.turn fight.list) fight
 
 -- the same in words
 pub record PassesTurn (old new : Rounds) : Type 0 where
@@ -97,15 +109,6 @@ pub record PassesTurn (old new : Rounds) : Type 0 where
   pub goes_round : (place : ℕ) (id first : TokenId) → old.turn ≡ Some id → token_at old.list place ≡ Some id → token_at old.list (place + 1) ≡ None
       → token_at old.list 0 ≡ Some first → (new.turn ≡ Some first) × (new.round ≡ min (old.round + 1) round_limit)
 
--- ---- an entry is set
-
--- the token has the one entry with that value, all other entries stay, and so do turn and round
-pub record SetsEntry (e : Entry) (old new : Rounds) : Type 0 where
-  pub own : filter (is_of e.id) new.list ≡ e ∷ []
-  pub others : without e.id new.list ≡ without e.id old.list
-  pub turn : new.turn ≡ old.turn
-  pub round : new.round ≡ old.round
-
 -- ---- an entry goes
 
 abbrev pub has_turn : TokenId → Option TokenId → Bool
@@ -114,13 +117,13 @@ has_turn id (Some turn) = id_eq turn id
 
 -- the turn first passes on, where the token has it
 abbrev pub passed_by : TokenId → Rounds → Rounds
-passed_by id r = if has_turn id r.turn then passed r else r
+passed_by id fight = if has_turn id fight.turn then passed fight else fight
 
 -- the fight with that list; with no entry it is over
 abbrev pub left_with : List Entry → Rounds → Rounds
-left_with [] r = no_fight
-left_with (e ∷ es) r = with_list (e ∷ es) r
+left_with [] fight = no_fight
+left_with (entry ∷ list) fight = with_list (entry ∷ list) fight
 
 -- the token's entry goes, if it has one
 abbrev pub without_entry : TokenId → Rounds → Rounds
-without_entry id r = if is_listed id r.list then left_with (without id r.list) (passed_by id r) else r
+without_entry id fight = if is_listed id fight.list then left_with (without id fight.list) (passed_by id fight) else fight

@@ -1,7 +1,7 @@
 //! One fight.
 ghost use Rattle.std.specs.Prelude.{◌≡◌, ◌<◌, ◌↔◌, ◌+◌, ◌^◌, [], true, false, Some, IfOk, OnOk, OnErr, IfSome, length, slice_get, position};
 ghost use Rattle.std.specs.List.Sorted.{IsStrictlySortedBy};
-ghost use Rattle.initiative.specs.Fights.{IsFight, PassesTurn, SetsEntry, entry_cmp, following, has_turn, is_listed, is_of, left_with, no_fight, passed, passed_by, token_at, with_entry, with_list, without, without_entry};
+ghost use Rattle.initiative.specs.Fights.{IsFight, PassesTurn, SetsEntry, entry_cmp, following, has_turn, is_listed, is_of, left_with, list_with, no_fight, passed, passed_by, token_at, with_entry, without, without_entry};
 
 use crate::entry::Entry;
 use names::{Memory, TokenId};
@@ -21,8 +21,7 @@ pub struct Fight {
 }
 
 impl Model for Fight {
-    ghost use Rattle.std.specs.List.Sorted.{IsStrictlySortedBy};
-ghost use Rattle.initiative.specs.Fights.{IsFight, Rounds};
+    ghost use Rattle.initiative.specs.Fights.{IsFight, Rounds};
 
     ghost Value = { Rounds };
 
@@ -58,12 +57,12 @@ impl Fight {
     ///
     /// After `Memory` the fight is as before.
     pub fn set(&mut self, id: TokenId, value: i16) -> Result<(), Memory>
-        ensures value { OnOk result (self.new ≡ with_list (with_entry (record { id = id; value = value }) self.old.list) self.old) }
-        ensures sets { OnOk result (SetsEntry (record { id = id; value = value }) self.old self.new) }
+        ensures value { OnOk result (self.new ≡ with_entry id value self.old) }
+        ensures sets { OnOk result (SetsEntry id value self.old self.new) }
         ensures unchanged { OnErr result (self.new ≡ self.old) }
     {
         let mut entries = copy_of(&self.entries)?;
-        put_in(&mut entries, Entry { id, value })?;
+        put_in(&mut entries, Entry { value, id })?;
         self.entries = entries;
         Ok(())
     }
@@ -173,7 +172,7 @@ impl Fight {
     /// The entry at that place: the greatest value first, and of equal values the least id first.
     pub fn at(&self, place: usize) -> (TokenId, i16)
         requires { place < length self.now.list }
-        ensures { slice_get self.now.list place ≡ Some (record { id = result.0; value = result.1 }) }
+        ensures { slice_get self.now.list place ≡ Some (record { value = result.1; id = result.0 }) }
     {
         match self.entries.iter().nth(place) {
             Some(entry) => (entry.id, entry.value),
@@ -215,7 +214,7 @@ fn copy_of(entries: &BTreeSet<Entry>) -> Result<BTreeSet<Entry>, Memory>
 // Puts the entry in, in place of the one that its token has.
 fn put_in(entries: &mut BTreeSet<Entry>, entry: Entry) -> Result<(), Memory>
     ensures in_order { IsStrictlySortedBy entry_cmp entries.new.keys }
-    ensures keys { OnOk result (entries.new.keys ≡ with_entry entry entries.old.keys) }
+    ensures keys { OnOk result (entries.new.keys ≡ list_with entry entries.old.keys) }
 {
     take_out(entries, &entry.id);
     match entries.insert(entry) {
