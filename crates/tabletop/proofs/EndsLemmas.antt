@@ -18,7 +18,7 @@ use Rattle.campaign_law.specs.Law.{Course, IsOpening, IsSentAsMachine, world_of}
 use Rattle.world.specs.World.{World as Opened}
 use Rattle.campaign_json.specs.declared.faults.BadCampaign.{BadCampaign as Breach}
 use Rattle.campaign_file.specs.Campaign.{campaign_of}
-use Rattle.campaign_core.specs.Opening.{world_of as read_world, world_of_text}
+use Rattle.campaign_core.specs.Opening.{world_of_text}
 use Rattle.command_words.specs.Words.{Asked, Play, Check, Drill, Serve, Verify, Compare}
 use Rattle.script_play.specs.declared.run.Played.{Played}
 use Rattle.script_play.specs.declared.run.Played.TheVariants as played
