@@ -45,7 +45,8 @@ ended_by_fault faults.Memory = Memory
 -- ---- once the texts of the files were there
 
 -- there is this answer, and its line was to be printed
-pub record Answers {A : Type 0} (IsAnswer : A → Type 0) (differs : A → Bool) (line_of : A → List ℕ) (ended : Ended) (out after : Option (List ℕ)) : Type 0 where
+pub record Answers {A : Type 0} (IsAnswer : A → Type 0) (differs : A → Bool) (line_of : A → List ℕ)
+    (ended : Ended) (out after : Option (List ℕ)) : Type 0 where
   pub answer : A
   pub is : IsAnswer answer
   pub printed : PrintsAnswer (differs answer) ended (line_of answer) out after
@@ -60,9 +61,11 @@ pub record NoAnswer (IsFault : CheckFault → Type 0) (ended : Ended) (out after
 -- `verify` of a player's transcript, by the player machine, against the script that is played on the campaign of the text
 abbrev pub VerifyEnds : Ended → (text script : List ℕ) → ℕ → (transcript : List ℕ) → (out after : Option (List ℕ)) → Type 0
 VerifyEnds ended text script p transcript out after =
-    Answers (IsVerdict text script p transcript) verdict_differs verdict_line ended out after ⊎ NoAnswer (IsFaultOf false text script) ended out after
+    Answers (IsVerdict text script p transcript) verdict_differs verdict_line ended out after
+    ⊎ NoAnswer (IsFaultOf false text script) ended out after
 
 -- `compare` of what a player may know of two scripts that are played each on the campaign of its text
 abbrev pub CompareEnds : Ended → (text script text2 script2 : List ℕ) → ℕ → (out after : Option (List ℕ)) → Type 0
 CompareEnds ended text script text2 script2 p out after =
-    Answers (IsAgreement text script text2 script2 p) agreement_differs agreement_line ended out after ⊎ NoAnswer (IsFaultOfPair text script text2 script2) ended out after
+    Answers (IsAgreement text script text2 script2 p) agreement_differs agreement_line ended out after
+    ⊎ NoAnswer (IsFaultOfPair text script text2 script2) ended out after

@@ -10,7 +10,8 @@ IsFetched campaign text = IfSome campaign (λ told. text ≡ told) × (length te
 
 -- of two files one wasn't fetched: the first, or the first was and the second wasn't
 abbrev pub OneNotFetched : (DeskFailed : Type 0) → Ended → (campaign script : Option (List ℕ)) → Type 0
-OneNotFetched DeskFailed ended campaign script = NotFetched DeskFailed ended campaign ⊎ ((text : List ℕ) × IsFetched campaign text × NotFetched DeskFailed ended script)
+OneNotFetched DeskFailed ended campaign script =
+    NotFetched DeskFailed ended campaign ⊎ ((text : List ℕ) × IsFetched campaign text × NotFetched DeskFailed ended script)
 
 -- the desk tells the text of the name, and it isn't too large
 pub record IsThere (texts : List ℕ → Option (List ℕ)) (name text : List ℕ) : Type 0 where

@@ -22,7 +22,8 @@ pub(crate) fn not_fetched(fault: DeskFault) -> Ended
 /// The text of the file, or as what its want ends the run.
 pub(crate) fn fetch<D: Desk>(desk: &mut D, name: &str) -> Result<LineText, Ended>
     ensures fetched { IfOk result (IsFetched (D.text_of desk.old name.now)) }
-    ensures unfetched { IfErr result (λ ended. NotFetched (CountRose (D.faults_of desk.old) (D.faults_of desk.new)) ended (D.text_of desk.old name.now)) }
+    ensures unfetched { IfErr result (λ ended. NotFetched (CountRose (D.faults_of desk.old) (D.faults_of desk.new)) ended
+        (D.text_of desk.old name.now)) }
     ensures count { D.faults_of desk.old ≤ D.faults_of desk.new }
     ensures texts { (other : List ℕ) → D.text_of desk.new other ≡ D.text_of desk.old other }
 {
@@ -38,7 +39,8 @@ pub(crate) fn fetch_pair<D: Desk>(
     file: &str,
     script: &str,
 ) -> Result<(LineText, LineText), Ended>
-    ensures fetched { IfOk result (λ pair. IsFetched (D.text_of desk.old file.now) pair.0 × IsFetched (D.text_of desk.old script.now) pair.1) }
+    ensures fetched { IfOk result (λ pair. IsFetched (D.text_of desk.old file.now) pair.0
+        × IsFetched (D.text_of desk.old script.now) pair.1) }
     ensures unfetched { IfErr result (λ ended. OneNotFetched (CountRose (D.faults_of desk.old) (D.faults_of desk.new)) ended
         (D.text_of desk.old file.now) (D.text_of desk.old script.now)) }
     ensures count { D.faults_of desk.old ≤ D.faults_of desk.new }

@@ -22,9 +22,9 @@ use command_words::{Job, WordsFault, read_words};
 use line_io::{Desk, Sink, Source};
 use std::alloc::Global;
 
-/// Does what the words ask for and gives the program's status. `play FILE` plays the script on the
-/// campaign of that file and writes the lines that it sends, and with `--end` then the campaign text of the last world; `check FILE` tells how many seats, maps and tokens the campaign has;
-/// `drill N LINES` makes and plays a drill and prints what came of it; `verify FILE SCRIPT SEAT TRANSCRIPT` tells whether the
+/// Does what the words ask for and gives the program's status. `play FILE` plays the script on the campaign of that file and writes the
+/// lines that it sends, and with `--end` then the campaign text of the last world; `check FILE` tells how many seats, maps and tokens
+/// the campaign has; `drill N LINES` makes and plays a drill and prints what came of it; `verify FILE SCRIPT SEAT TRANSCRIPT` tells whether the
 /// transcript is what the player machine prints for the script's history, and `compare FILE SCRIPT FILE SCRIPT SEAT` whether the
 /// player may know the same of both histories, by 0 where it is so and else by 14.
 /// After a stop the last line says why. A fault while it is printed doesn't change the status. Where an outside object doesn't
@@ -60,11 +60,13 @@ pub fn tabletop<D: Desk, S: Source, O: Sink>(
         → (result ≡ 0) ⊎ (result ≡ 6) }
 
     // Campaigns and scripts that are read and played to their ends, and no fault: the answer is printed, unless memory ran out.
-    ensures verified { (file lines transcript told : List ℕ) (seat : ℕ) → job_in (map string_bytes words.now) ≡ Some (Verify file lines seat transcript)
+    ensures verified { (file lines transcript told : List ℕ) (seat : ℕ)
+        → job_in (map string_bytes words.now) ≡ Some (Verify file lines seat transcript)
         → IsPlayableAt (D.text_of desk.old) file lines → IsThere (D.text_of desk.old) transcript told
         → ¬ CountRose (D.faults_of desk.old) (D.faults_of desk.new) → ¬ CountRose (O.faults_of out.old) (O.faults_of out.new)
         → (result ≡ 0) ⊎ ((result ≡ 14) ⊎ (result ≡ 6)) }
-    ensures compared { (file lines file2 lines2 : List ℕ) (seat : ℕ) → job_in (map string_bytes words.now) ≡ Some (Compare file lines file2 lines2 seat)
+    ensures compared { (file lines file2 lines2 : List ℕ) (seat : ℕ)
+        → job_in (map string_bytes words.now) ≡ Some (Compare file lines file2 lines2 seat)
         → IsPlayableAt (D.text_of desk.old) file lines → IsPlayableAt (D.text_of desk.old) file2 lines2
         → ¬ CountRose (D.faults_of desk.old) (D.faults_of desk.new) → ¬ CountRose (O.faults_of out.old) (O.faults_of out.new)
         → (result ≡ 0) ⊎ ((result ≡ 14) ⊎ (result ≡ 6)) }

@@ -27,7 +27,8 @@ pub(crate) fn verify_files<D: Desk, O: Sink>(
     requires player { 1 ≤ seat }
     requires seat { seat ≤ 32 }
     ensures ends { VerifyFilesEnd (CountRose (D.faults_of desk.old) (D.faults_of desk.new)) result
-        (D.text_of desk.old file.now) (D.text_of desk.old script.now) seat (D.text_of desk.old transcript.now) (O.written out.old) (O.written out.new) }
+        (D.text_of desk.old file.now) (D.text_of desk.old script.now) seat (D.text_of desk.old transcript.now)
+        (O.written out.old) (O.written out.new) }
     ensures read_fault { result ≡ Ended.ReadFault → CountRose (D.faults_of desk.old) (D.faults_of desk.new) }
     ensures write_fault { result ≡ Ended.WriteFault → CountRose (O.faults_of out.old) (O.faults_of out.new) }
     ensures out_count { O.faults_of out.old ≤ O.faults_of out.new }
