@@ -3,7 +3,8 @@ use Rattle.std.proofs.Common.{◌≡◌, ℕ, List, subst, inl, inr}
 use Rattle.std.specs.Prelude.{Option}
 use Rattle.tabletop.specs.declared.endings.Ended.{Ended}
 use Rattle.tabletop.specs.declared.endings.Ended.TheVariants.{Done, Usage, BadCampaign, ReadFault, WriteFault, Memory, BadLine, TooLarge, DoorFault, Differs}
-use Rattle.tabletop.specs.Ends.{NotFetched, FileEnds, PairEnds}
+use Rattle.tabletop.specs.Answered.{VerifyEnds, CompareEnds}
+use Rattle.tabletop.specs.Ends.{NotFetched, FileEnds, PairEnds, VerifyFilesEnd, CompareFilesEnd}
 use Rattle.tabletop.specs.Fetches.{IsFetched, OneNotFetched}
 
 -- ---- files that were fetched, and files that weren't
@@ -69,3 +70,20 @@ module _ (D E : Type 0) (wider : D → E) where
   wider_pair Ends ended campaign script out after h =
       wider_file (λ t. FileEnds D (λ l. Ends t l) ended script out after) (λ t. FileEnds E (λ l. Ends t l) ended script out after) ended campaign out after
       (λ text g. wider_file (λ l. Ends text l) (λ l. Ends text l) ended script out after (λ lines ends. ends) g) h
+
+  -- ---- the first two files were fetched, and then the job was done on the others
+
+  pub verified_files : (ended : Ended) (campaign script transcript later out after : Option (List ℕ)) (p : ℕ) (text lines : List ℕ) → IsFetched campaign text → IsFetched script lines → later ≡ transcript
+      → FileEnds D (λ told. VerifyEnds ended text lines p told out after) ended later out after → VerifyFilesEnd E ended campaign script p transcript out after
+  verified_files ended campaign script transcript later out after p text lines f g same h =
+      fetched_pair E (λ t l. FileEnds E (λ told. VerifyEnds ended t l p told out after) ended transcript out after) ended campaign script out after text lines f g
+      (subst (λ x. FileEnds E (λ told. VerifyEnds ended text lines p told out after) ended x out after) same
+      (wider_file (λ told. VerifyEnds ended text lines p told out after) (λ told. VerifyEnds ended text lines p told out after) ended later out after (λ told ends. ends) h))
+
+  pub compared_files : (ended : Ended) (campaign script campaign2 script2 later later2 out after : Option (List ℕ)) (p : ℕ) (text lines : List ℕ) → IsFetched campaign text → IsFetched script lines → later ≡ campaign2 → later2 ≡ script2
+      → PairEnds D (λ text2 lines2. CompareEnds ended text lines text2 lines2 p out after) ended later later2 out after → CompareFilesEnd E ended campaign script campaign2 script2 p out after
+  compared_files ended campaign script campaign2 script2 later later2 out after p text lines f g same same2 h =
+      fetched_pair E (λ t l. PairEnds E (λ t2 l2. CompareEnds ended t l t2 l2 p out after) ended campaign2 script2 out after) ended campaign script out after text lines f g
+      (subst (λ x. PairEnds E (λ t2 l2. CompareEnds ended text lines t2 l2 p out after) ended x script2 out after) same
+      (subst (λ x. PairEnds E (λ t2 l2. CompareEnds ended text lines t2 l2 p out after) ended later x out after) same2
+      (wider_pair (λ t2 l2. CompareEnds ended text lines t2 l2 p out after) ended later later2 out after h)))
