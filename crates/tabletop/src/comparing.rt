@@ -25,7 +25,7 @@ pub(crate) fn compare_files<D: Desk, O: Sink>(
     desk: &mut D,
     out: &mut O,
 ) -> Ended
-    requires seat { seat ≤ 32 }
+    requires { seat ≤ 32 }
     ensures ends { CompareFilesEnd (CountRose (D.faults_of desk.old) (D.faults_of desk.new)) result
         (D.text_of desk.old file.now) (D.text_of desk.old script.now) (D.text_of desk.old file2.now) (D.text_of desk.old script2.now)
         seat (O.written out.old) (O.written out.new) }
@@ -52,7 +52,7 @@ fn compare_with_files<D: Desk, O: Sink>(
     desk: &mut D,
     out: &mut O,
 ) -> Ended
-    requires seat { seat ≤ 32 }
+    requires { seat ≤ 32 }
     ensures ends { PairEnds (CountRose (D.faults_of desk.old) (D.faults_of desk.new))
         (λ text2 lines2. CompareEnds result text.now lines.now text2 lines2 seat (O.written out.old) (O.written out.new))
         result (D.text_of desk.old file2.now) (D.text_of desk.old script2.now) (O.written out.old) (O.written out.new) }
@@ -76,7 +76,7 @@ fn compare_texts<O: Sink>(
     seat: u8,
     out: &mut O,
 ) -> Ended
-    requires seat { seat ≤ 32 }
+    requires { seat ≤ 32 }
     ensures ends { CompareEnds result text.now lines.now text2.now lines2.now seat (O.written out.old) (O.written out.new) }
     ensures no_read_fault { result ≡ Ended.ReadFault → ⊥ }
     ensures write_fault { result ≡ Ended.WriteFault → CountRose (O.faults_of out.old) (O.faults_of out.new) }

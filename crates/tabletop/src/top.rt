@@ -104,20 +104,20 @@ fn job<D: Desk, S: Source, O: Sink>(
         Ok(
             Job::Verify {
                 file,
-                script,
+                script: lines,
                 seat,
                 transcript,
             },
-        ) => verify_files(alloc, file, script, seat, transcript, desk, out),
+        ) => verify_files(alloc, file, lines, seat, transcript, desk, out),
         Ok(
             Job::Compare {
                 file,
-                script,
+                script: lines,
                 file2,
-                script2,
+                script2: lines2,
                 seat,
             },
-        ) => compare_files(alloc, file, script, file2, script2, seat, desk, out),
+        ) => compare_files(alloc, file, lines, file2, lines2, seat, desk, out),
         Ok(Job::Serve { .. }) | Err(WordsFault::Usage) => Ended::Usage,
         Err(WordsFault::Memory) => Ended::Memory,
     }

@@ -18,17 +18,17 @@ drill-requires-clause-most g c =
 pub verify_files-requires-clause-player : goal.verify_files-requires-clause-player
 verify_files-requires-clause-player g c =
     let asked = c.in-Ok-Verify in
-    let is : job_of (map string_bytes c.args.words.now) ≡ Some (Verify asked.file.now asked.script.now asked.seat asked.transcript.now) = search rules in
-    (verified_seat (map string_bytes c.args.words.now) asked.file.now asked.script.now asked.seat asked.transcript.now is).0
+    let is : job_of (map string_bytes c.args.words.now) ≡ Some (Verify asked.file.now asked.lines.now asked.seat asked.transcript.now) = search rules in
+    (verified_seat (map string_bytes c.args.words.now) asked.file.now asked.lines.now asked.seat asked.transcript.now is).0
 
 pub verify_files-requires-clause-seat : goal.verify_files-requires-clause-seat
 verify_files-requires-clause-seat g c =
     let asked = c.in-Ok-Verify in
-    let is : job_of (map string_bytes c.args.words.now) ≡ Some (Verify asked.file.now asked.script.now asked.seat asked.transcript.now) = search rules in
-    (verified_seat (map string_bytes c.args.words.now) asked.file.now asked.script.now asked.seat asked.transcript.now is).1
+    let is : job_of (map string_bytes c.args.words.now) ≡ Some (Verify asked.file.now asked.lines.now asked.seat asked.transcript.now) = search rules in
+    (verified_seat (map string_bytes c.args.words.now) asked.file.now asked.lines.now asked.seat asked.transcript.now is).1
 
 pub compare_files-requires : goal.compare_files-requires
 compare_files-requires g c =
     let asked = c.in-Ok-Compare in
-    let is : job_of (map string_bytes c.args.words.now) ≡ Some (Compare asked.file.now asked.script.now asked.file2.now asked.script2.now asked.seat) = search rules in
-    (compared_seat (map string_bytes c.args.words.now) asked.file.now asked.script.now asked.file2.now asked.script2.now asked.seat is).1
+    let is : job_of (map string_bytes c.args.words.now) ≡ Some (Compare asked.file.now asked.lines.now asked.file2.now asked.lines2.now asked.seat) = search rules in
+    (compared_seat (map string_bytes c.args.words.now) asked.file.now asked.lines.now asked.file2.now asked.lines2.now asked.seat is).1
