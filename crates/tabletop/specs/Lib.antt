@@ -3,5 +3,7 @@ pub mod Counts
 pub mod Endings
 pub mod Printing
 pub mod Drilled
+pub mod Answered
+pub mod Fetches
 pub mod Ends
 pub mod ServeEnds

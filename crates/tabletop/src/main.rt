@@ -3,7 +3,9 @@
 
 ghost use Rattle.std.specs.Prelude.{◌≡◌, IfOk};
 
+mod answers;
 mod checking;
+mod comparing;
 mod drilling;
 mod endings;
 mod files;
@@ -17,6 +19,7 @@ mod serve;
 #[cfg(test)]
 mod tests;
 mod top;
+mod verifying;
 
 pub use endings::Ended;
 use line_io::{
