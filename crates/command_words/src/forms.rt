@@ -32,7 +32,7 @@ pub enum Job<'a> {
     },
 }
 
-fn is_file(name: &str) -> bool
+pub(crate) fn is_file(name: &str) -> bool
     ensures { result ≡ is_file_text name.now }
 {
     match name.as_bytes() {
@@ -41,7 +41,7 @@ fn is_file(name: &str) -> bool
     }
 }
 
-fn is_end(word: &str) -> bool
+pub(crate) fn is_end(word: &str) -> bool
     ensures { result ≡ is_end_text word.now }
 {
     word == "--end"

@@ -5,3 +5,5 @@ pub mod Printing
 pub mod Drilled
 pub mod Ends
 pub mod ServeEnds
+pub mod LogEndings
+pub mod Logged
