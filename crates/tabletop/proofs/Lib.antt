@@ -3,3 +3,7 @@ mod Services
 mod ServeLemmas
 mod DrillScripts
 pub mod DrillLemmas
+pub mod Leaves
+mod Resuming
+mod LoggedRuns
+mod LoggedEnds

@@ -133,17 +133,17 @@ module _ (old mid new : Course) (due : List Entry) (a : GoesOn old mid) (b : Goe
         let xs : List Entry = leaves w in
         let ys : List Entry = entries_since mid new in
         let one : Keeps seen may_leave moment left_since Done text before xs xs first middle middle_end =
-            keeps_same seen may_leave moment left_since Done (entries_since old mid) xs due xs first middle first_end middle_end (all_left ∙ due_is) due_is log text before holds in
+        keeps_same seen may_leave moment left_since Done (entries_since old mid) xs due xs first middle first_end middle_end (all_left ∙ due_is) due_is log text before holds in
         told_both (λ all rest. LeavesOnly moment left_since middle last (HasFront text (before ++ xs) [] (script_of (world_of mid) all).entries))
         (λ all rest. (file : List ℕ) → may_leave last file → HasFront text (before ++ xs) ys (script_of (world_of mid) all).entries file)
         (λ all rest. Keeps seen may_leave moment left_since answer text before (entries_since old new) (resumed w all).entries first last last_end)
         script left (any (before ++ xs) one.holds) (kept (before ++ xs) one.holds)
         (λ all rest x y.
-            let two : Keeps seen may_leave moment left_since answer text (before ++ xs) ys (script_of (world_of mid) all).entries middle last last_end =
-                record { any_moment = x; kept = y; holds = still (before ++ xs) one.holds } in
-            subst (λ (es : List Entry). Keeps seen may_leave moment left_since answer text before es (resumed w all).entries first last last_end) (sym since_leaves)
-            (keeps_behind seen may_leave moment left_since answer text before xs ys (script_of (start_of w) all).entries first middle last middle_end last_end one
-            (subst (λ (v : World). Keeps seen may_leave moment left_since answer text (before ++ xs) ys (script_of v all).entries middle last last_end) starts two)))
+        let two : Keeps seen may_leave moment left_since answer text (before ++ xs) ys (script_of (world_of mid) all).entries middle last last_end =
+        record { any_moment = x; kept = y; holds = still (before ++ xs) one.holds } in
+        subst (λ (es : List Entry). Keeps seen may_leave moment left_since answer text before es (resumed w all).entries first last last_end) (sym since_leaves)
+        (keeps_behind seen may_leave moment left_since answer text before xs ys (script_of (start_of w) all).entries first middle last middle_end last_end one
+        (subst (λ (v : World). Keeps seen may_leave moment left_since answer text (before ++ xs) ys (script_of v all).entries middle last last_end) starts two)))
 
 -- ---- a stop within the Leaves, as a log keeps it
 

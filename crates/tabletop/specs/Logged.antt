@@ -95,15 +95,15 @@ module _ {D : Type 0} (seen : D → List ℕ) (may_leave : D → List ℕ → Ty
     -- until it was recovered, a crash left what one before the call might have left
     pub until : seen old ≢ [] → LeavesOnly moment left_since old began (may_leave old)
 
-  -- a run with a log, whose entries may come to the whole, and came to those that were put
-  pub record KeepsRun (text : List ℕ) (kept put whole : List Entry) (old new : D) : Type 0 where
+  -- a run with a log, whose entries may come to the whole, which a script gives, and came to those that were put
+  pub record KeepsRun (text : List ℕ) (kept put : List Entry) (whole : List ℕ → List Entry) (script left : Option (List ℕ)) (old new : D) : Type 0 where
     pub began : D
     pub end : ℕ
     pub begins : Begins text kept old began end
     -- a crash at any moment since then, inside the call too, leaves a log of the kept entries and the first of the whole
-    pub any_moment : LeavesOnly moment left_since began new (HasFront text kept [] whole)
+    pub any_moment : WhereTold script left (λ all rest. LeavesOnly moment left_since began new (HasFront text kept [] (whole all)))
     -- and one when the call has returned leaves those that were put among them
-    pub now : (file : List ℕ) → may_leave new file → HasFront text kept put whole file
+    pub now : WhereTold script left (λ all rest. (file : List ℕ) → may_leave new file → HasFront text kept put (whole all) file)
 
   -- a script was played from a world, behind the entries of a log
   pub record PlaysLogged (Tells : Type 0) (answer : Logged) (origin : World) (text : List ℕ) (script left out after : Option (List ℕ)) (old new : D) : Type 0 where
@@ -118,7 +118,7 @@ module _ {D : Type 0} (seen : D → List ℕ) (may_leave : D → List ℕ → Ty
     pub players : (p : ℕ) → 1 ≤ p → p ≤ 32 → AreWrittenOf (as_played answer) (sent origin kept p ++ lines_behind p written.text) (machine (opening origin p) (trace origin (kept ++ entries) p))
     pub machines : (p : ℕ) → IsSentAsMachine origin (kept ++ entries) p
     -- the log has every entry of which a byte may have been written
-    pub log : Tells → WhereTold script left (λ all rest. KeepsRun text kept entries (resumed (replay origin kept) all).entries old new)
+    pub log : Tells → KeepsRun text kept entries (λ all. (resumed (replay origin kept) all).entries) script left old new
     pub full : Tells → answer ≡ logged.Full → WhereTold script left (λ all rest. IsFull text kept entries (resumed (replay origin kept) all).entries)
 
   -- and this is the campaign then: where the script was played to its end, that behind all entries

@@ -87,7 +87,6 @@ fn logged_job<D: Desk, S: Source, O: Sink, K: Disk>(
 ) -> LogEnded
     ensures ends { JobLogs K.seen K.may_leave K.moment K.left_since K.tells (CountRose (D.faults_of desk.old) (D.faults_of desk.new)) result
         (logged_of (map string_bytes words.now)) (D.text_of desk.old) (S.left script.old) (S.left script.new) (O.written out.old) (O.written out.new) disk.old disk.new }
-    ensures usage { (result ≡ LogEnded.Usage) ↔ (logged_of (map string_bytes words.now) ≡ None) }
     ensures read_fault { result ≡ LogEnded.Plain Ended.ReadFault
         → CountRose (D.faults_of desk.old) (D.faults_of desk.new) ⊎ CountRose (S.faults_of script.old) (S.faults_of script.new) }
     ensures write_fault { result ≡ LogEnded.Plain Ended.WriteFault → CountRose (O.faults_of out.old) (O.faults_of out.new) }
@@ -112,7 +111,6 @@ fn play_file_logged<D: Desk, S: Source, O: Sink, K: Disk>(
 ) -> LogEnded
     ensures ends { FileLogs K.seen K.may_leave K.moment K.left_since K.tells (CountRose (D.faults_of desk.old) (D.faults_of desk.new)) play.end result
         (D.text_of desk.old play.file.now) (S.left script.old) (S.left script.new) (O.written out.old) (O.written out.new) disk.old disk.new }
-    ensures not_usage { result ≡ LogEnded.Usage → ⊥ }
     ensures read_fault { result ≡ LogEnded.Plain Ended.ReadFault
         → CountRose (D.faults_of desk.old) (D.faults_of desk.new) ⊎ CountRose (S.faults_of script.old) (S.faults_of script.new) }
     ensures write_fault { result ≡ LogEnded.Plain Ended.WriteFault → CountRose (O.faults_of out.old) (O.faults_of out.new) }
@@ -138,7 +136,6 @@ fn play_text_logged<S: Source, O: Sink, K: Disk>(
     requires short { length text.now ≤ 16777216 }
     ensures ends { TextLogs K.seen K.may_leave K.moment K.left_since K.tells end result text.now
         (S.left script.old) (S.left script.new) (O.written out.old) (O.written out.new) disk.old disk.new }
-    ensures not_usage { result ≡ LogEnded.Usage → ⊥ }
     ensures read_fault { result ≡ LogEnded.Plain Ended.ReadFault → CountRose (S.faults_of script.old) (S.faults_of script.new) }
     ensures write_fault { result ≡ LogEnded.Plain Ended.WriteFault → CountRose (O.faults_of out.old) (O.faults_of out.new) }
     ensures disk_fault { result ≡ LogEnded.DiskFault → CountRose (K.faults_of disk.old) (K.faults_of disk.new) }
@@ -234,7 +231,6 @@ fn after_logged<E: Eye, O: Sink>(
     out: &mut O,
 ) -> LogEnded
     ensures follows { FollowsLogged logged end result (canonical (opened_of (world_of campaign.now)) ++ 10 ∷ []) (O.written out.old) (O.written out.new) }
-    ensures not_usage { result ≡ LogEnded.Usage → ⊥ }
     ensures disk_fault { result ≡ LogEnded.DiskFault → logged ≡ Logged.DiskFault }
     ensures read_fault { result ≡ LogEnded.Plain Ended.ReadFault → logged ≡ Logged.ReadFault }
     ensures write_fault { result ≡ LogEnded.Plain Ended.WriteFault → (logged ≡ Logged.WriteFault) ⊎ CountRose (O.faults_of out.old) (O.faults_of out.new) }
