@@ -1,5 +1,5 @@
 -- Leaves that drop send nothing, and behind those of all seats nothing waits.
-use Rattle.std.proofs.Common.{◌≡◌, ℕ, zero, suc, ◌<◌, ◌≤◌, Bool, true, false, cond, ◌&&◌, eqb, List, [], ◌∷◌, ◌++◌, length, Some, None, refl, sym, ◌∙◌, ap, subst, arith}
+use Rattle.std.proofs.Common.{◌≡◌, ℕ, zero, suc, ◌+◌, ◌<◌, ◌≤◌, Bool, true, false, cond, ◌&&◌, eqb, List, [], ◌∷◌, ◌++◌, length, Some, None, refl, sym, ◌∙◌, ap, subst, arith}
 use Rattle.std.specs.Prelude.{Option, option_map, IfSome, slice_get, nat_lt}
 use Rattle.std.specs.List.{AllByRecursion}
 use Rattle.std.proofs.lemmas.List.{append-nil}
@@ -220,23 +220,27 @@ nobody_waits w steady sound =
 
 -- ---- their bytes
 
-leave_short : (seat : ℕ) (before : Option Seat) → AllByRecursion (λ e. length (entry_bytes e) ≤ 4098) (leave_of seat before)
+-- as a log takes them
+abbrev pub IsShort : Entry → Type 0
+IsShort e = length (entry_bytes e) ≤ 4098
+
+leave_short : (seat : ℕ) (before : Option Seat) → AllByRecursion IsShort (leave_of seat before)
 leave_short seat None = tt
 leave_short seat (Some s) = by_state (is_free s.book.state)
   where
-    by_state : (free : Bool) → AllByRecursion (λ e. length (entry_bytes e) ≤ 4098) (cond free [] (leaving seat ∷ []))
+    by_state : (free : Bool) → AllByRecursion IsShort (cond free [] (leaving seat ∷ []))
     by_state true = tt
     by_state false = (omega arith, tt)
 
-both_short : (xs ys : List Entry) → AllByRecursion (λ e. length (entry_bytes e) ≤ 4098) xs → AllByRecursion (λ e. length (entry_bytes e) ≤ 4098) ys → AllByRecursion (λ e. length (entry_bytes e) ≤ 4098) (xs ++ ys)
+both_short : (xs ys : List Entry) → AllByRecursion IsShort xs → AllByRecursion IsShort ys → AllByRecursion IsShort (xs ++ ys)
 both_short [] ys h k = k
 both_short (x ∷ xs) ys h k = (h.0, both_short xs ys h.1 k)
 
-short_below : (w : World) (n : ℕ) → AllByRecursion (λ e. length (entry_bytes e) ≤ 4098) (leaves_below w n)
+short_below : (w : World) (n : ℕ) → AllByRecursion IsShort (leaves_below w n)
 short_below w zero = tt
 short_below w (suc n) = both_short (leaves_below w n) (leave_of n (seat_at w n)) (short_below w n) (leave_short n (seat_at w n))
 
-pub leaves_short : (w : World) → AllByRecursion (λ e. length (entry_bytes e) ≤ 4098) (leaves w)
+pub leaves_short : (w : World) → AllByRecursion IsShort (leaves w)
 unfolding leaves
 leaves_short w = short_below w (length w.seats)
 
@@ -257,3 +261,6 @@ one_leaves seat state (Some s) is busy = by_state (is_free s.book.state) refl
     by_state : (now : Bool) → is_free s.book.state ≡ now → cond now [] (leaving seat ∷ []) ≡ leaving seat ∷ []
     by_state true h = let z : false ≡ true = sym busy ∙ ap is_free (let same : state ≡ s.book.state = cc in same) ∙ h in cc
     by_state false h = refl
+
+pub leaves_next : (w : World) (n : ℕ) → leaves_below w (n + 1) ≡ leaves_below w n ++ leave_of n (seat_at w n)
+leaves_next w n = let next : n + 1 ≡ suc n = omega arith in ap (leaves_below w) next

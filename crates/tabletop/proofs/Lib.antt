@@ -4,6 +4,7 @@ mod ServeLemmas
 mod DrillScripts
 pub mod DrillLemmas
 pub mod Leaves
+mod Starting
 mod Resuming
 mod LoggedRuns
 mod LoggedEnds

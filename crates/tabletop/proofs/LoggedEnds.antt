@@ -343,7 +343,7 @@ module _ {D : Type 0} (seen : D → List ℕ) (may_leave : D → List ℕ → Ty
     module _ (all : List ℕ) (kept : List Entry) (found : IsFound campaign kept (seen old)) (script_is : script ≡ Some all) (ends : (resumed (replay origin kept) all).ending ≡ done)
         (room : length (open_part campaign (kept ++ (resumed (replay origin kept) all).entries)) < 2 ^ 30) (no_read : status ≡ 4 → ⊥) (no_write : status ≡ 5 → ⊥) where
       run_done : (end : Bool) (r : RunsOn seen may_leave moment left_since Tells end h.ended campaign script left out h.before_line old new) → r.origin ≡ origin → status ≡ log_status h.ended → OrMemory status 0
-      run_done end r is s = by r.answer refl end r.follows
+      run_done end r is s = by_answer r.answer refl end r.follows
         where
           kept_is : r.plays.kept ≡ kept
           kept_is = found_same campaign r.plays.kept kept (seen old) (r.plays.log told).begins.found found
@@ -362,19 +362,16 @@ module _ {D : Type 0} (seen : D → List ℕ) (may_leave : D → List ℕ → Ty
               (subst (λ (n : ℕ). n < 2 ^ 30) (λ i. length (open_part campaign (sym kept_is i ++ (resumed (replay (sym is i) (sym kept_is i)) all).entries))) room)
               (told_full script left all (λ text. IsFull campaign r.plays.kept r.plays.entries (resumed (replay r.origin r.plays.kept) text).entries) script_is (r.plays.full told same))
 
-          by : (answer : Logged) → r.answer ≡ answer → (end : Bool) → FollowsLogged r.answer end h.ended (end_line r.origin (r.plays.kept ++ r.plays.entries)) r.before_end h.before_line → OrMemory status 0
-          by answer same end follows = by_answer answer same end (subst (λ (x : Logged). FollowsLogged x end h.ended (end_line r.origin (r.plays.kept ++ r.plays.entries)) r.before_end h.before_line) same follows)
-            where
-              by_answer : (answer : Logged) → r.answer ≡ answer → (end : Bool) → FollowsLogged answer end h.ended (end_line r.origin (r.plays.kept ++ r.plays.entries)) r.before_end h.before_line → OrMemory status 0
-              by_answer logged.Done same true f = printed_done status f.0 (end_line r.origin (r.plays.kept ++ r.plays.entries)) r.before_end h.before_line no_write (s ∙ ap log_status f.1) f.2
-              by_answer logged.Done same false f = inl (s ∙ ap log_status f.0)
-              by_answer logged.ReadFault same end f = absurd (no_read (s ∙ ap log_status f.0))
-              by_answer logged.WriteFault same end f = absurd (no_write (s ∙ ap log_status f.0))
-              by_answer (logged.BadLine number) same end f = let z : done ≡ bad_line number = entered_as (logged.BadLine number) (bad_line number) same (λ x e. ap (λ (y : Script). y.ending) e) in cc
-              by_answer logged.TooLarge same end f = let z : done ≡ too_large = entered_as logged.TooLarge too_large same (λ x e. ap (λ (y : Script). y.ending) e) in cc
-              by_answer logged.DiskFault same end f = absurd (no_disk (s ∙ ap log_status f.0))
-              by_answer logged.Full same end f = absurd (full_room same)
-              by_answer logged.Memory same end f = inr (s ∙ ap log_status f.0)
+          by_answer : (answer : Logged) → r.answer ≡ answer → (end : Bool) → FollowsLogged answer end h.ended (end_line r.origin (r.plays.kept ++ r.plays.entries)) r.before_end h.before_line → OrMemory status 0
+          by_answer logged.Done same true f = printed_done status f.0 (end_line r.origin (r.plays.kept ++ r.plays.entries)) r.before_end h.before_line no_write (s ∙ ap log_status f.1) f.2
+          by_answer logged.Done same false f = inl (s ∙ ap log_status f.0)
+          by_answer logged.ReadFault same end f = absurd (no_read (s ∙ ap log_status f.0))
+          by_answer logged.WriteFault same end f = absurd (no_write (s ∙ ap log_status f.0))
+          by_answer (logged.BadLine number) same end f = let z : done ≡ bad_line number = entered_as (logged.BadLine number) (bad_line number) same (λ x e. ap (λ (y : Script). y.ending) e) in cc
+          by_answer logged.TooLarge same end f = let z : done ≡ too_large = entered_as logged.TooLarge too_large same (λ x e. ap (λ (y : Script). y.ending) e) in cc
+          by_answer logged.DiskFault same end f = absurd (no_disk (s ∙ ap log_status f.0))
+          by_answer logged.Full same end f = absurd (full_room same)
+          by_answer logged.Memory same end f = inr (s ∙ ap log_status f.0)
 
       pub log_play_completes : OrMemory status 0
       log_play_completes = by (as_told status h.ended h.told h.status_is h.is_told) (comes Tells DeskFailed h.ended asked texts campaign origin script left out h.before_line old new a no_desk h.ends)

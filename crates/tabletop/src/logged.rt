@@ -7,6 +7,7 @@ ghost use Rattle.campaign_law.specs.declared.entry.Entry.{Entry as EntryValue};
 ghost use Rattle.campaign_law.specs.World.{World, replay};
 ghost use Rattle.campaign_law.specs.Worlds.{opened_of};
 ghost use Rattle.campaign_law.specs.Law.{IsOpening, world_of};
+ghost use Rattle.campaign_core.specs.Opening.{world_of_text};
 ghost use Rattle.crash_log.specs.Log.{HoldsLog, IsBadAt, IsDisks, open_part};
 ghost use Rattle.script_play.specs.Script.{done};
 ghost use Rattle.script_play.specs.Played.{GoesOn, HasEntered, HasRead, HasWritten, entries_since};
@@ -141,13 +142,39 @@ fn play_text_logged<S: Source, O: Sink, K: Disk>(
     ensures disk_fault { result ≡ LogEnded.DiskFault → CountRose (K.faults_of disk.old) (K.faults_of disk.new) }
     ensures out_count { O.faults_of out.old ≤ O.faults_of out.new }
 {
-    let mut campaign = match Campaign::open(alloc, text.bytes(), SweepEye::new(alloc)) {
-        Ok(campaign) => campaign,
-        Err(OpenFault::Bad(breach)) => return LogEnded::Plain(Ended::BadCampaign(breach)),
-        Err(OpenFault::Memory) => return LogEnded::Plain(Ended::Memory),
-    };
-    match play_from_log(alloc, &mut campaign, log, text, script, out, disk) {
-        Ok(logged) => after_logged(alloc, logged, end, &campaign, out),
+    match Campaign::open(alloc, text.bytes(), SweepEye::new(alloc)) {
+        Ok(mut campaign) => {
+            play_with_log(alloc, &mut campaign, log, end, text, script, out, disk)
+        }
+        Err(OpenFault::Bad(breach)) => LogEnded::Plain(Ended::BadCampaign(breach)),
+        Err(OpenFault::Memory) => LogEnded::Plain(Ended::Memory),
+    }
+}
+
+// On the campaign, which the text has opened.
+fn play_with_log<S: Source, O: Sink, E: Eye + Drop, K: Disk>(
+    alloc: Global,
+    campaign: &mut Campaign<E>,
+    log: &str,
+    end: bool,
+    text: &LineText,
+    script: &mut S,
+    out: &mut O,
+    disk: &mut K,
+) -> LogEnded
+    requires world { world_of_text text.now ≡ Some campaign.old.origin }
+    requires opening { IsOpening campaign.old.origin }
+    requires none { campaign.old.history ≡ [] }
+    requires short { length text.now ≤ 16777216 }
+    ensures ends { TextLogs K.seen K.may_leave K.moment K.left_since K.tells end result text.now
+        (S.left script.old) (S.left script.new) (O.written out.old) (O.written out.new) disk.old disk.new }
+    ensures read_fault { result ≡ LogEnded.Plain Ended.ReadFault → CountRose (S.faults_of script.old) (S.faults_of script.new) }
+    ensures write_fault { result ≡ LogEnded.Plain Ended.WriteFault → CountRose (O.faults_of out.old) (O.faults_of out.new) }
+    ensures disk_fault { result ≡ LogEnded.DiskFault → CountRose (K.faults_of disk.old) (K.faults_of disk.new) }
+    ensures out_count { O.faults_of out.old ≤ O.faults_of out.new }
+{
+    match play_from_log(alloc, campaign, log, text, script, out, disk) {
+        Ok(logged) => after_logged(alloc, logged, end, campaign, out),
         Err(ended) => ended,
     }
 }
@@ -175,13 +202,12 @@ fn play_from_log<S: Source, O: Sink, E: Eye + Drop, K: Disk>(
     ensures write_fault { IfOk result (λ answer. answer ≡ Logged.WriteFault → CountRose (O.faults_of out.old) (O.faults_of out.new)) }
     ensures out_count { O.faults_of out.old ≤ O.faults_of out.new }
 {
-    let (entries, mut journal) = match open_log(alloc, log, text, disk) {
-        Ok(opened) => opened,
-        Err(ended) => return Err(ended),
-    };
-    match enter_again(campaign, entries) {
-        Ok(()) => Ok(play_on(alloc, campaign, disk, &mut journal, script, out)),
-        Err(_) => Ok(Logged::Memory),
+    match open_log(alloc, log, text, disk) {
+        Ok((entries, mut journal)) => match enter_again(campaign, entries) {
+            Ok(()) => Ok(play_on(alloc, campaign, disk, &mut journal, script, out)),
+            Err(_) => Ok(Logged::Memory),
+        },
+        Err(ended) => Err(ended),
     }
 }
 
