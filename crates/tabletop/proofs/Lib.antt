@@ -4,6 +4,7 @@ mod ServeLemmas
 mod DrillScripts
 pub mod DrillLemmas
 pub mod Leaves
+mod OpenParts
 mod Starting
 mod Resuming
 mod LoggedRuns

@@ -1,8 +1,6 @@
 -- How a run with a log ends, from what its parts did.
 use Rattle.std.proofs.Common.{◌≡◌, ◌≢◌, ◌≤◌, ◌<◌, ◌^◌, ◌+◌, ℕ, true, false, List, [], ◌∷◌, ◌++◌, length, Some, None, refl, sym, ◌∙◌, ap, subst, arith, append_assoc, length-append, ◌⊎◌, inl, inr}
 use Rattle.std.specs.Prelude.{Option, Bool, IfSome, unwrap_or, Err}
-use Rattle.std.specs.List.{flat_map}
-use Rattle.std.proofs.lemmas.List.Elements.{flat_map-append}
 use Rattle.std.specs.Io.KnownBytes.{append_known}
 use Rattle.line_io.specs.Counts.{CountRose}
 use Rattle.line_io.specs.Told.{WhereTold}
@@ -14,7 +12,7 @@ use Rattle.campaign_law.specs.Worlds.{opened_of}
 use Rattle.campaign_law.specs.Law.{Course, world_of}
 use Rattle.campaign_writing.specs.Canonical.{canonical}
 use Rattle.campaign_core.specs.Opening.{world_of_text}
-use Rattle.crash_log.specs.Log.{IsLog, IsBadAt, head_bytes, record_bytes, open_part}
+use Rattle.crash_log.specs.Log.{IsLog, IsBadAt, open_part}
 use Rattle.crash_log.proofs.LogLaws.{log_same, log_not_bad}
 use Rattle.script_play.specs.declared.run.Played.{Played}
 use Rattle.script_play.specs.Script.{Script, Ending, done, bad_line, too_large}
@@ -33,6 +31,7 @@ use Rattle.tabletop.specs.Printing.{PrintsLine}
 use Rattle.tabletop.specs.Ends.{IsToldAs, Fetched, NotFetched, unfetched, end_line, campaign_limit}
 use Rattle.tabletop.specs.LogEndings.{log_status, log_line, HasOwnLogLine, IsToldInLog, ended_logged}
 use Rattle.tabletop.specs.Logged.{Begins, BreaksFormat, FileLogs, FollowsLogged, HasEndedLogged, HasNoLog, IsAskedFor, IsFound, IsFull, IsOtherLog, JobLogs, PlayedTo, RunsOn, TextLogs, resumed}
+use Rattle.tabletop.proofs.OpenParts.{has_room}
 use Rattle.tabletop.proofs.EndsLemmas.{breach_world, count_after, two_is_usage, read_fault_of, write_fault_of}
 
 -- ---- the last line
@@ -226,16 +225,6 @@ not_other text kept file (inr a) o = o.differs (log_same o.other text o.entries 
 not_bad : (text : List ℕ) (kept : List Entry) (file : List ℕ) (place : ℕ) → IsFound text kept file → file ≢ [] → IsBadAt file place → ⊥
 not_bad text kept file place (inl a) there bad = there a.0
 not_bad text kept file place (inr a) there bad = log_not_bad text kept file place a bad
-
-longer : (text : List ℕ) (xs ys : List Entry) → length (open_part text xs) ≤ length (open_part text (xs ++ ys))
-unfolding open_part
-longer text xs ys = omega (arith, ap length (flat_map-append record_bytes xs ys), length-append (flat_map record_bytes xs) (flat_map record_bytes ys), length-append (head_bytes text) (flat_map record_bytes xs), length-append (head_bytes text) (flat_map record_bytes (xs ++ ys)))
-
-has_room : (text : List ℕ) (kept put whole : List Entry) → length (open_part text (kept ++ whole)) < 2 ^ 30 → IsFull text kept put whole → ⊥
-has_room text kept put whole room h =
-    let front : List Entry = put ++ h.next ∷ [] in
-    let all : kept ++ whole ≡ (kept ++ front) ++ h.is_next.rest = ap (λ es. kept ++ es) h.is_next.is ∙ sym (append_assoc kept front h.is_next.rest) in
-    omega (arith, room, h.far, longer text (kept ++ front) h.is_next.rest, ap (λ (es : List Entry). length (open_part text es)) all)
 
 -- ---- completeness
 

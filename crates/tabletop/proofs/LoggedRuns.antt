@@ -1,10 +1,7 @@
 -- A script that is played behind the entries of a log, from where the log was made or recovered.
-use Rattle.std.proofs.Common.{◌≡◌, ◌≤◌, ◌^◌, ◌+◌, ℕ, List, [], ◌∷◌, ◌++◌, length, Some, refl, sym, ◌∙◌, ap, subst, arith, append_assoc, length-append, inl, inr}
+use Rattle.std.proofs.Common.{◌≡◌, ◌≤◌, ℕ, List, [], ◌++◌, refl, sym, ◌∙◌, ap, subst}
 use Rattle.std.specs.Prelude.{Option}
 use Rattle.std.proofs.lemmas.List.{append-nil}
-use Rattle.std.specs.List.{flat_map}
-use Rattle.std.proofs.lemmas.List.Elements.{flat_map-append}
-use Rattle.std.specs.Int.{w32, to_be_bytes}
 use Rattle.line_io.specs.Told.{WhereTold}
 use Rattle.campaign_law.specs.declared.entry.Entry.{Entry}
 use Rattle.campaign_law.specs.World.{World, replay, sent}
@@ -12,8 +9,7 @@ use Rattle.campaign_law.specs.Player.{opening, trace, machine}
 use Rattle.campaign_law.specs.Law.{Course, IsOpening, world_of}
 use Rattle.campaign_law.proofs.Simulation.{sent_is_machine}
 use Rattle.crash_log.specs.Disk.{LeavesOnly}
-use Rattle.crash_log.specs.Entries.{entry_bytes}
-use Rattle.crash_log.specs.Log.{HoldsLog, head_bytes, record_bytes, open_part}
+use Rattle.crash_log.specs.Log.{HoldsLog}
 use Rattle.script_play.specs.declared.run.Played.{Played}
 use Rattle.script_play.specs.declared.run.Played.TheVariants as played
 use Rattle.script_play.specs.Script.{script_of}
@@ -30,24 +26,8 @@ use Rattle.log_play.specs.Logged.{as_played, UnlessDiskFault}
 use Rattle.log_play.specs.Kept.{HasFront, HasNoRoom, Keeps}
 use Rattle.log_play.proofs.KeptLemmas.{keeps_nothing}
 use Rattle.tabletop.specs.Logged.{Begins, IsFull, PlayedTo, behind_leaves, resumed, start_of}
+use Rattle.tabletop.proofs.OpenParts.{is_full}
 use Rattle.tabletop.proofs.Resuming.{told_both}
-
--- ---- a log without room
-
-open_part-push : (text : List ℕ) (entries : List Entry) (e : Entry) → length (open_part text (entries ++ e ∷ [])) ≡ length (open_part text entries) + 5 + length (entry_bytes e)
-unfolding open_part
-open_part-push text entries e =
-    let more : flat_map record_bytes (entries ++ e ∷ []) ≡ flat_map record_bytes entries ++ record_bytes e =
-    flat_map-append record_bytes entries (e ∷ []) ∙ ap (λ (l : List ℕ). flat_map record_bytes entries ++ l) (append-nil (record_bytes e)) in
-    let long = length-append (to_be_bytes w32 (length (entry_bytes e))) (entry_bytes e) in
-    omega (arith, ap length more, length-append (flat_map record_bytes entries) (record_bytes e), length-append (head_bytes text) (flat_map record_bytes (entries ++ e ∷ [])), length-append (head_bytes text) (flat_map record_bytes entries), long)
-
-is_full : (text : List ℕ) (kept put whole : List Entry) (end : ℕ) → end ≡ length (open_part text (kept ++ put)) → HasNoRoom end put whole → IsFull text kept put whole
-is_full text kept put whole end end_at h = record {
-  next = h.next;
-  is_next = h.is_next;
-  far = omega (arith, h.far, end_at, open_part-push text (kept ++ put) h.next, ap (λ (es : List Entry). length (open_part text es)) (append_assoc kept put (h.next ∷ [])));
-}
 
 -- ---- the campaign behind the log's entries
 
