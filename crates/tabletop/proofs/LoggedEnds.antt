@@ -181,7 +181,7 @@ module _ {D : Type 0} (seen : D → List ℕ) (may_leave : D → List ℕ → Ty
     where
       by : BreaksFormat ended text ⊎ HasNoLog Tells ended text (seen old) → ⊥
       by (inl breaks) = let z : plain.BadCampaign breaks.0 ≡ plain.Usage = subst IsUsage breaks.1 u in cc
-      by (inr no) = no_log_not Tells ended text (seen old) u no
+      by (inr missing) = no_log_not Tells ended text (seen old) u missing
   text_not Tells end ended text script left out after old new u (inr runs) = follows_not runs.answer end ended (end_line runs.origin (runs.plays.kept ++ runs.plays.entries)) runs.before_end after u runs.follows
 
   job_not : (Tells DeskFailed : Type 0) (ended : LogEnded) (asked : Option AskedLogged) (texts : List ℕ → Option (List ℕ)) (script left out after : Option (List ℕ)) (old new : D) → IsUsage ended
@@ -193,7 +193,7 @@ module _ {D : Type 0} (seen : D → List ℕ) (may_leave : D → List ℕ → Ty
   pub usage_only : (Tells DeskFailed OutFailed : Type 0) (status : ℕ) (asked : Option AskedLogged) (texts : List ℕ → Option (List ℕ)) (script left out after : Option (List ℕ)) (old new : D)
       → HasEndedLogged seen may_leave moment left_since Tells status asked texts script left out after old new DeskFailed OutFailed → status ≡ 2 → asked ≡ None
   usage_only Tells DeskFailed OutFailed status asked texts script left out after old new h s =
-      job_not Tells DeskFailed h.ended asked texts script left h.before_line out old new (told_usage h.ended h.told h.is_told (two_usage h.told (sym h.status_is ∙ s))) h.ends
+      job_not Tells DeskFailed h.ended asked texts script left out h.before_line old new (told_usage h.ended h.told h.is_told (two_usage h.told (sym h.status_is ∙ s))) h.ends
 
   pub usage_is : (Tells DeskFailed OutFailed : Type 0) (status : ℕ) (asked : Option AskedLogged) (texts : List ℕ → Option (List ℕ)) (script left out after : Option (List ℕ)) (old new : D)
       → HasEndedLogged seen may_leave moment left_since Tells status asked texts script left out after old new DeskFailed OutFailed → asked ≡ None → status ≡ 2

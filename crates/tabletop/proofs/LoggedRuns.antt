@@ -51,13 +51,12 @@ module _ (first now last : Course) (kept : List Entry) (none : first.history ≡
     pub world_last : world_of last ≡ replay first.origin (kept ++ entries_since now last)
     world_last = λ i. replay (origin_last i) (all_entries i)
 
-    players_of : (answer : Played) (out after : Option (List ℕ)) (x : HasWritten answer (world_of now) (entries_since now last) out after) (p : ℕ) → 1 ≤ p → p ≤ 32
-        → AreWrittenOf answer (sent first.origin kept p ++ lines_behind p x.text) (machine (opening first.origin p) (trace first.origin (kept ++ entries_since now last) p))
-    players_of answer out after x p player small =
-        let w : Writes answer now last out after = writes answer now last out after opens_now g x in
-        subst (λ (o : World). AreWrittenOf answer (sent o kept p ++ lines_behind p x.text) (machine (opening first.origin p) (trace first.origin (kept ++ entries_since now last) p))) origin
-        (subst (λ (h : List Entry). AreWrittenOf answer (sent now.origin h p ++ lines_behind p x.text) (machine (opening first.origin p) (trace first.origin (kept ++ entries_since now last) p))) all_kept
-        (subst (λ (ls : List (List ℕ)). AreWrittenOf answer (sent now.origin now.history p ++ lines_behind p x.text) ls) (λ i. machine (opening (origin_last i) p) (trace (origin_last i) (all_entries i) p)) (w.players p player small)))
+    players_of : (answer : Played) (out after : Option (List ℕ)) (w : Writes answer now last out after) (p : ℕ) → 1 ≤ p → p ≤ 32
+        → AreWrittenOf answer (sent first.origin kept p ++ lines_behind p w.bytes.text) (machine (opening first.origin p) (trace first.origin (kept ++ entries_since now last) p))
+    players_of answer out after w p player small =
+        subst (λ (o : World). AreWrittenOf answer (sent o kept p ++ lines_behind p w.bytes.text) (machine (opening first.origin p) (trace first.origin (kept ++ entries_since now last) p))) origin
+        (subst (λ (h : List Entry). AreWrittenOf answer (sent now.origin h p ++ lines_behind p w.bytes.text) (machine (opening first.origin p) (trace first.origin (kept ++ entries_since now last) p))) all_kept
+        (subst (λ (ls : List (List ℕ)). AreWrittenOf answer (sent now.origin now.history p ++ lines_behind p w.bytes.text) ls) (λ i. machine (opening (origin_last i) p) (trace (origin_last i) (all_entries i) p)) (w.players p player small)))
 
     module _ {D : Type 0} (seen : D → List ℕ) (may_leave : D → List ℕ → Type 0) (moment : D → ℕ) (left_since : D → ℕ → List ℕ → Type 0) where
       pub played_to : (Tells : Type 0) (answer : Logged) (text : List ℕ) (script left out after : Option (List ℕ)) (old began new : D) (began_end new_end : ℕ)
@@ -71,6 +70,7 @@ module _ (first now last : Course) (kept : List Entry) (none : first.history ≡
       played_to Tells answer text script left out after old began new began_end new_end entered read wrote begins log full =
           let es : List Entry = entries_since now last in
           let w : World = replay first.origin kept in
+          let told_as : Writes (as_played answer) now last out after = writes (as_played answer) now last out after opens_now g wrote in
           record {
             plays = record {
               opens = opens;
@@ -78,8 +78,8 @@ module _ (first now last : Course) (kept : List Entry) (none : first.history ≡
               entries = es;
               entered = subst (λ (v : World). WhereTold script left (λ all rest. HasEntered (as_played answer) (resumed v all) es)) world_kept entered;
               read = subst (λ (v : World). WhereTold script left (λ all rest. HasRead (as_played answer) (start_of v) (behind_leaves v es) all rest)) world_kept read;
-              written = record { text = wrote.text; written = wrote.written; part = subst (λ (v : World). IsPartSent (as_played answer) v es wrote.text) world_kept wrote.part };
-              players = players_of (as_played answer) out after wrote;
+              written = record { text = told_as.bytes.text; written = told_as.bytes.written; part = subst (λ (v : World). IsPartSent (as_played answer) v es told_as.bytes.text) world_kept told_as.bytes.part };
+              players = players_of (as_played answer) out after told_as;
               machines = λ p. sent_is_machine first.origin (kept ++ es) p opens;
               log = λ told.
                   let begun : Begins seen may_leave moment left_since text kept old began began_end = begins told in
@@ -108,7 +108,7 @@ module _ (first now last : Course) (kept : List Entry) (none : first.history ≡
 -- ---- memory was wanting before the log's entries were entered again
 
 module _ (first last : Course) (kept : List Entry) (opens : IsOpening first.origin) where
-  kept_course : Course
+  abbrev kept_course : Course
   kept_course = record first { history = kept }
 
   nothing_more : entries_since kept_course kept_course ≡ []
@@ -120,6 +120,8 @@ module _ (first last : Course) (kept : List Entry) (opens : IsOpening first.orig
         → PlayedTo seen may_leave moment left_since Tells Memory text script script out out old began first last
     not_entered Tells text script out old began end begins only_now =
         let w : World = replay first.origin kept in
+        let told_as : Writes played.Memory kept_course kept_course out out =
+        writes played.Memory kept_course kept_course out out opens (stays kept_course) (wrote_nothing played.Memory w (entries_since kept_course kept_course) out nothing_more) in
         record {
           plays = record {
             opens = opens;
@@ -127,12 +129,9 @@ module _ (first last : Course) (kept : List Entry) (opens : IsOpening first.orig
             entries = [];
             entered = told_same (λ all rest. HasEntered played.Memory (resumed w all) []) script (λ all. prefix_part [] (resumed w all).entries);
             read = told_same (λ all rest. HasRead played.Memory (start_of w) (behind_leaves w []) all rest) script (λ all. tt);
-            written = wrote_nothing played.Memory w [] out refl;
+            written = record { text = told_as.bytes.text; written = told_as.bytes.written; part = subst (λ (es : List Entry). IsPartSent played.Memory w es told_as.bytes.text) nothing_more told_as.bytes.part };
             players = λ p player small.
-                let x : HasWritten played.Memory w [] out out = wrote_nothing played.Memory w [] out refl in
-                let y : HasWritten played.Memory (world_of kept_course) (entries_since kept_course kept_course) out out = record { text = x.text; written = x.written; part = subst (λ (es : List Entry). IsPartSent played.Memory w es x.text) (sym nothing_more) x.part } in
-                let z : Writes played.Memory kept_course kept_course out out = writes played.Memory kept_course kept_course out out opens (stays kept_course) y in
-                subst (λ (es : List Entry). AreWrittenOf played.Memory (sent first.origin kept p ++ lines_behind p x.text) (machine (opening first.origin p) (trace first.origin es p))) (sym (append-nil kept)) (z.players p player small);
+                subst (λ (es : List Entry). AreWrittenOf played.Memory (sent first.origin kept p ++ lines_behind p told_as.bytes.text) (machine (opening first.origin p) (trace first.origin es p))) (sym (append-nil kept)) (told_as.players p player small);
             machines = λ p. sent_is_machine first.origin (kept ++ []) p opens;
             log = λ told.
                 let begun : Begins seen may_leave moment left_since text kept old began end = begins told in

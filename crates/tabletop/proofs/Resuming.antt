@@ -1,6 +1,6 @@
 -- A script that is played behind the Leaves of who was there.
 use Rattle.std.proofs.Common.{◌≡◌, ℕ, ◌≤◌, List, [], ◌∷◌, ◌++◌, length, drop, refl, sym, ◌∙◌, ap, subst, append_assoc}
-use Rattle.std.specs.Prelude.{Option}
+use Rattle.std.specs.Prelude.{Option, Some, None}
 use Rattle.std.proofs.lemmas.List.{append-nil, drop_at}
 use Rattle.line_io.specs.Told.{WhereTold}
 use Rattle.line_io.proofs.ToldLemmas.{append_known-nil}
