@@ -47,7 +47,7 @@ pub enum Job<'a> {
     },
 }
 
-fn is_file(name: &str) -> bool
+pub(crate) fn is_file(name: &str) -> bool
     ensures { result ≡ is_file_text name.now }
 {
     match name.as_bytes() {
@@ -56,7 +56,7 @@ fn is_file(name: &str) -> bool
     }
 }
 
-fn is_end(word: &str) -> bool
+pub(crate) fn is_end(word: &str) -> bool
     ensures { result ≡ is_end_text word.now }
 {
     word == "--end"

@@ -8,14 +8,14 @@ use crate::forms::{Job, check, compare, drill, play, serve, verify};
 use clap::{Arg, ArgAction, ArgMatches, Command, Error};
 use std::alloc::Global;
 
-fn value<'a>(alloc: Global, name: &'a str) -> Arg<'a>
+pub(crate) fn value<'a>(alloc: Global, name: &'a str) -> Arg<'a>
     ensures rule { rule_of result ≡ value_rule name.now }
     ensures local { result.global ≡ false }
 {
     Arg::new(alloc, name).required(true).action(ArgAction::Set)
 }
 
-fn end<'a>(alloc: Global) -> Arg<'a>
+pub(crate) fn end<'a>(alloc: Global) -> Arg<'a>
     ensures rule { rule_of result ≡ end_rule }
     ensures local { result.global ≡ false }
 {
@@ -24,7 +24,7 @@ fn end<'a>(alloc: Global) -> Arg<'a>
         .action(ArgAction::SetTrue)
 }
 
-fn plain<'a>(alloc: Global, name: &'a str) -> Command<'a>
+pub(crate) fn plain<'a>(alloc: Global, name: &'a str) -> Command<'a>
     ensures app { app_of result ≡ plain_app name.now }
     ensures local { (fields_of result).has_globals ≡ false }
 {

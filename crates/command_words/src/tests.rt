@@ -111,7 +111,7 @@ const ROWS: [(&str, Result<Job<'static>, WordsFault>); 38] = [
     ("serve a 80 1025", NO_FORM),
 ];
 
-fn parted(alloc: Global, words: &str) -> Result<Vec<String>, Fail> {
+pub(crate) fn parted(alloc: Global, words: &str) -> Result<Vec<String>, Fail> {
     let mut list = Vec::new(alloc);
     for word in words.split(' ') {
         list.push(String::from_str(alloc, word)?)?;

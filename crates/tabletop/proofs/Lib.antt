@@ -6,3 +6,9 @@ mod Services
 mod ServeLemmas
 mod DrillScripts
 pub mod DrillLemmas
+pub mod Leaves
+mod OpenParts
+mod Starting
+mod Resuming
+mod LoggedRuns
+mod LoggedEnds

@@ -7,3 +7,5 @@ pub mod Answered
 pub mod Fetches
 pub mod Ends
 pub mod ServeEnds
+pub mod LogEndings
+pub mod Logged
