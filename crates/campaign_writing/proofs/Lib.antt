@@ -18,5 +18,5 @@ pub mod Keys
 pub mod Members
 pub mod Exposed
 pub mod OwnerLists
-pub mod TokenMembers
+pub mod PutMembers
 pub mod ReadWorlds

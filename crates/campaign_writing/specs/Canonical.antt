@@ -3,11 +3,11 @@ use Rattle.std.specs.Prelude.{ℕ, List, map, codes}
 use Rattle.hex.specs.Hex.{encode_lower}
 use Rattle.seats.specs.Book.{Book}
 use Rattle.seats.specs.declared.seat_state.SeatState.TheVariants.{Free}
-use Rattle.serde_json.specs.Data.{Data, string, object, no_members, member}
+use Rattle.serde_json.specs.Data.{Data, Members, string, object, no_members, member}
 use Rattle.serde_json.specs.Written.{compact_text}
 use Rattle.world.specs.Scene.{Scene}
 use Rattle.world.specs.World.{World}
-use Rattle.campaign_writing.specs.Trees.{whole, list, named}
+use Rattle.campaign_writing.specs.Trees.{whole, list, named, with_member}
 use Rattle.campaign_writing.specs.Scenes.{lights_tree, sights_tree, maps_tree, tokens_tree, fog_tree}
 
 abbrev pub tags_tree : List (List ℕ) → Data
@@ -25,6 +25,16 @@ seat_tree s book = object
     (member (codes "seed") (string (encode_lower book.seed))
     (member (codes "tags") (tags_tree book.tags) no_members))))))
 
+-- its members as they are put in, one after the other
+unfoldable pub seat_members : Scene → Book → Members
+seat_members s book =
+    with_member (codes "tags") (tags_tree book.tags)
+    (with_member (codes "seed") (string (encode_lower book.seed))
+    (with_member (codes "macros") (macros_tree book.macros)
+    (with_member (codes "key") (string book.key)
+    (with_member (codes "fog") (fog_tree s book.seat)
+    (with_member (codes "drawn") (whole book.drawn) no_members)))))
+
 abbrev pub seats_tree : Scene → List Book → Data
 seats_tree s books = list (map (seat_tree s) books)
 
@@ -36,6 +46,16 @@ campaign_tree w = object
     (member (codes "seats") (seats_tree w.scene w.books)
     (member (codes "sights") (sights_tree w.scene.sights)
     (member (codes "tokens") (tokens_tree w.scene.tokens) no_members))))))
+
+-- its members as they are put in, one after the other
+unfoldable pub campaign_members : World → Members
+campaign_members w =
+    with_member (codes "tokens") (tokens_tree w.scene.tokens)
+    (with_member (codes "sights") (sights_tree w.scene.sights)
+    (with_member (codes "seats") (seats_tree w.scene w.books)
+    (with_member (codes "maps") (maps_tree w.scene.maps)
+    (with_member (codes "lights") (lights_tree w.scene.lights)
+    (with_member (codes "format") (whole 1) no_members)))))
 
 -- the campaign text of the world. Lines and the states of seats don't stand in it
 unfoldable pub canonical : World → List ℕ

@@ -55,6 +55,18 @@ map_tree m = object
     (member (codes "vbl") (walls_tree m.walls.vbl)
     (member (codes "w") (whole m.walls.extent.w) no_members))))))))
 
+-- its members as they are put in, one after the other
+unfoldable pub map_members : Grid → Members
+map_members m =
+    with_member (codes "w") (whole m.walls.extent.w)
+    (with_member (codes "vbl") (walls_tree m.walls.vbl)
+    (with_member (codes "shown") (boolean m.shown)
+    (with_member (codes "rows") (rows_tree m)
+    (with_member (codes "name") (string m.name)
+    (with_member (codes "mode") (string (mode_word m.mode))
+    (with_member (codes "mbl") (walls_tree m.walls.mbl)
+    (with_member (codes "h") (whole m.walls.extent.h) no_members)))))))
+
 abbrev pub maps_tree : List Grid → Data
 maps_tree maps = list (map map_tree maps)
 

@@ -1,8 +1,8 @@
 //! The campaign text of a world.
 ghost use Rattle.std.specs.Prelude.{◌≡◌, Ok, IfOk, OnOk};
-ghost use Rattle.serde_json.specs.View.{view};
+ghost use Rattle.serde_json.specs.View.{view, members_view};
 ghost use Rattle.campaign_file.specs.Campaign.{campaign_of};
-ghost use Rattle.campaign_writing.specs.Canonical.{campaign_tree, canonical, reopened};
+ghost use Rattle.campaign_writing.specs.Canonical.{campaign_members as campaign_members_lem, campaign_tree, canonical, reopened};
 ghost use Rattle.campaign_writing.specs.Kept.{IsKept};
 ghost use Rattle.campaign_writing.specs.Laws.{ReadIsWritten};
 ghost use Rattle.campaign_writing.specs.Written.{IsWritten};
@@ -12,32 +12,46 @@ use crate::map_values::maps_value;
 use crate::seat_values::seats_value;
 use crate::token_values::tokens_value;
 use crate::type_values::{lights_value, sights_value};
+use crate::values::put_member;
 use json_fields::compact_line;
 use names::{LineText, Memory};
 use seats::SeatBook;
-use serde_json::{Value, json};
+use serde_json::{Map, Value};
 use std::alloc::{AllocError, Global};
 use world::{Scene, World};
 
+/// The members of the campaign text.
+#[tactic(auto, unfolding(crate::specs::Canonical::campaign_members))]
+fn campaign_members(
+    alloc: Global,
+    scene: &Scene,
+    books: &[SeatBook],
+) -> Result<Map<String, Value>, AllocError>
+    ensures tree { IfOk result (λ members. members_view members.entries ≡ campaign_members_lem (record { scene = scene.now; books = books.now })) }
+    ensures kept { IsWorld (record { scene = scene.now; books = books.now }) → OnOk result (IsKept (record { scene = scene.now; books = books.now })) }
+{
+    let mut members = Map::new(alloc);
+    put_member(&mut members, alloc, "format", Value::from(1u8))?;
+    let lights = lights_value(alloc, scene.lights())?;
+    put_member(&mut members, alloc, "lights", lights)?;
+    let maps = maps_value(alloc, scene.maps())?;
+    put_member(&mut members, alloc, "maps", maps)?;
+    let seats = seats_value(alloc, scene, books)?;
+    put_member(&mut members, alloc, "seats", seats)?;
+    let sights = sights_value(alloc, scene.sights())?;
+    put_member(&mut members, alloc, "sights", sights)?;
+    let tokens = tokens_value(alloc, scene.tokens())?;
+    put_member(&mut members, alloc, "tokens", tokens)?;
+    Ok(members)
+}
+
 /// The campaign text of a scene and its seats' books as a JSON value, or want of memory.
-#[tactic(auto, unfolding(crate::specs::Canonical::campaign_tree))]
 pub fn campaign_value(alloc: Global, scene: &Scene, books: &[SeatBook]) -> Result<Value, AllocError>
     ensures tree { IfOk result (λ v. view v ≡ campaign_tree (record { scene = scene.now; books = books.now })) }
     ensures kept { IsWorld (record { scene = scene.now; books = books.now }) → OnOk result (IsKept (record { scene = scene.now; books = books.now })) }
 {
-    let lights = lights_value(alloc, scene.lights())?;
-    let maps = maps_value(alloc, scene.maps())?;
-    let seats = seats_value(alloc, scene, books)?;
-    let sights = sights_value(alloc, scene.sights())?;
-    let tokens = tokens_value(alloc, scene.tokens())?;
-    json!(in alloc; {
-        "format": 1u8,
-        "lights": lights,
-        "maps": maps,
-        "seats": seats,
-        "sights": sights,
-        "tokens": tokens
-    })
+    let members = campaign_members(alloc, scene, books)?;
+    Ok(Value::Object(members))
 }
 
 /// The canonical campaign text of a world, in one line without its end. `Memory` is want of memory.

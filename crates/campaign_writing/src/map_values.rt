@@ -1,16 +1,16 @@
 //! Maps as values of the campaign text.
 ghost use Rattle.std.specs.Prelude.{◌≡◌, ◌<◌, IfOk, OnOk};
 ghost use Rattle.serde_json.specs.Data.{string};
-ghost use Rattle.serde_json.specs.View.{view};
+ghost use Rattle.serde_json.specs.View.{view, members_view};
 ghost use Rattle.topology.specs.WallLists.{AreWalls, walls_of};
 ghost use Rattle.campaign_writing.specs.Kept.{AreKeptMaps, IsKeptMap};
-ghost use Rattle.campaign_writing.specs.Scenes.{map_tree, maps_tree, row_letters, rows_tree, wall_tree, walls_tree};
+ghost use Rattle.campaign_writing.specs.Scenes.{map_members as map_members_lem, map_tree, maps_tree, row_letters, rows_tree, wall_tree, walls_tree};
 
-use crate::values::name;
+use crate::values::{name, put_member};
 use cells::Cell;
 use maps::{GridMap, MapTable};
 use names::WallKind;
-use serde_json::{Value, json};
+use serde_json::{Map, Value, json};
 use std::alloc::{AllocError, Global};
 use topology::{Wall, Walls};
 
@@ -54,25 +54,45 @@ fn rows(alloc: Global, map: &GridMap) -> Result<Value, AllocError>
     Ok(Value::Array(list))
 }
 
-#[tactic(auto, unfolding(crate::specs::Scenes::map_tree))]
+#[tactic(auto, unfolding(crate::specs::Scenes::map_members))]
+fn map_members(alloc: Global, map: &GridMap) -> Result<Map<String, Value>, AllocError>
+    ensures tree { IfOk result (λ members. members_view members.entries ≡ map_members_lem map.now) }
+    ensures kept { OnOk result (IsKeptMap map.now) }
+{
+    let mut members = Map::new(alloc);
+    put_member(&mut members, alloc, "h", Value::from(map.size().h()))?;
+    put_member(
+        &mut members,
+        alloc,
+        "mbl",
+        walls(alloc, map.walls(), WallKind::Mbl)?,
+    )?;
+    put_member(&mut members, alloc, "mode", word(alloc, map.mode().word())?)?;
+    put_member(&mut members, alloc, "name", name(alloc, map.name())?)?;
+    put_member(&mut members, alloc, "rows", rows(alloc, map)?)?;
+    put_member(&mut members, alloc, "shown", Value::Bool(map.shown()))?;
+    put_member(
+        &mut members,
+        alloc,
+        "vbl",
+        walls(alloc, map.walls(), WallKind::Vbl)?,
+    )?;
+    put_member(&mut members, alloc, "w", Value::from(map.size().w()))?;
+    Ok(members)
+}
+
 fn map_value(alloc: Global, map: &GridMap) -> Result<Value, AllocError>
     ensures tree { IfOk result (λ v. view v ≡ map_tree map.now) }
     ensures kept { OnOk result (IsKeptMap map.now) }
 {
-    let name = name(alloc, map.name())?;
-    let mbl = walls(alloc, map.walls(), WallKind::Mbl)?;
-    let vbl = walls(alloc, map.walls(), WallKind::Vbl)?;
-    let rows = rows(alloc, map)?;
-    json!(in alloc; {
-        "h": map.size().h(),
-        "mbl": mbl,
-        "mode": map.mode().word(),
-        "name": name,
-        "rows": rows,
-        "shown": map.shown(),
-        "vbl": vbl,
-        "w": map.size().w()
-    })
+    let members = map_members(alloc, map)?;
+    Ok(Value::Object(members))
+}
+
+fn word(alloc: Global, word: &str) -> Result<Value, AllocError>
+    ensures { IfOk result (λ v. view v ≡ string word.now) }
+{
+    json!(in alloc; word)
 }
 
 /// The maps, in byte order of their names.

@@ -2,13 +2,13 @@
 ghost use Rattle.std.specs.Prelude.{◌≡◌, length, IfOk, OnOk};
 ghost use Rattle.std.specs.List.{AllByRecursion};
 ghost use Rattle.serde_json.specs.Data.{string};
-ghost use Rattle.serde_json.specs.View.{view};
+ghost use Rattle.serde_json.specs.View.{view, members_view};
 ghost use Rattle.hex.specs.Hex.{encode_lower, IsBytes};
-ghost use Rattle.campaign_writing.specs.Canonical.{macros_tree, seat_tree, seats_tree, tags_tree};
+ghost use Rattle.campaign_writing.specs.Canonical.{macros_tree, seat_members as seat_members_lem, seat_tree, seats_tree, tags_tree};
 ghost use Rattle.campaign_writing.specs.Kept.{AreKeptMacros, AreKeptTags, IsKeptBook};
 
 use crate::fog_values::fog_value;
-use crate::values::{name, put_named, text_value};
+use crate::values::{name, put_member, put_named, text_value};
 use seats::SeatBook;
 use serde_json::{Map, Value, json};
 use std::alloc::{AllocError, Global};
@@ -47,23 +47,34 @@ fn macros(alloc: Global, book: &SeatBook) -> Result<Value, AllocError>
     Ok(Value::Object(members))
 }
 
-#[tactic(auto, unfolding(crate::specs::Canonical::seat_tree))]
+/// The members of a seat.
+#[tactic(auto, unfolding(crate::specs::Canonical::seat_members))]
+fn seat_members(
+    alloc: Global,
+    scene: &Scene,
+    book: &SeatBook,
+) -> Result<Map<String, Value>, AllocError>
+    ensures tree { IfOk result (λ members. members_view members.entries ≡ seat_members_lem scene.now book.now) }
+    ensures kept { OnOk result (IsKeptBook book.now) }
+{
+    let mut members = Map::new(alloc);
+    put_member(&mut members, alloc, "drawn", Value::from(book.drawn()))?;
+    let fog = fog_value(alloc, scene, book.seat())?;
+    put_member(&mut members, alloc, "fog", fog)?;
+    put_member(&mut members, alloc, "key", text_value(alloc, book.key())?)?;
+    put_member(&mut members, alloc, "macros", macros(alloc, book)?)?;
+    put_member(&mut members, alloc, "seed", seed(alloc, book)?)?;
+    put_member(&mut members, alloc, "tags", tags(alloc, book)?)?;
+    Ok(members)
+}
+
+/// A seat.
 fn seat_value(alloc: Global, scene: &Scene, book: &SeatBook) -> Result<Value, AllocError>
     ensures tree { IfOk result (λ v. view v ≡ seat_tree scene.now book.now) }
     ensures kept { OnOk result (IsKeptBook book.now) }
 {
-    let fog = fog_value(alloc, scene, book.seat())?;
-    let macros = macros(alloc, book)?;
-    let seed = seed(alloc, book)?;
-    let tags = tags(alloc, book)?;
-    json!(in alloc; {
-        "drawn": book.drawn(),
-        "fog": fog,
-        "key": book.key().text(),
-        "macros": macros,
-        "seed": seed,
-        "tags": tags
-    })
+    let members = seat_members(alloc, scene, book)?;
+    Ok(Value::Object(members))
 }
 
 /// The seats, in order of their numbers.

@@ -1,4 +1,7 @@
+pub mod AnswerLemmas
 pub mod EndsLemmas
+pub mod FetchLemmas
+mod AnsweredRuns
 mod Services
 mod ServeLemmas
 mod DrillScripts

@@ -3,6 +3,8 @@ pub mod Counts
 pub mod Endings
 pub mod Printing
 pub mod Drilled
+pub mod Answered
+pub mod Fetches
 pub mod Ends
 pub mod ServeEnds
 pub mod LogEndings

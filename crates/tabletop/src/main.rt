@@ -3,7 +3,9 @@
 
 ghost use Rattle.std.specs.Prelude.{◌≡◌, IfOk};
 
+mod answers;
 mod checking;
+mod comparing;
 mod drilling;
 mod endings;
 mod files;
@@ -20,6 +22,7 @@ mod serve;
 #[cfg(test)]
 mod tests;
 mod top;
+mod verifying;
 
 use crash_log::FileDisk;
 pub use endings::Ended;

@@ -1,0 +1,10 @@
+mod Settled
+mod Whole
+mod DiceTurns
+mod DiceLaws
+mod Written
+mod LevelTurns
+mod WordTurns
+mod RollTurns
+mod MacroTurns
+mod MacroLaws
