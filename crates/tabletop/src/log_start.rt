@@ -1,5 +1,5 @@
 //! The log of a run as it starts: it is made or recovered, its entries are entered again, and who was there has left.
-ghost use Rattle.std.specs.Prelude.{◌≡◌, ◌≤◌, ◌<◌, ◌++◌, [], length, IfOk, IfErr, IsErr, IsErrOf, OnOk, OnErr};
+ghost use Rattle.std.specs.Prelude.{◌≡◌, ◌≤◌, ◌<◌, ◌++◌, ◌∷◌, [], length, IfOk, IfErr, IsErr, IsErrOf, OnOk, OnErr};
 ghost use Rattle.line_io.specs.Counts.{CountRose};
 ghost use Rattle.campaign_law.specs.World.{seat_at};
 ghost use Rattle.campaign_law.specs.Law.{world_of};
@@ -160,7 +160,14 @@ fn add_leave<E: Eye + Drop>(
     if campaign.state(seat).is_free() {
         return Ok(());
     }
-    match entries.push(Entry::Leave { seat, drop: true }) {
+    put(entries, Entry::Leave { seat, drop: true })?;
+    Ok(())
+}
+
+fn put(entries: &mut Vec<Entry>, entry: Entry) -> Result<(), Memory>
+    ensures { OnOk result (entries.new.items ≡ entries.old.items ++ entry ∷ []) }
+{
+    match entries.push(entry) {
         Ok(()) => Ok(()),
         Err(_) => Err(Memory),
     }

@@ -95,7 +95,9 @@ fn logged_job<D: Desk, S: Source, O: Sink, K: Disk>(
     ensures out_count { O.faults_of out.old ≤ O.faults_of out.new }
 {
     match read_logged_words(alloc, words) {
-        Ok(play) => play_file_logged(alloc, play, desk, script, out, disk),
+        Ok(LoggedPlay { file, log, end }) => {
+            play_file_logged(alloc, file, log, end, desk, script, out, disk)
+        }
         Err(WordsFault::Usage) => LogEnded::Usage,
         Err(WordsFault::Memory) => LogEnded::Plain(Ended::Memory),
     }
@@ -104,22 +106,24 @@ fn logged_job<D: Desk, S: Source, O: Sink, K: Disk>(
 // On the campaign of this file, with this log.
 fn play_file_logged<D: Desk, S: Source, O: Sink, K: Disk>(
     alloc: Global,
-    play: LoggedPlay<'_>,
+    file: &str,
+    log: &str,
+    end: bool,
     desk: &mut D,
     script: &mut S,
     out: &mut O,
     disk: &mut K,
 ) -> LogEnded
-    ensures ends { FileLogs K.seen K.may_leave K.moment K.left_since K.tells (CountRose (D.faults_of desk.old) (D.faults_of desk.new)) play.end result
-        (D.text_of desk.old play.file.now) (S.left script.old) (S.left script.new) (O.written out.old) (O.written out.new) disk.old disk.new }
+    ensures ends { FileLogs K.seen K.may_leave K.moment K.left_since K.tells (CountRose (D.faults_of desk.old) (D.faults_of desk.new)) end result
+        (D.text_of desk.old file.now) (S.left script.old) (S.left script.new) (O.written out.old) (O.written out.new) disk.old disk.new }
     ensures read_fault { result ≡ LogEnded.Plain Ended.ReadFault
         → CountRose (D.faults_of desk.old) (D.faults_of desk.new) ⊎ CountRose (S.faults_of script.old) (S.faults_of script.new) }
     ensures write_fault { result ≡ LogEnded.Plain Ended.WriteFault → CountRose (O.faults_of out.old) (O.faults_of out.new) }
     ensures disk_fault { result ≡ LogEnded.DiskFault → CountRose (K.faults_of disk.old) (K.faults_of disk.new) }
     ensures out_count { O.faults_of out.old ≤ O.faults_of out.new }
 {
-    match desk.fetch(play.file) {
-        Ok(text) => play_text_logged(alloc, play.log, play.end, &text, script, out, disk),
+    match desk.fetch(file) {
+        Ok(text) => play_text_logged(alloc, log, end, &text, script, out, disk),
         Err(fault) => LogEnded::Plain(not_fetched(fault)),
     }
 }

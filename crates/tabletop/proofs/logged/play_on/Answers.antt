@@ -3,6 +3,8 @@ use Rattle.std.specs.List.{AllByRecursion}
 use Rattle.campaign_law.specs.declared.entry.Entry.{Entry}
 use Rattle.campaign_law.specs.Law.{world_of}
 use Rattle.script_play.specs.Played.{HasEntered, HasRead, IsPrefix, entries_since}
+use Rattle.script_play.specs.declared.run.Played.TheVariants as played
+use Rattle.script_play.proofs.Fronts.{wrote_nothing}
 use Rattle.script_play.proofs.AfterEntry.{nothing_since, prefix_none, stays}
 use Rattle.script_play.proofs.LineRuns.{goes_both}
 use Rattle.script_play.proofs.Reading.{told_same}
@@ -20,39 +22,39 @@ log_all-requires-clause-short g c = subst (AllByRecursion IsShort) (sym c.in-Ok.
 
 pub play_logged-requires-clause-quiet : goal.play_logged-requires-clause-quiet
 play_logged-requires-clause-quiet g c =
-    on_quiet c.args.campaign.now c.log_all.new.campaign c.log_all.new.campaign c.in-Ok.due.items c.log_all.ensures.campaign (stays c.log_all.new.campaign) c.in-Ok.ensures c.in-Ok-2.ensures.entered c.requires.opening
+    on_quiet c.args.campaign.now c.log_all.new.campaign c.log_all.new.campaign c.in-Ok.due.items c.log_all.ensures.campaign (stays c.log_all.new.campaign) c.in-Ok.ensures c.in-Ok-log_all.ensures.entered c.requires.opening
 
 pub play_logged-requires-clause-journal : goal.play_logged-requires-clause-journal
 play_logged-requires-clause-journal g c = λ told.
-    still_disks g.K.Disk.seen g.K.Disk.may_leave g.K.Disk.moment g.K.Disk.left_since _ _ c.args.disk.now c.log_all.new.disk c.args.journal.now c.log_all.new.journal (c.requires.journal told) (c.in-Ok-2.ensures.log told)
+    still_disks g.K.Disk.seen g.K.Disk.may_leave g.K.Disk.moment g.K.Disk.left_since _ _ c.args.disk.now c.log_all.new.disk c.args.journal.now c.log_all.new.journal (c.requires.journal told) (c.in-Ok-log_all.ensures.log told)
 
-pub returns-in-Ok-clause-campaign : goal.returns-in-Ok-clause-campaign
-returns-in-Ok-clause-campaign g c = goes_both c.args.campaign.now c.log_all.new.campaign c.play_logged.new.campaign c.log_all.ensures.campaign c.play_logged.ensures.campaign
+pub returns-in-Ok-log_all-clause-campaign : goal.returns-in-Ok-log_all-clause-campaign
+returns-in-Ok-log_all-clause-campaign g c = goes_both c.args.campaign.now c.log_all.new.campaign c.play_logged.new.campaign c.log_all.ensures.campaign c.play_logged.ensures.campaign
 
-pub returns-in-Ok-clause-entered : goal.returns-in-Ok-clause-entered
-returns-in-Ok-clause-entered g c =
-    on_entered c.args.campaign.now c.log_all.new.campaign c.play_logged.new.campaign c.in-Ok.due.items c.log_all.ensures.campaign c.play_logged.ensures.campaign c.in-Ok.ensures c.in-Ok-2.ensures.entered
+pub returns-in-Ok-log_all-clause-entered : goal.returns-in-Ok-log_all-clause-entered
+returns-in-Ok-log_all-clause-entered g c =
+    on_entered c.args.campaign.now c.log_all.new.campaign c.play_logged.new.campaign c.in-Ok.due.items c.log_all.ensures.campaign c.play_logged.ensures.campaign c.in-Ok.ensures c.in-Ok-log_all.ensures.entered
     (as_played c.play_logged.result) _ _ c.play_logged.ensures.entered
 
-pub returns-in-Ok-clause-read : goal.returns-in-Ok-clause-read
-returns-in-Ok-clause-read g c =
-    on_read c.args.campaign.now c.log_all.new.campaign c.play_logged.new.campaign c.in-Ok.due.items c.log_all.ensures.campaign c.play_logged.ensures.campaign c.in-Ok.ensures c.in-Ok-2.ensures.entered
+pub returns-in-Ok-log_all-clause-read : goal.returns-in-Ok-log_all-clause-read
+returns-in-Ok-log_all-clause-read g c =
+    on_read c.args.campaign.now c.log_all.new.campaign c.play_logged.new.campaign c.in-Ok.due.items c.log_all.ensures.campaign c.play_logged.ensures.campaign c.in-Ok.ensures c.in-Ok-log_all.ensures.entered
     (as_played c.play_logged.result) _ _ c.play_logged.ensures.read
 
-pub returns-in-Ok-clause-written : goal.returns-in-Ok-clause-written
-returns-in-Ok-clause-written g c =
-    on_written c.args.campaign.now c.log_all.new.campaign c.play_logged.new.campaign c.in-Ok.due.items c.log_all.ensures.campaign c.play_logged.ensures.campaign c.in-Ok.ensures c.in-Ok-2.ensures.entered
+pub returns-in-Ok-log_all-clause-written : goal.returns-in-Ok-log_all-clause-written
+returns-in-Ok-log_all-clause-written g c =
+    on_written c.args.campaign.now c.log_all.new.campaign c.play_logged.new.campaign c.in-Ok.due.items c.log_all.ensures.campaign c.play_logged.ensures.campaign c.in-Ok.ensures c.in-Ok-log_all.ensures.entered
     (as_played c.play_logged.result) _ _ (opening_settled c.args.campaign.now c.requires.opening) c.play_logged.ensures.written.bytes
 
-pub returns-in-Ok-clause-log : goal.returns-in-Ok-clause-log
-returns-in-Ok-clause-log g c = λ told text before holds.
-    on_log c.args.campaign.now c.log_all.new.campaign c.play_logged.new.campaign c.in-Ok.due.items c.log_all.ensures.campaign c.play_logged.ensures.campaign c.in-Ok.ensures c.in-Ok-2.ensures.entered
+pub returns-in-Ok-log_all-clause-log : goal.returns-in-Ok-log_all-clause-log
+returns-in-Ok-log_all-clause-log g c = λ told text before holds.
+    on_log c.args.campaign.now c.log_all.new.campaign c.play_logged.new.campaign c.in-Ok.due.items c.log_all.ensures.campaign c.play_logged.ensures.campaign c.in-Ok.ensures c.in-Ok-log_all.ensures.entered
     g.K.Disk.seen g.K.Disk.may_leave g.K.Disk.moment g.K.Disk.left_since c.play_logged.result _ _ c.args.disk.now c.log_all.new.disk c.play_logged.new.disk c.args.journal.now c.log_all.new.journal c.play_logged.new.journal text before
-    (c.in-Ok-2.ensures.log told) holds (λ front h. c.play_logged.ensures.any_moment told text front h) (λ front h. c.play_logged.ensures.kept told text front h) (λ front h. c.play_logged.ensures.holds told text front h)
+    (c.in-Ok-log_all.ensures.log told) holds (λ front h. c.play_logged.ensures.any_moment told text front h) (λ front h. c.play_logged.ensures.kept told text front h) (λ front h. c.play_logged.ensures.holds told text front h)
 
-pub returns-in-Ok-clause-full : goal.returns-in-Ok-clause-full
-returns-in-Ok-clause-full g c = λ is.
-    on_full c.args.campaign.now c.log_all.new.campaign c.play_logged.new.campaign c.in-Ok.due.items c.log_all.ensures.campaign c.play_logged.ensures.campaign c.in-Ok.ensures c.in-Ok-2.ensures.entered
+pub returns-in-Ok-log_all-clause-full : goal.returns-in-Ok-log_all-clause-full
+returns-in-Ok-log_all-clause-full g c = λ is.
+    on_full c.args.campaign.now c.log_all.new.campaign c.play_logged.new.campaign c.in-Ok.due.items c.log_all.ensures.campaign c.play_logged.ensures.campaign c.in-Ok.ensures c.in-Ok-log_all.ensures.entered
     c.play_logged.new.journal _ _ (c.play_logged.ensures.full is)
 
 -- ---- a stop within the Leaves
@@ -97,6 +99,9 @@ pub returns-in_default-clause-entered : goal.returns-in_default-clause-entered
 returns-in_default-clause-entered g c =
     let now = c.args.campaign.now in
     told_same (λ all rest. IsPrefix (entries_since now now) (resumed (world_of now) all).entries) (g.S.Source.left c.args.script.now) (λ all. prefix_none _ _ (nothing_since now))
+
+pub returns-in_default-clause-written : goal.returns-in_default-clause-written
+returns-in_default-clause-written g c = let now = c.args.campaign.now in wrote_nothing played.Memory (world_of now) (entries_since now now) _ (nothing_since now)
 
 pub returns-in_default-clause-log : goal.returns-in_default-clause-log
 returns-in_default-clause-log g c = λ told text before holds.
