@@ -2,7 +2,7 @@
 
     python3 -m unittest examples/test_runs.py
 
-A file of runs/ is a list of runs. A run begins with a line "== NAME"; a line "words WORD.." has the words, with campaigns of runs/; "status N" the
+A file of runs/ is a list of runs. A run begins with a line "== NAME"; a line "words WORD.." has the words, with files of runs/; "status N" the
 status, where it isn't 0; each line behind "> " is one of the script, and each behind "< " one that is printed, with a space for the TAB behind
 a seat's number.
 """
@@ -18,7 +18,10 @@ from dataclasses import dataclass, field
 HERE = pathlib.Path(__file__).resolve().parent
 RUNS = HERE / "runs"
 PROGRAM = os.environ.get("TABLETOP", str(HERE.parent / "crates" / "tabletop" / "out" / "tabletop"))
-USAGE = "tabletop: usage: play FILE [--end], check FILE, drill N LINES, serve FILE PORT COUNT [--end]\n"
+USAGE = (
+    "tabletop: usage: play FILE [--end], check FILE, drill N LINES, serve FILE PORT COUNT [--end], verify FILE SCRIPT SEAT TRANSCRIPT, "
+    "compare FILE SCRIPT FILE SCRIPT SEAT\n"
+)
 HELLO = '1 {"do":"hello","seat":1,"key":"a"}'
 JOINED = '1 {"n":1,"ok":"hello","seat":1,"seats":3}\n1 {"full":{"lights":{},"maps":[],"sights":{},"tokens":[]}}\n'
 
@@ -128,6 +131,9 @@ class Runs(unittest.TestCase):
     def test_checks(self):
         self.check("checks.txt")
 
+    def test_verdicts(self):
+        self.check("verdicts.txt")
+
     def test_what_is_unseen_changes_no_roll(self):
         runs = {run.name: run for run in runs_of("plays.txt")}
         alone, among = (runs[name] for name in ("a roll alone", "a roll after what the game master did unseen"))
@@ -154,10 +160,14 @@ class Runs(unittest.TestCase):
 
     def test_a_campaign_has_a_limit(self):
         (self.folder / "large.json").write_bytes(b" " * 16_777_217)
-        self.assertEqual(ran(["play", "large.json"], folder=self.folder), (8, "tabletop: too large\n"))
+        (self.folder / "small").touch()
+        words = ("play large.json", "verify small small 1 large.json", "compare small small small large.json 1")
+        for line in words:
+            with self.subTest(line):
+                self.assertEqual(ran(line.split(), folder=self.folder), (8, "tabletop: too large\n"))
 
     def test_other_words_are_a_usage_fault(self):
-        for words in ("play", "play -table.json", "check table.json --end", "drill 7 4"):
+        for words in ("play", "play -table.json", "check table.json --end", "drill 7 4", "verify a b 0 c", "compare a b c d 33"):
             with self.subTest(words):
                 self.assertEqual(ran(words.split()), (2, USAGE))
 

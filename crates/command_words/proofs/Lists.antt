@@ -2,7 +2,7 @@
 use Rattle.std.proofs.Common.{◌≡◌, ℕ, ◌<◌, ◌≤◌, true, false, List, [], ◌∷◌, map, length, refl, arith}
 use Rattle.std.specs.Prelude.{None, nat_lt}
 use Rattle.std.proofs.lemmas.Bool.Decides.{nat_tests}
-use Rattle.command_words.specs.Words.{Text, drill_words, serve_words}
+use Rattle.command_words.specs.Words.{Text, drill_words, serve_words, verify_words, compare_words}
 
 below : (m n : ℕ) → nat_lt m n ≡ true → m < n
 below m n e = grind (arith, nat_tests)
@@ -36,6 +36,38 @@ module _ {S : Type 0} (f : S → Text) where
   serve_above (a ∷ b ∷ c ∷ d ∷ []) h = absurd (omega arith)
   serve_above (a ∷ b ∷ c ∷ d ∷ g ∷ ws) h = refl
 
+  verify_below : (ws : List S) → length ws < 4 → None ≡ verify_words (map f ws)
+  verify_below [] h = refl
+  verify_below (a ∷ []) h = refl
+  verify_below (a ∷ b ∷ []) h = refl
+  verify_below (a ∷ b ∷ c ∷ []) h = refl
+  verify_below (a ∷ b ∷ c ∷ d ∷ ws) h = absurd (omega arith)
+
+  verify_above : (ws : List S) → 5 ≤ length ws → None ≡ verify_words (map f ws)
+  verify_above [] h = absurd (omega arith)
+  verify_above (a ∷ []) h = absurd (omega arith)
+  verify_above (a ∷ b ∷ []) h = absurd (omega arith)
+  verify_above (a ∷ b ∷ c ∷ []) h = absurd (omega arith)
+  verify_above (a ∷ b ∷ c ∷ d ∷ []) h = absurd (omega arith)
+  verify_above (a ∷ b ∷ c ∷ d ∷ g ∷ ws) h = refl
+
+  compare_below : (ws : List S) → length ws < 5 → None ≡ compare_words (map f ws)
+  compare_below [] h = refl
+  compare_below (a ∷ []) h = refl
+  compare_below (a ∷ b ∷ []) h = refl
+  compare_below (a ∷ b ∷ c ∷ []) h = refl
+  compare_below (a ∷ b ∷ c ∷ d ∷ []) h = refl
+  compare_below (a ∷ b ∷ c ∷ d ∷ g ∷ ws) h = absurd (omega arith)
+
+  compare_above : (ws : List S) → 6 ≤ length ws → None ≡ compare_words (map f ws)
+  compare_above [] h = absurd (omega arith)
+  compare_above (a ∷ []) h = absurd (omega arith)
+  compare_above (a ∷ b ∷ []) h = absurd (omega arith)
+  compare_above (a ∷ b ∷ c ∷ []) h = absurd (omega arith)
+  compare_above (a ∷ b ∷ c ∷ d ∷ []) h = absurd (omega arith)
+  compare_above (a ∷ b ∷ c ∷ d ∷ g ∷ []) h = absurd (omega arith)
+  compare_above (a ∷ b ∷ c ∷ d ∷ g ∷ i ∷ ws) h = refl
+
   pub drill_few : (ws : List S) → nat_lt (length ws) 2 ≡ true → None ≡ drill_words (map f ws)
   drill_few ws e = drill_below ws (below (length ws) 2 e)
 
@@ -47,3 +79,15 @@ module _ {S : Type 0} (f : S → Text) where
 
   pub serve_many : (ws : List S) → nat_lt (length ws) 5 ≡ false → None ≡ serve_words (map f ws)
   serve_many ws e = serve_above ws (not_below (length ws) 5 e)
+
+  pub verify_few : (ws : List S) → nat_lt (length ws) 4 ≡ true → None ≡ verify_words (map f ws)
+  verify_few ws e = verify_below ws (below (length ws) 4 e)
+
+  pub verify_many : (ws : List S) → nat_lt (length ws) 5 ≡ false → None ≡ verify_words (map f ws)
+  verify_many ws e = verify_above ws (not_below (length ws) 5 e)
+
+  pub compare_few : (ws : List S) → nat_lt (length ws) 5 ≡ true → None ≡ compare_words (map f ws)
+  compare_few ws e = compare_below ws (below (length ws) 5 e)
+
+  pub compare_many : (ws : List S) → nat_lt (length ws) 6 ≡ false → None ≡ compare_words (map f ws)
+  compare_many ws e = compare_above ws (not_below (length ws) 6 e)

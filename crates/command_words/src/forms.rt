@@ -3,7 +3,7 @@ ghost use Rattle.std.specs.Prelude.{◌≡◌, ◌∷◌, [], map, string_bytes,
 ghost use Rattle.std.specs.Str.Parse.{digits_value};
 ghost use Rattle.std.specs.Char.{is_ascii_digit};
 ghost use Rattle.std.specs.List.{list_all};
-ghost use Rattle.command_words.specs.Words.{asked, job_of as job_of_words, is_file as is_file_text, leads_well as leads_well_text, is_whole as is_whole_text, is_in, is_end as is_end_text, play as play_texts, check as check_texts, drill as drill_texts, serve as serve_texts, play_words as play_list, check_words as check_list, drill_words as drill_list, serve_words as serve_list};
+ghost use Rattle.command_words.specs.Words.{asked, job_of as job_of_words, is_file as is_file_text, leads_well as leads_well_text, is_whole as is_whole_text, is_in, is_player, is_end as is_end_text, play as play_texts, check as check_texts, drill as drill_texts, serve as serve_texts, verify as verify_texts, compare as compare_texts, play_words as play_list, check_words as check_list, drill_words as drill_list, serve_words as serve_list, verify_words as verify_list, compare_words as compare_list};
 
 /// What the words ask for.
 #[derive(Clone, Copy, Debug, PartialEq, Eq)]
@@ -30,9 +30,24 @@ pub enum Job<'a> {
         count: u32,
         end: bool,
     },
+    /// Check the transcript of a player's seat, 1 to 32, against the script that is played on the campaign.
+    Verify {
+        file: &'a str,
+        script: &'a str,
+        seat: u8,
+        transcript: &'a str,
+    },
+    /// Compare what a player's seat, 1 to 32, may know of two scripts that are played each on its campaign.
+    Compare {
+        file: &'a str,
+        script: &'a str,
+        file2: &'a str,
+        script2: &'a str,
+        seat: u8,
+    },
 }
 
-fn is_file(name: &str) -> bool
+pub(crate) fn is_file(name: &str) -> bool
     ensures { result ≡ is_file_text name.now }
 {
     match name.as_bytes() {
@@ -41,7 +56,7 @@ fn is_file(name: &str) -> bool
     }
 }
 
-fn is_end(word: &str) -> bool
+pub(crate) fn is_end(word: &str) -> bool
     ensures { result ≡ is_end_text word.now }
 {
     word == "--end"
@@ -81,6 +96,16 @@ fn whole_in(text: &str, least: u32, most: u32) -> Option<u32>
     match text.parse::<u32>() {
         Ok(n) if least <= n && n <= most => Some(n),
         _ => None,
+    }
+}
+
+// A player's seat.
+fn player_in(text: &str) -> Option<u8>
+    ensures { MatchOption result (is_player text.now ≡ false) (λ seat. (is_player text.now ≡ true) × (seat ≡ digits_value 10 text.now)) }
+{
+    match whole_in(text, 1, 32) {
+        Some(seat) => Some(seat as u8),
+        None => None,
     }
 }
 
@@ -128,6 +153,48 @@ pub(crate) fn serve<'a>(file: &'a str, port: &str, count: &str, end: bool) -> Op
         }),
         _ => None,
     }
+}
+
+pub(crate) fn verify<'a>(
+    file: &'a str,
+    script: &'a str,
+    seat: &str,
+    transcript: &'a str,
+) -> Option<Job<'a>>
+    ensures { option_map asked result ≡ verify_texts file.now script.now seat.now transcript.now }
+{
+    if !(is_file(file) && is_file(script) && is_file(transcript)) {
+        return None;
+    }
+    let seat = player_in(seat)?;
+    Some(Job::Verify {
+        file,
+        script,
+        seat,
+        transcript,
+    })
+}
+
+pub(crate) fn compare<'a>(
+    file: &'a str,
+    script: &'a str,
+    file2: &'a str,
+    script2: &'a str,
+    seat: &str,
+) -> Option<Job<'a>>
+    ensures { option_map asked result ≡ compare_texts file.now script.now file2.now script2.now seat.now }
+{
+    if !(is_file(file) && is_file(script) && is_file(file2) && is_file(script2)) {
+        return None;
+    }
+    let seat = player_in(seat)?;
+    Some(Job::Compare {
+        file,
+        script,
+        file2,
+        script2,
+        seat,
+    })
 }
 
 fn play_words(words: &[String]) -> Option<Job<'_>>
@@ -185,6 +252,24 @@ fn serve_words(words: &[String]) -> Option<Job<'_>>
     }
 }
 
+fn verify_words(words: &[String]) -> Option<Job<'_>>
+    ensures { option_map asked result ≡ verify_list (map string_bytes words.now) }
+{
+    match words {
+        [a, b, c, d] => verify(a.as_str(), b.as_str(), c.as_str(), d.as_str()),
+        _ => None,
+    }
+}
+
+fn compare_words(words: &[String]) -> Option<Job<'_>>
+    ensures { option_map asked result ≡ compare_list (map string_bytes words.now) }
+{
+    match words {
+        [a, b, c, d, e] => compare(a.as_str(), b.as_str(), c.as_str(), d.as_str(), e.as_str()),
+        _ => None,
+    }
+}
+
 /// The job of the words. None exactly where they are no form.
 pub(crate) fn job_of(words: &[String]) -> Option<Job<'_>>
     ensures { option_map asked result ≡ job_of_words (map string_bytes words.now) }
@@ -197,6 +282,8 @@ pub(crate) fn job_of(words: &[String]) -> Option<Job<'_>>
         "check" => check_words(rest),
         "drill" => drill_words(rest),
         "serve" => serve_words(rest),
+        "verify" => verify_words(rest),
+        "compare" => compare_words(rest),
         _ => None,
     }
 }

@@ -2,20 +2,20 @@
 ghost use Rattle.std.specs.Prelude.{◌≡◌, false, IfOk};
 ghost use Rattle.clap.specs.Words.{app_of, rule_of};
 ghost use Rattle.clap.specs.declared.builder.command.Command.TheViews.{out-Command as fields_of};
-ghost use Rattle.command_words.specs.Program.{value_rule, end_rule, plain_app, play_app, check_app, drill_app, serve_app, program_app};
+ghost use Rattle.command_words.specs.Program.{value_rule, end_rule, plain_app, play_app, check_app, drill_app, serve_app, verify_app, histories_app, compare_app, top_app, program_app};
 
-use crate::forms::{Job, check, drill, play, serve};
+use crate::forms::{Job, check, compare, drill, play, serve, verify};
 use clap::{Arg, ArgAction, ArgMatches, Command, Error};
 use std::alloc::Global;
 
-fn value<'a>(alloc: Global, name: &'a str) -> Arg<'a>
+pub(crate) fn value<'a>(alloc: Global, name: &'a str) -> Arg<'a>
     ensures rule { rule_of result ≡ value_rule name.now }
     ensures local { result.global ≡ false }
 {
     Arg::new(alloc, name).required(true).action(ArgAction::Set)
 }
 
-fn end<'a>(alloc: Global) -> Arg<'a>
+pub(crate) fn end<'a>(alloc: Global) -> Arg<'a>
     ensures rule { rule_of result ≡ end_rule }
     ensures local { result.global ≡ false }
 {
@@ -24,7 +24,7 @@ fn end<'a>(alloc: Global) -> Arg<'a>
         .action(ArgAction::SetTrue)
 }
 
-fn plain<'a>(alloc: Global, name: &'a str) -> Command<'a>
+pub(crate) fn plain<'a>(alloc: Global, name: &'a str) -> Command<'a>
     ensures app { app_of result ≡ plain_app name.now }
     ensures local { (fields_of result).has_globals ≡ false }
 {
@@ -76,17 +76,60 @@ fn serve_command<'a>(alloc: Global) -> Result<Command<'a>, Error>
     )
 }
 
+fn verify_command<'a>(alloc: Global) -> Result<Command<'a>, Error>
+    ensures app { IfOk result (λ command. app_of command ≡ verify_app) }
+    ensures local { IfOk result (λ command. (fields_of command).has_globals ≡ false) }
+{
+    Ok(
+        plain(alloc, "verify")
+            .arg(value(alloc, "file"))?
+            .arg(value(alloc, "script"))?
+            .arg(value(alloc, "seat"))?
+            .arg(value(alloc, "transcript"))?,
+    )
+}
+
+// `compare` with its files.
+fn histories<'a>(alloc: Global) -> Result<Command<'a>, Error>
+    ensures app { IfOk result (λ command. app_of command ≡ histories_app) }
+    ensures local { IfOk result (λ command. (fields_of command).has_globals ≡ false) }
+{
+    Ok(
+        plain(alloc, "compare")
+            .arg(value(alloc, "file"))?
+            .arg(value(alloc, "script"))?
+            .arg(value(alloc, "file2"))?
+            .arg(value(alloc, "script2"))?,
+    )
+}
+
+fn compare_command<'a>(alloc: Global) -> Result<Command<'a>, Error>
+    ensures app { IfOk result (λ command. app_of command ≡ compare_app) }
+    ensures local { IfOk result (λ command. (fields_of command).has_globals ≡ false) }
+{
+    Ok(histories(alloc)?.arg(value(alloc, "seat"))?)
+}
+
+// The program without its commands.
+fn top<'a>(alloc: Global) -> Command<'a>
+    ensures { app_of result ≡ top_app }
+{
+    plain(alloc, "tabletop")
+        .no_binary_name(true)
+        .subcommand_required(true)
+}
+
 fn program<'a>(alloc: Global) -> Result<Command<'a>, Error>
     ensures { IfOk result (λ command. app_of command ≡ program_app) }
 {
     Ok(
-        plain(alloc, "tabletop")
-            .no_binary_name(true)
-            .subcommand_required(true)
+        top(alloc)
             .subcommand(play_command(alloc)?)?
             .subcommand(check_command(alloc)?)?
             .subcommand(drill_command(alloc)?)?
-            .subcommand(serve_command(alloc)?)?,
+            .subcommand(serve_command(alloc)?)?
+            .subcommand(verify_command(alloc)?)?
+            .subcommand(compare_command(alloc)?)?,
     )
 }
 
@@ -100,6 +143,19 @@ fn job_in<'a>(command: &str, matches: &ArgMatches<'a>) -> Option<Job<'a>> {
             matches.get_str("port")?,
             matches.get_str("count")?,
             matches.get_flag("end"),
+        ),
+        "verify" => verify(
+            matches.get_str("file")?,
+            matches.get_str("script")?,
+            matches.get_str("seat")?,
+            matches.get_str("transcript")?,
+        ),
+        "compare" => compare(
+            matches.get_str("file")?,
+            matches.get_str("script")?,
+            matches.get_str("file2")?,
+            matches.get_str("script2")?,
+            matches.get_str("seat")?,
         ),
         _ => None,
     }

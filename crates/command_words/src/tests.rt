@@ -7,7 +7,32 @@ use std::test::Fail;
 const NO_FORM: Result<Job<'static>, WordsFault> = Err(WordsFault::Usage);
 
 // The words, parted by spaces, and the answer.
-const ROWS: [(&str, Result<Job<'static>, WordsFault>); 30] = [
+const ROWS: [(&str, Result<Job<'static>, WordsFault>); 38] = [
+    (
+        "verify a b 32 c",
+        Ok(Job::Verify {
+            file: "a",
+            script: "b",
+            seat: 32,
+            transcript: "c",
+        }),
+    ),
+    (
+        "compare a b c d 1",
+        Ok(Job::Compare {
+            file: "a",
+            script: "b",
+            file2: "c",
+            script2: "d",
+            seat: 1,
+        }),
+    ),
+    ("verify a b 0 c", NO_FORM),
+    ("verify a b 33 c", NO_FORM),
+    ("verify a b 1 -c", NO_FORM),
+    ("verify a b 1", NO_FORM),
+    ("compare a b c d 01", NO_FORM),
+    ("compare a b c d 1 e", NO_FORM),
     (
         "play a",
         Ok(Job::Play {
@@ -86,7 +111,7 @@ const ROWS: [(&str, Result<Job<'static>, WordsFault>); 30] = [
     ("serve a 80 1025", NO_FORM),
 ];
 
-fn parted(alloc: Global, words: &str) -> Result<Vec<String>, Fail> {
+pub(crate) fn parted(alloc: Global, words: &str) -> Result<Vec<String>, Fail> {
     let mut list = Vec::new(alloc);
     for word in words.split(' ') {
         list.push(String::from_str(alloc, word)?)?;

@@ -59,7 +59,7 @@ unless Memory P p = p
 
 module _ {D : Type 0} (seen : D → List ℕ) (may_leave : D → List ℕ → Type 0) (moment : D → ℕ) (left_since : D → ℕ → List ℕ → Type 0) where
   -- a run behind one that was done
-  keeps_behind : (answer : Logged) (text : List ℕ) (before xs ys whole : List Entry) (old mid new : D) (mid_end new_end : ℕ)
+  pub keeps_behind : (answer : Logged) (text : List ℕ) (before xs ys whole : List Entry) (old mid new : D) (mid_end new_end : ℕ)
       → Keeps seen may_leave moment left_since Done text before xs xs old mid mid_end
       → Keeps seen may_leave moment left_since answer text (before ++ xs) ys whole mid new new_end
       → Keeps seen may_leave moment left_since answer text before (xs ++ ys) (xs ++ whole) old new new_end

@@ -1,4 +1,4 @@
-mod KeptLemmas
+pub mod KeptLemmas
 mod Stops
 mod Sizes
 mod Whole

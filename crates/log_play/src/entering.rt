@@ -92,8 +92,9 @@ fn enter<O: Sink, E: Eye + Drop, K: Disk>(
     }
 }
 
-// Logs them one after the other.
-fn log_all<E: Eye + Drop, K: Disk>(
+/// Logs entries one after the other: each is prepared, put behind the log, and then committed. After a stop the history has the
+/// first of them. `DiskFault`, `Full` and `Memory` alone stop it.
+pub fn log_all<E: Eye + Drop, K: Disk>(
     alloc: Global,
     campaign: &mut Campaign<E>,
     disk: &mut K,

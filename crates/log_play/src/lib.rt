@@ -5,5 +5,6 @@ mod entering;
 mod logged;
 mod run;
 
+pub use entering::log_all;
 pub use logged::Logged;
 pub use run::play_logged;

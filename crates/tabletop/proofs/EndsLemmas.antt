@@ -1,6 +1,6 @@
 -- How a run ends, from what its parts did.
 use Rattle.std.proofs.Common.{◌≡◌, ℕ, ◌≤◌, ◌<◌, true, false, List, [], ◌∷◌, ◌++◌, length, Some, None, refl, sym, ◌∙◌, ap, subst, arith, ◌⊎◌, inl, inr}
-use Rattle.std.specs.Prelude.{Option, unwrap_or, IfSome, Bool, Result, Ok, Err, OnOk, OnErr}
+use Rattle.std.specs.Prelude.{Option, IfSome, Bool, Result, Ok, Err, OnOk, OnErr}
 use Rattle.std.specs.List.{AllByRecursion}
 use Rattle.std.specs.Io.KnownBytes.{append_known}
 use Rattle.line_io.specs.Counts.{CountRose}
@@ -18,8 +18,8 @@ use Rattle.campaign_law.specs.Law.{Course, IsOpening, IsSentAsMachine, world_of}
 use Rattle.world.specs.World.{World as Opened}
 use Rattle.campaign_json.specs.declared.faults.BadCampaign.{BadCampaign as Breach}
 use Rattle.campaign_file.specs.Campaign.{campaign_of}
-use Rattle.campaign_core.specs.Opening.{world_of as read_world, world_of_text}
-use Rattle.command_words.specs.Words.{Asked, Play, Check, Drill, Serve}
+use Rattle.campaign_core.specs.Opening.{world_of_text}
+use Rattle.command_words.specs.Words.{Asked, Play, Check, Drill, Serve, Verify, Compare}
 use Rattle.script_play.specs.declared.run.Played.{Played}
 use Rattle.script_play.specs.declared.run.Played.TheVariants as played
 use Rattle.script_play.specs.Script.{Script, Ending, done, bad_line, too_large, script_of, NothingWaits}
@@ -30,11 +30,13 @@ use Rattle.script_play.proofs.Fronts.{prefix_all, all_part}
 use Rattle.script_play.proofs.Reading.{told_weaker}
 use Rattle.script_play.proofs.Behind.{sent_behind}
 use Rattle.tabletop.specs.declared.endings.Ended.{Ended}
-use Rattle.tabletop.specs.declared.endings.Ended.TheVariants.{Done, Usage, BadCampaign, ReadFault, WriteFault, Memory, BadLine, TooLarge, DoorFault}
+use Rattle.tabletop.specs.declared.endings.Ended.TheVariants.{Done, Usage, BadCampaign, ReadFault, WriteFault, Memory, BadLine, TooLarge, DoorFault, Differs}
 use Rattle.tabletop.specs.Endings.{status_of, last_line, HasOwnLine}
-use Rattle.tabletop.specs.Ends.{PlaysOn, ScriptEnds, EndsByLine, end_line, PlayEnds, FollowsPlay, CheckEnds, NotFetched, FileEnds, JobEnds, HasEnded, IsToldAs, ended_by, unfetched, campaign_limit}
+use Rattle.tabletop.specs.Ends.{PlaysOn, ScriptEnds, EndsByLine, end_line, PlayEnds, FollowsPlay, CheckEnds, NotFetched, FileEnds, PairEnds, JobEnds, HasEnded, IsToldAs, ended_by, unfetched, campaign_limit}
 use Rattle.tabletop.specs.Printing.{PrintsLine}
 use Rattle.tabletop.specs.Drilled.{DrillEnds}
+use Rattle.tabletop.specs.Answered.{VerifyEnds, CompareEnds}
+use Rattle.tabletop.proofs.AnswerLemmas.{some_same, breach_world, verify_less, verify_used, compare_less, compare_used}
 
 -- ---- a campaign that opens
 
@@ -102,6 +104,7 @@ by_line S Memory text script left out after e = inr e
 by_line S (BadLine number) text script left out after e = inr e
 by_line S TooLarge text script left out after e = inr e
 by_line S DoorFault text script left out after e = inr e
+by_line S Differs text script left out after e = inr e
 
 -- a stop ends the run whether the campaign was to be written or not
 stopped : (S : Type 0) (end : Bool) (answer : Played) (text : List ℕ) (script left out after : Option (List ℕ)) → (answer ≡ played.Done → ⊥) → ScriptEnds S (ended_by answer) text script left out after → PlayEnds S end (ended_by answer) text script left out after
@@ -202,6 +205,7 @@ script_less S WriteFault text script left out after own p = absurd own
 script_less S Memory text script left out after own p = absurd own
 script_less S TooLarge text script left out after own p = absurd own
 script_less S DoorFault text script left out after own p = absurd own
+script_less S Differs text script left out after own p = absurd own
 
 play_less : (S : Type 0) (end : Bool) (ended : Ended) (text : List ℕ) (script left out after : Option (List ℕ)) → HasOwnLine ended → PlayEnds S end ended text script left out after → PlayEnds S end Memory text script left out after
 play_less S false ended text script left out after own p = script_less S ended text script left out after own p
@@ -216,6 +220,7 @@ play_less S true WriteFault text script left out after own p = absurd own
 play_less S true Memory text script left out after own p = absurd own
 play_less S true TooLarge text script left out after own p = absurd own
 play_less S true DoorFault text script left out after own p = absurd own
+play_less S true Differs text script left out after own p = absurd own
 
 check_less : (ended : Ended) (text : List ℕ) (out after : Option (List ℕ)) → HasOwnLine ended → CheckEnds ended text out after → CheckEnds Memory text out after
 check_less (BadCampaign breach) text out after own p = p.1
@@ -227,6 +232,7 @@ check_less WriteFault text out after own p = absurd own
 check_less Memory text out after own p = absurd own
 check_less TooLarge text out after own p = absurd own
 check_less DoorFault text out after own p = absurd own
+check_less Differs text out after own p = absurd own
 
 drill_less : (ended : Ended) (n lines : ℕ) (out after : Option (List ℕ)) → HasOwnLine ended → DrillEnds ended n lines out after → DrillEnds Memory n lines out after
 drill_less (BadCampaign breach) n lines out after own h = absurd h
@@ -238,10 +244,16 @@ drill_less WriteFault n lines out after own h = absurd own
 drill_less Memory n lines out after own h = absurd own
 drill_less TooLarge n lines out after own h = absurd own
 drill_less DoorFault n lines out after own h = absurd own
+drill_less Differs n lines out after own h = absurd own
 
 file_less : (D : Type 0) (Ends Less : List ℕ → Type 0) (ended : Ended) (campaign out after : Option (List ℕ)) → ((text : List ℕ) → Ends text → Less text) → FileEnds D Ends ended campaign out after → FileEnds D Less Memory campaign out after
 file_less D Ends Less ended campaign out after less (inl none) = inl (tt, none.1)
 file_less D Ends Less ended campaign out after less (inr f) = inr (record { text = f.text; told = f.told; small = f.small; ends = less f.text f.ends })
+
+pair_less : (D : Type 0) (Ends Less : List ℕ → List ℕ → Type 0) (ended : Ended) (campaign script out after : Option (List ℕ)) → ((text lines : List ℕ) → Ends text lines → Less text lines) → PairEnds D Ends ended campaign script out after → PairEnds D Less Memory campaign script out after
+pair_less D Ends Less ended campaign script out after less h =
+    file_less D (λ t. FileEnds D (λ l. Ends t l) ended script out after) (λ t. FileEnds D (λ l. Less t l) Memory script out after) ended campaign out after
+    (λ t. file_less D (λ l. Ends t l) (λ l. Less t l) ended script out after (less t)) h
 
 told_less : (D S : Type 0) (ended : Ended) (job : Option Asked) (texts : List ℕ → Option (List ℕ)) (script left out after : Option (List ℕ)) → HasOwnLine ended → JobEnds D S ended job texts script left out after → JobEnds D S Memory job texts script left out after
 told_less D S ended None texts script left out after own h = (inr refl, h.1)
@@ -251,6 +263,12 @@ told_less D S ended (Some (Check file)) texts script left out after own h =
     file_less D (λ text. CheckEnds ended text out after) (λ text. CheckEnds Memory text out after) ended (texts file) out after (λ text. check_less ended text out after own) h
 told_less D S ended (Some (Drill number lines)) texts script left out after own h = drill_less ended number lines out after own h
 told_less D S ended (Some (Serve file port count end)) texts script left out after own h = absurd h
+told_less D S ended (Some (Verify file lines p transcript)) texts script left out after own h =
+    pair_less D (λ t l. FileEnds D (λ told. VerifyEnds ended t l p told out after) ended (texts transcript) out after) (λ t l. FileEnds D (λ told. VerifyEnds Memory t l p told out after) Memory (texts transcript) out after) ended (texts file) (texts lines) out after
+    (λ t l. file_less D (λ told. VerifyEnds ended t l p told out after) (λ told. VerifyEnds Memory t l p told out after) ended (texts transcript) out after (λ told. verify_less t l p told out after ended own)) h
+told_less D S ended (Some (Compare file lines file2 lines2 p)) texts script left out after own h =
+    pair_less D (λ t l. PairEnds D (λ t2 l2. CompareEnds ended t l t2 l2 p out after) ended (texts file2) (texts lines2) out after) (λ t l. PairEnds D (λ t2 l2. CompareEnds Memory t l t2 l2 p out after) Memory (texts file2) (texts lines2) out after) ended (texts file) (texts lines) out after
+    (λ t l. pair_less D (λ t2 l2. CompareEnds ended t l t2 l2 p out after) (λ t2 l2. CompareEnds Memory t l t2 l2 p out after) ended (texts file2) (texts lines2) out after (λ t2 l2. compare_less t l t2 l2 p out after ended own)) h
 
 pub told_as : (D S : Type 0) (ended told : Ended) (job : Option Asked) (texts : List ℕ → Option (List ℕ)) (script left out after : Option (List ℕ)) → IsToldAs ended told → JobEnds D S ended job texts script left out after → JobEnds D S told job texts script left out after
 told_as D S ended told job texts script left out after (inl same) h = subst (λ e. JobEnds D S e job texts script left out after) (sym same) h
@@ -280,10 +298,14 @@ two_is_usage Memory s = absurd (omega (arith, s))
 two_is_usage (BadLine number) s = absurd (omega (arith, s))
 two_is_usage TooLarge s = absurd (omega (arith, s))
 two_is_usage DoorFault s = absurd (omega (arith, s))
+two_is_usage Differs s = absurd (omega (arith, s))
 
 used_file : (D : Type 0) (Ends : List ℕ → Type 0) (campaign out after : Option (List ℕ)) → ((text : List ℕ) → Ends text → ⊥) → FileEnds D Ends Usage campaign out after → ⊥
 used_file D Ends campaign out after never (inl none) = none.0
 used_file D Ends campaign out after never (inr f) = never f.text f.ends
+
+used_pair : (D : Type 0) (Ends : List ℕ → List ℕ → Type 0) (campaign script out after : Option (List ℕ)) → ((text lines : List ℕ) → Ends text lines → ⊥) → PairEnds D Ends Usage campaign script out after → ⊥
+used_pair D Ends campaign script out after never h = used_file D (λ t. FileEnds D (λ l. Ends t l) Usage script out after) campaign out after (λ t. used_file D (λ l. Ends t l) script out after (never t)) h
 
 used_play : (S : Type 0) (end : Bool) (text : List ℕ) (script left out after : Option (List ℕ)) → PlayEnds S end Usage text script left out after → ⊥
 used_play S false text script left out after p = p
@@ -297,6 +319,10 @@ used_job D S (Some (Play file end)) texts script left out after h = absurd (used
 used_job D S (Some (Check file)) texts script left out after h = absurd (used_file D (λ text. CheckEnds Usage text out after) (texts file) out after (λ text p. p.2) h)
 used_job D S (Some (Drill number lines)) texts script left out after h = absurd h
 used_job D S (Some (Serve file port count end)) texts script left out after h = absurd h
+used_job D S (Some (Verify file lines p transcript)) texts script left out after h =
+    absurd (used_pair D (λ t l. FileEnds D (λ told. VerifyEnds Usage t l p told out after) Usage (texts transcript) out after) (texts file) (texts lines) out after (λ t l. used_file D (λ told. VerifyEnds Usage t l p told out after) (texts transcript) out after (λ told. verify_used t l p told out after)) h)
+used_job D S (Some (Compare file lines file2 lines2 p)) texts script left out after h =
+    absurd (used_pair D (λ t l. PairEnds D (λ t2 l2. CompareEnds Usage t l t2 l2 p out after) Usage (texts file2) (texts lines2) out after) (texts file) (texts lines) out after (λ t l. used_pair D (λ t2 l2. CompareEnds Usage t l t2 l2 p out after) (texts file2) (texts lines2) out after (λ t2 l2. compare_used t l t2 l2 p out after)) h)
 
 pub usage_if : (status : ℕ) (job : Option Asked) (texts : List ℕ → Option (List ℕ)) (script left out after : Option (List ℕ)) (D S OutFailed : Type 0) → HasEnded status job texts script left out after D S OutFailed → status ≡ 2 → job ≡ None
 usage_if status job texts script left out after D S OutFailed h s =
@@ -335,6 +361,7 @@ read_fault_of status ended Memory s t h = absurd (omega (arith, s, h))
 read_fault_of status ended (BadLine number) s t h = absurd (omega (arith, s, h))
 read_fault_of status ended TooLarge s t h = absurd (omega (arith, s, h))
 read_fault_of status ended DoorFault s t h = absurd (omega (arith, s, h))
+read_fault_of status ended Differs s t h = absurd (omega (arith, s, h))
 
 pub write_fault_of : (status : ℕ) (ended told : Ended) → status ≡ status_of told → IsToldAs ended told → status ≡ 5 → ended ≡ WriteFault
 write_fault_of status ended WriteFault s (inl same) h = sym same
@@ -347,11 +374,9 @@ write_fault_of status ended Memory s t h = absurd (omega (arith, s, h))
 write_fault_of status ended (BadLine number) s t h = absurd (omega (arith, s, h))
 write_fault_of status ended TooLarge s t h = absurd (omega (arith, s, h))
 write_fault_of status ended DoorFault s t h = absurd (omega (arith, s, h))
+write_fault_of status ended Differs s t h = absurd (omega (arith, s, h))
 
 -- ---- completeness
-
-some_same : {A : Type 0} (x y : A) → Some x ≡ Some y → x ≡ y
-some_same x y e = ap (λ (o : Option _). unwrap_or o x) e
 
 -- a script that ends as done ends no run otherwise
 ends_done : (answer : Played) (ending : Ending) (world : Option World) (origin : World) (text : List ℕ) (left out after : Option (List ℕ)) → world ≡ Some origin → (script_of origin text).ending ≡ done → ((w : World) (es : List Entry) → HasEntered answer (script_of w text) es → (script_of w text).ending ≡ ending) → PlaysOn answer world (Some text) left out after → done ≡ ending
@@ -367,10 +392,6 @@ ends_done answer ending world origin text left out after is script says p =
 abbrev pub DoneOrMemory : ℕ → Type 0
 DoneOrMemory status = (status ≡ 0) ⊎ (status ≡ 6)
 
--- the world of a text that is off the format
-pub breach_world : (text : List ℕ) (breach : Breach) (origin : World) → world_of_text text ≡ Some origin → campaign_of text ≡ Err breach → ⊥
-breach_world text breach origin is bad = let z : None ≡ Some origin = sym (ap read_world bad) ∙ is in cc
-
 script_done : (S : Type 0) (ended : Ended) (campaign : List ℕ) (origin : World) (text : List ℕ) (left out after : Option (List ℕ)) → world_of_text campaign ≡ Some origin → (script_of origin text).ending ≡ done → ¬ (status_of ended ≡ 4) → ¬ (status_of ended ≡ 5) → ScriptEnds S ended campaign (Some text) left out after → DoneOrMemory (status_of ended)
 script_done S Done campaign origin text left out after is script no_read no_write h = inl refl
 script_done S Usage campaign origin text left out after is script no_read no_write h = absurd h
@@ -383,6 +404,7 @@ script_done S (BadLine number) campaign origin text left out after is script no_
 script_done S TooLarge campaign origin text left out after is script no_read no_write h =
     let z : done ≡ too_large = ends_done played.TooLarge too_large (world_of_text campaign) origin text left out after is script (λ w es e. ap (λ (s : Script). s.ending) e) h in cc
 script_done S DoorFault campaign origin text left out after is script no_read no_write h = absurd h
+script_done S Differs campaign origin text left out after is script no_read no_write h = absurd h
 
 play_done : (S : Type 0) (end : Bool) (ended : Ended) (campaign : List ℕ) (origin : World) (text : List ℕ) (left out after : Option (List ℕ)) → world_of_text campaign ≡ Some origin → (script_of origin text).ending ≡ done → ¬ (status_of ended ≡ 4) → ¬ (status_of ended ≡ 5) → PlayEnds S end ended campaign (Some text) left out after → DoneOrMemory (status_of ended)
 play_done S false ended campaign origin text left out after is script no_read no_write h = script_done S ended campaign origin text left out after is script no_read no_write h
@@ -398,7 +420,9 @@ play_done S true (BadLine number) campaign origin text left out after is script 
 play_done S true TooLarge campaign origin text left out after is script no_read no_write (inl h) = script_done S TooLarge campaign origin text left out after is script no_read no_write h
 play_done S true TooLarge campaign origin text left out after is script no_read no_write (inr h) = absurd h.printed
 play_done S true DoorFault campaign origin text left out after is script no_read no_write (inl h) = script_done S DoorFault campaign origin text left out after is script no_read no_write h
+play_done S true Differs campaign origin text left out after is script no_read no_write (inl h) = script_done S Differs campaign origin text left out after is script no_read no_write h
 play_done S true DoorFault campaign origin text left out after is script no_read no_write (inr h) = absurd h.printed
+play_done S true Differs campaign origin text left out after is script no_read no_write (inr h) = absurd h.printed
 
 check_done : (ended : Ended) (campaign : List ℕ) (world : Opened) (out after : Option (List ℕ)) → campaign_of campaign ≡ Ok world → ¬ (status_of ended ≡ 4) → ¬ (status_of ended ≡ 5) → CheckEnds ended campaign out after → DoneOrMemory (status_of ended)
 check_done Done campaign world out after is no_read no_write h = inl refl
@@ -410,12 +434,14 @@ check_done Usage campaign world out after is no_read no_write h = absurd h.2
 check_done (BadLine number) campaign world out after is no_read no_write h = absurd h.2
 check_done TooLarge campaign world out after is no_read no_write h = absurd h.2
 check_done DoorFault campaign world out after is no_read no_write h = absurd h.2
+check_done Differs campaign world out after is no_read no_write h = absurd h.2
 
 pub not_fetched_done : (D : Type 0) (ended : Ended) (campaign : List ℕ) → length campaign ≤ campaign_limit → ¬ (status_of ended ≡ 4) → NotFetched D ended (Some campaign) → DoneOrMemory (status_of ended)
 not_fetched_done D ReadFault campaign small no_read h = absurd (no_read refl)
 not_fetched_done D Memory campaign small no_read h = inr refl
 not_fetched_done D TooLarge campaign small no_read h = absurd (omega (arith, h, small))
 not_fetched_done D DoorFault campaign small no_read h = absurd h
+not_fetched_done D Differs campaign small no_read h = absurd h
 not_fetched_done D Done campaign small no_read h = absurd h
 not_fetched_done D Usage campaign small no_read h = absurd h
 not_fetched_done D (BadCampaign breach) campaign small no_read h = absurd h
@@ -454,6 +480,7 @@ drill_done Usage n lines out after no_write h = absurd h
 drill_done (BadCampaign breach) n lines out after no_write h = absurd h
 drill_done ReadFault n lines out after no_write h = absurd h
 drill_done DoorFault n lines out after no_write h = absurd h
+drill_done Differs n lines out after no_write h = absurd h
 
 pub drill_completes : (status : ℕ) (job : Option Asked) (texts : List ℕ → Option (List ℕ)) (script left out after : Option (List ℕ)) (D S OutFailed : Type 0) (number lines : ℕ) → HasEnded status job texts script left out after D S OutFailed → job ≡ Some (Drill number lines) → ¬ (status ≡ 5) → DoneOrMemory status
 drill_completes status job texts script left out after D S OutFailed number lines h j no_write =

@@ -16,11 +16,12 @@ use Rattle.serving.specs.declared.hosting.Hosted.TheVariants as hosted
 use Rattle.serving.specs.Outside.{Outside, with_output}
 use Rattle.serving.specs.Hosted.{Hosts, NothingServed}
 use Rattle.tabletop.specs.declared.endings.Ended.{Ended}
-use Rattle.tabletop.specs.declared.endings.Ended.TheVariants.{Done, Usage, BadCampaign, ReadFault, WriteFault, Memory, BadLine, TooLarge, DoorFault}
+use Rattle.tabletop.specs.declared.endings.Ended.TheVariants.{Done, Usage, BadCampaign, ReadFault, WriteFault, Memory, BadLine, TooLarge, DoorFault, Differs}
 use Rattle.tabletop.specs.Endings.{status_of, last_line, HasOwnLine}
 use Rattle.tabletop.specs.Ends.{NotFetched, IsToldAs, unfetched, campaign_limit}
 use Rattle.tabletop.specs.ServeEnds.{Service, hosted_as, TextServes, FileServes, JobServes, HasEndedServing}
-use Rattle.tabletop.proofs.EndsLemmas.{DoneOrMemory, two_is_usage, not_fetched_done, breach_world}
+use Rattle.tabletop.proofs.AnswerLemmas.{breach_world}
+use Rattle.tabletop.proofs.EndsLemmas.{DoneOrMemory, two_is_usage, not_fetched_done}
 
 -- ---- what serving ends as
 
@@ -83,6 +84,7 @@ door_fault_of status ended WriteFault s t h = absurd (omega (arith, s, h))
 door_fault_of status ended Memory s t h = absurd (omega (arith, s, h))
 door_fault_of status ended (BadLine number) s t h = absurd (omega (arith, s, h))
 door_fault_of status ended TooLarge s t h = absurd (omega (arith, s, h))
+door_fault_of status ended Differs s t h = absurd (omega (arith, s, h))
 
 module _ {R In Out : Type 0} (Does : Sitting R In Out → (In × Out) × Sat → Type 0) (written : Out → Option (List ℕ)) (early late : Outside In Out) where
   -- ---- a file that was fetched or not

@@ -3,7 +3,7 @@ use Rattle.std.specs.Prelude.{◌≡◌, ℕ, List, [], ◌∷◌, ◌++◌, cod
 use Rattle.campaign_json.specs.declared.faults.Rule.{Rule}
 use Rattle.campaign_json.specs.declared.faults.Rule.TheVariants.{Json, Missing, Unknown, Kind, Range, Form, Twice, Cross}
 use Rattle.tabletop.specs.declared.endings.Ended.{Ended}
-use Rattle.tabletop.specs.declared.endings.Ended.TheVariants.{Done, Usage, BadCampaign, ReadFault, WriteFault, Memory, BadLine, TooLarge, DoorFault}
+use Rattle.tabletop.specs.declared.endings.Ended.TheVariants.{Done, Usage, BadCampaign, ReadFault, WriteFault, Memory, BadLine, TooLarge, DoorFault, Differs}
 
 abbrev pub status_of : Ended → ℕ
 status_of Done = 0
@@ -15,6 +15,7 @@ status_of Memory = 6
 status_of (BadLine number) = 7
 status_of TooLarge = 8
 status_of DoorFault = 9
+status_of Differs = 14
 
 -- the name of a rule of the campaign text
 abbrev pub rule_word : Rule → List ℕ
@@ -29,7 +30,8 @@ rule_word Cross = codes "cross"
 
 abbrev pub last_line : Ended → List ℕ
 last_line Done = []
-last_line Usage = codes "tabletop: usage: play FILE [--end], check FILE, drill N LINES, serve FILE PORT COUNT [--end]" ++ 10 ∷ []
+last_line Usage =
+    codes "tabletop: usage: play FILE [--end], check FILE, drill N LINES, serve FILE PORT COUNT [--end], verify FILE SCRIPT SEAT TRANSCRIPT, compare FILE SCRIPT FILE SCRIPT SEAT" ++ 10 ∷ []
 last_line (BadCampaign breach) = codes "tabletop: bad campaign at " ++ (breach.path ++ (codes ": " ++ (rule_word breach.rule ++ 10 ∷ [])))
 last_line ReadFault = codes "tabletop: read fault" ++ 10 ∷ []
 last_line WriteFault = []
@@ -37,6 +39,7 @@ last_line Memory = codes "tabletop: out of memory" ++ 10 ∷ []
 last_line (BadLine number) = codes "tabletop: bad script line " ++ (decimal number ++ 10 ∷ [])
 last_line TooLarge = codes "tabletop: too large" ++ 10 ∷ []
 last_line DoorFault = codes "tabletop: door fault" ++ 10 ∷ []
+last_line Differs = []
 
 -- the last line has a path or a number of the run's own
 abbrev pub HasOwnLine : Ended → Type 0

@@ -20,12 +20,13 @@ use Rattle.script_play.specs.Tagged.{tagged, lines_behind}
 use Rattle.script_play.specs.Played.{HasEntered, HasRead, HasWritten, AreWrittenOf}
 use Rattle.script_play.specs.Sending.{WroteFront}
 use Rattle.tabletop.specs.declared.endings.Ended.{Ended}
-use Rattle.tabletop.specs.declared.endings.Ended.TheVariants.{Done, Usage, BadCampaign, ReadFault, WriteFault, Memory, BadLine, TooLarge, DoorFault}
+use Rattle.tabletop.specs.declared.endings.Ended.TheVariants.{Done, Usage, BadCampaign, ReadFault, WriteFault, Memory, BadLine, TooLarge, DoorFault, Differs}
 use Rattle.tabletop.specs.Endings.{status_of, last_line, HasOwnLine}
 use Rattle.tabletop.specs.Counts.{count_line}
 use Rattle.tabletop.specs.Printing.{PrintsLine}
 use Rattle.tabletop.specs.Drilled.{DrillEnds}
-use Rattle.command_words.specs.Words.{Asked, Play, Check, Drill, Serve}
+use Rattle.tabletop.specs.Answered.{VerifyEnds, CompareEnds}
+use Rattle.command_words.specs.Words.{Asked, Play, Check, Drill, Serve, Verify, Compare}
 
 -- how a played script ends the run
 abbrev pub ended_by : Played → Ended
@@ -81,6 +82,7 @@ ScriptEnds ScriptFailed Memory text script left out after = (after ≡ out) ⊎ 
 ScriptEnds ScriptFailed (BadLine number) text script left out after = PlaysOn (played.BadLine number) (world_of_text text) script left out after
 ScriptEnds ScriptFailed TooLarge text script left out after = PlaysOn played.TooLarge (world_of_text text) script left out after
 ScriptEnds ScriptFailed DoorFault text script left out after = ⊥
+ScriptEnds ScriptFailed Differs text script left out after = ⊥
 
 -- the line with the campaign text of the world after these entries
 abbrev pub end_line : World → List Entry → List ℕ
@@ -128,10 +130,31 @@ NotFetched DeskFailed Memory campaign = Unit {0}
 NotFetched DeskFailed (BadLine number) campaign = ⊥
 NotFetched DeskFailed TooLarge campaign = IfSome campaign (λ told. campaign_limit < length told)
 NotFetched DeskFailed DoorFault campaign = ⊥
+NotFetched DeskFailed Differs campaign = ⊥
 
 -- a job on the campaign of a file
 abbrev pub FileEnds : (DeskFailed : Type 0) → (Ends : List ℕ → Type 0) → Ended → (campaign out after : Option (List ℕ)) → Type 0
 FileEnds DeskFailed Ends ended campaign out after = (NotFetched DeskFailed ended campaign × (after ≡ out)) ⊎ Fetched Ends campaign
+
+-- a job on the texts of a campaign's file and of a script's file, which are fetched in this order
+abbrev pub PairEnds : (DeskFailed : Type 0) → (Ends : (text lines : List ℕ) → Type 0) → Ended
+    → (campaign script out after : Option (List ℕ)) → Type 0
+PairEnds DeskFailed Ends ended campaign script out after =
+    FileEnds DeskFailed (λ text. FileEnds DeskFailed (λ lines. Ends text lines) ended script out after) ended campaign out after
+
+-- `verify` of a transcript's file, and `compare`: all files are fetched first, in the order of the words
+abbrev pub VerifyFilesEnd : (DeskFailed : Type 0) → Ended → (campaign script : Option (List ℕ)) → ℕ
+    → (transcript out after : Option (List ℕ)) → Type 0
+VerifyFilesEnd DeskFailed ended campaign script p transcript out after =
+    PairEnds DeskFailed (λ text lines. FileEnds DeskFailed (λ told. VerifyEnds ended text lines p told out after) ended transcript out after)
+    ended campaign script out after
+
+abbrev pub CompareFilesEnd : (DeskFailed : Type 0) → Ended → (campaign script campaign2 script2 : Option (List ℕ)) → ℕ
+    → (out after : Option (List ℕ)) → Type 0
+CompareFilesEnd DeskFailed ended campaign script campaign2 script2 p out after =
+    PairEnds DeskFailed (λ text lines.
+    PairEnds DeskFailed (λ text2 lines2. CompareEnds ended text lines text2 lines2 p out after) ended campaign2 script2 out after)
+    ended campaign script out after
 
 -- the job was done, as far as its ending allows, or the words were no job. The desk has a text of some names. Where nothing was
 -- played, a read fault is the desk's
@@ -142,6 +165,10 @@ JobEnds DeskFailed ScriptFailed ended (Some (Play file end)) texts script left o
 JobEnds DeskFailed ScriptFailed ended (Some (Check file)) texts script left out after = FileEnds DeskFailed (λ text. CheckEnds ended text out after) ended (texts file) out after
 JobEnds DeskFailed ScriptFailed ended (Some (Drill number lines)) texts script left out after = DrillEnds ended number lines out after
 JobEnds DeskFailed ScriptFailed ended (Some (Serve file port count end)) texts script left out after = ⊥
+JobEnds DeskFailed ScriptFailed ended (Some (Verify file lines p transcript)) texts script left out after =
+    VerifyFilesEnd DeskFailed ended (texts file) (texts lines) p (texts transcript) out after
+JobEnds DeskFailed ScriptFailed ended (Some (Compare file lines file2 lines2 p)) texts script left out after =
+    CompareFilesEnd DeskFailed ended (texts file) (texts lines) (texts file2) (texts lines2) p out after
 
 -- the whole run: how it ended, by its status, and the last line printed, of which a fault leaves a front
 pub record HasEnded (status : ℕ) (job : Option Asked) (texts : List ℕ → Option (List ℕ)) (script left out after : Option (List ℕ)) (DeskFailed ScriptFailed OutFailed : Type 0) : Type 0 where

@@ -3,5 +3,9 @@ pub mod Counts
 pub mod Endings
 pub mod Printing
 pub mod Drilled
+pub mod Answered
+pub mod Fetches
 pub mod Ends
 pub mod ServeEnds
+pub mod LogEndings
+pub mod Logged

@@ -10,7 +10,7 @@ use Rattle.serving.specs.declared.hosting.Hosted.{Hosted}
 use Rattle.serving.specs.declared.hosting.Hosted.TheVariants as hosted
 use Rattle.serving.specs.Outside.{Outside, with_output}
 use Rattle.serving.specs.Hosted.{Hosts, NothingServed}
-use Rattle.command_words.specs.Words.{Asked, Play, Check, Drill, Serve, job_of}
+use Rattle.command_words.specs.Words.{Asked, Play, Check, Drill, Serve, Verify, Compare, job_of}
 use Rattle.tabletop.specs.declared.endings.Ended.{Ended}
 use Rattle.tabletop.specs.declared.endings.Ended.TheVariants.{Done, Usage, BadCampaign, WriteFault, Memory, DoorFault}
 use Rattle.tabletop.specs.Endings.{status_of, last_line}
@@ -28,6 +28,8 @@ abbrev pub served_here : Asked → Option Service
 served_here (Play file end) = None
 served_here (Check file) = None
 served_here (Drill number lines) = None
+served_here (Verify file script seat transcript) = None
+served_here (Compare file script file2 script2 seat) = None
 served_here (Serve file port count end) = Some (record { file = file; port = port; count = count; end = end })
 
 -- what the words ask to be served; none, where they are no form, or another one

@@ -25,6 +25,8 @@ pub enum Ended {
     TooLarge,
     /// The door failed, and counted it.
     DoorFault,
+    /// The job was done: it found a difference, and printed where.
+    Differs,
 }
 
 /// The program's status.
@@ -41,6 +43,7 @@ pub(crate) fn status_of(ended: &Ended) -> u8
         Ended::BadLine(_) => 7,
         Ended::TooLarge => 8,
         Ended::DoorFault => 9,
+        Ended::Differs => 14,
     }
 }
 
@@ -50,13 +53,17 @@ pub(crate) fn fixed_line(ended: &Ended) -> &'static str
 {
     match ended {
         Ended::Usage => {
-            "tabletop: usage: play FILE [--end], check FILE, drill N LINES, serve FILE PORT COUNT [--end]\n"
+            "tabletop: usage: play FILE [--end], check FILE, drill N LINES, serve FILE PORT COUNT [--end], verify FILE SCRIPT SEAT TRANSCRIPT, compare FILE SCRIPT FILE SCRIPT SEAT\n"
         }
         Ended::ReadFault => "tabletop: read fault\n",
         Ended::Memory => "tabletop: out of memory\n",
         Ended::TooLarge => "tabletop: too large\n",
         Ended::DoorFault => "tabletop: door fault\n",
-        Ended::Done | Ended::WriteFault | Ended::BadCampaign(_) | Ended::BadLine(_) => "",
+        Ended::Done
+        | Ended::Differs
+        | Ended::WriteFault
+        | Ended::BadCampaign(_)
+        | Ended::BadLine(_) => "",
     }
 }
 

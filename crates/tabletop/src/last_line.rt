@@ -77,7 +77,7 @@ fn bad_campaign(alloc: Global, bad: &BadCampaign) -> Result<String, Memory>
 }
 
 // A fault leaves a front of the line.
-fn print<O: Sink>(line: &[u8], out: &mut O)
+pub(crate) fn print<O: Sink>(line: &[u8], out: &mut O)
     ensures line { (O.written out.new ≡ append_known (O.written out.old) line.now)
         ⊎ (CountRose (O.faults_of out.old) (O.faults_of out.new) × WroteFront (O.written out.old) line.now (O.written out.new)) }
     ensures count { O.faults_of out.old ≤ O.faults_of out.new }

@@ -3,11 +3,16 @@
 
 ghost use Rattle.std.specs.Prelude.{◌≡◌, IfOk};
 
+mod answers;
 mod checking;
+mod comparing;
 mod drilling;
 mod endings;
 mod files;
 mod last_line;
+mod log_end;
+mod log_start;
+mod logged;
 #[cfg(test)]
 mod look_tests;
 mod playing;
@@ -17,11 +22,15 @@ mod serve;
 #[cfg(test)]
 mod tests;
 mod top;
+mod verifying;
 
+use crash_log::FileDisk;
 pub use endings::Ended;
 use line_io::{
     CallSpawner, Failed, FileDesk, ReaderSource, TcpDoor, TcpSink, TcpSource, WriterSink,
 };
+pub use log_end::LogEnded;
+pub use logged::tabletop_logged;
 use names::Memory;
 pub use script_play::play;
 pub use serve::tabletop_serve;
@@ -52,6 +61,14 @@ fn asks_to_serve(words: &[String]) -> bool {
     }
 }
 
+// Whether the words ask for a script to be played with a log.
+fn asks_for_a_log(words: &[String]) -> bool {
+    match words {
+        [first, _, third, ..] => first.as_str() == "play" && third.as_str() == "--log",
+        _ => false,
+    }
+}
+
 // A session over TCP, and a thread that serves one.
 type TcpSitting<R> = Sitting<R, TcpSource<R>, TcpSink<R>>;
 
@@ -77,6 +94,18 @@ fn main(rt: HostRuntime) -> ExitCode {
                 &mut out,
                 &mut door,
                 &mut threads,
+            )
+        }
+        Ok(words) if asks_for_a_log(&words) => {
+            let mut script = ReaderSource::new(rt.stdin());
+            let mut disk = FileDisk::new(&rt);
+            tabletop_logged(
+                rt.alloc(),
+                &words,
+                &mut desk,
+                &mut script,
+                &mut out,
+                &mut disk,
             )
         }
         Ok(words) => {

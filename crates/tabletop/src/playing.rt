@@ -87,7 +87,11 @@ fn after_play<E: Eye, O: Sink>(
     }
 }
 
-fn print_end<E: Eye, O: Sink>(alloc: Global, campaign: &Campaign<E>, out: &mut O) -> Ended
+pub(crate) fn print_end<E: Eye, O: Sink>(
+    alloc: Global,
+    campaign: &Campaign<E>,
+    out: &mut O,
+) -> Ended
     ensures printed { PrintsLine result (canonical (opened_of (world_of campaign.now)) ++ 10 ∷ []) (O.written out.old) (O.written out.new) }
     ensures done { result ≡ Ended.ReadFault → ⊥ }
     ensures write_fault { result ≡ Ended.WriteFault → CountRose (O.faults_of out.old) (O.faults_of out.new) }

@@ -7,6 +7,7 @@ mod cuts;
 mod drills;
 mod faults;
 mod full_table;
+mod logs;
 mod serve_faults;
 mod serves;
 mod stops;

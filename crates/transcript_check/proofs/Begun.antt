@@ -1,6 +1,6 @@
 -- A campaign that has no entry yet.
-use Rattle.std.proofs.Common.{◌≡◌, ℕ, true, false, List, [], Some, None, refl, sym, ◌∙◌, ap, subst}
-use Rattle.std.specs.Prelude.{Option, option_map, IfSome, slice_get}
+use Rattle.std.proofs.Common.{◌≡◌, ℕ, true, false, [], Some, None, refl, sym, ◌∙◌, ap}
+use Rattle.std.specs.Prelude.{Option, option_map, IfSome}
 use Rattle.seats.specs.Book.{blank_book}
 use Rattle.seats.specs.SeatState.{is_joined, blank_state}
 use Rattle.campaign_law.specs.Seat.{Seat, IsFreshSeat, was_joined}
@@ -10,7 +10,6 @@ use Rattle.campaign_law.specs.Player.{trace}
 use Rattle.campaign_law.proofs.Simulation.{fresh_at}
 use Rattle.player_machine.specs.Items.{items_in}
 use Rattle.transcript_check.specs.declared.tracing.Follower.{Follower}
-use Rattle.transcript_check.specs.Entering.{IsShown}
 use Rattle.transcript_check.specs.Tracing.{Follows}
 
 pub begun_world : (c : Course) → c.history ≡ [] → world_of c ≡ c.origin

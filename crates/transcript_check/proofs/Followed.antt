@@ -1,13 +1,12 @@
 -- A follower after one entry more.
-use Rattle.std.proofs.Common.{◌≡◌, ℕ, ◌<◌, Bool, true, false, cond, ◌&&◌, ◌||◌, eqb, List, [], ◌∷◌, ◌++◌, length, Some, None, refl, sym, ◌∙◌, ap, subst}
+use Rattle.std.proofs.Common.{◌≡◌, ℕ, ◌<◌, Bool, true, false, cond, ◌&&◌, ◌||◌, eqb, List, ◌++◌, length, Some, None, refl, sym, ◌∙◌, ap, subst}
 use Rattle.std.specs.Prelude.{Option, is_none, is_some, not, unwrap_or}
-use Rattle.views.specs.declared.view.View.{View}
 use Rattle.player_view.specs.View.{view_of}
 use Rattle.campaign_law.specs.declared.entry.Entry.{Entry}
 use Rattle.campaign_law.specs.declared.answer.Answer.{Answer}
 use Rattle.campaign_law.specs.Seat.{was_joined}
 use Rattle.campaign_law.specs.Outcome.{seat_of}
-use Rattle.campaign_law.specs.World.{World, seat_at, outcome_of, steps_of, scene_after, step}
+use Rattle.campaign_law.specs.World.{World, seat_at, outcome_of, steps_of, step}
 use Rattle.campaign_law.specs.Law.{Course, world_of, answer_after}
 use Rattle.campaign_law.specs.Player.{Item, items_of, trace}
 use Rattle.campaign_core.specs.Said.{last_said, said_by}

@@ -1,11 +1,10 @@
 -- Lists of items that are compared place by place.
-use Rattle.std.proofs.Common.{◌≡◌, ℕ, ◌+◌, ◌<◌, ◌≤◌, List, length, map, min, get_or, Some, refl, sym, ◌∙◌, ap, arith, ◌⊎◌, inl, inr}
+use Rattle.std.proofs.Common.{◌≡◌, ℕ, ◌+◌, ◌<◌, ◌≤◌, List, length, min, get_or, Some, refl, sym, ◌∙◌, ap, arith, inl, inr}
 use Rattle.std.specs.Prelude.{option_map, slice_get}
 use Rattle.std.proofs.lemmas.Bool.Decides.{leb_tells}
 use Rattle.std.proofs.lemmas.List.{length-map}
 use Rattle.std.proofs.lemmas.Option.{slice_get_read, slice_get-map}
 use borrow.Author.Count.{below_more}
-use Rattle.campaign_law.specs.Player.{Item}
 use Rattle.player_machine.specs.declared.item.TraceItem.{TraceItem}
 use Rattle.player_machine.specs.Items.{item_of, items_in}
 use Rattle.transcript_check.specs.Checks.{DifferAt}

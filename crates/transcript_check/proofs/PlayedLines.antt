@@ -1,5 +1,5 @@
 -- A script while it is played: the entries so far, and the lines that are to come.
-use Rattle.std.proofs.Common.{◌≡◌, ℕ, suc, ◌+◌, ◌<◌, ◌≤◌, Bool, true, false, ◌||◌, List, [], ◌∷◌, ◌++◌, length, Some, None, refl, sym, ◌∙◌, ap, append_assoc, arith}
+use Rattle.std.proofs.Common.{◌≡◌, ℕ, suc, ◌+◌, ◌≤◌, Bool, true, false, ◌||◌, List, [], ◌∷◌, length, Some, None, refl, sym, ◌∙◌, ap, append_assoc, arith}
 use Rattle.std.specs.Prelude.{Option, nat_lt}
 use Rattle.std.proofs.lemmas.List.{append-nil}
 use Rattle.std.proofs.lemmas.Bool.Decides.{nat_tests}
@@ -9,7 +9,7 @@ use Rattle.campaign_law.specs.declared.entry.Entry.{Entry}
 use Rattle.campaign_law.specs.World.{World, replay}
 use Rattle.campaign_law.specs.Law.{Course, world_of}
 use Rattle.campaign_law.proofs.SessionFronts.{replay-append}
-use Rattle.script_play.specs.Script.{Script, done, bad_line, too_large, ends, after_entries, entry_of_line, with_takens, is_past_limits, script_from, script_of}
+use Rattle.script_play.specs.Script.{Script, done, after_entries, entry_of_line, with_takens, is_past_limits, script_from, script_of}
 use Rattle.script_play.proofs.Scripts.{line_script, followed, script_none, script_line}
 use Rattle.transcript_check.specs.declared.tracing.Stop.{Stop}
 use Rattle.transcript_check.specs.declared.tracing.Stop.TheVariants.{BadLine, TooLarge, Memory}

@@ -1,21 +1,13 @@
 -- What a trace gives its callers.
-use Rattle.std.proofs.Common.{◌≡◌, ℕ, ◌≤◌, true, List, length, Some, sym, ◌∙◌, ap, subst, inr}
+use Rattle.std.proofs.Common.{◌≡◌, ℕ, ◌≤◌, List, length, Some, ◌∙◌}
 use Rattle.player_view.specs.Tables.{HasTables}
 use Rattle.campaign_core.specs.Opening.{world_of_text}
-use Rattle.campaign_law.specs.declared.entry.Entry.{Entry}
-use Rattle.campaign_law.specs.World.{World, sent}
 use Rattle.campaign_law.specs.Worlds.{FitsTogether}
-use Rattle.campaign_law.specs.Feeding.{MayFeedAll, TracesFeed}
-use Rattle.campaign_law.specs.Law.{Course, IsOpening, SentIsMachine, bytes_of}
-use Rattle.campaign_law.specs.Player.{Opening, Item, opening, trace, machine, started}
+use Rattle.campaign_law.specs.Law.{Course, IsOpening}
+use Rattle.campaign_law.specs.Player.{Opening, opening, trace}
 use Rattle.player_machine.specs.Items.{items_in}
 use Rattle.script_play.specs.Script.{done, script_of}
-use Rattle.transcript_check.specs.declared.checking.Verdict.{Verdict}
-use Rattle.transcript_check.specs.declared.comparing.Agreement.{Agreement}
-use Rattle.transcript_check.specs.declared.comparing.Agreement.TheVariants.{Agree, OpeningDiffers, TraceDiffers}
-use Rattle.transcript_check.specs.declared.fault.CheckFault.{CheckFault}
 use Rattle.transcript_check.specs.declared.tracing.Follower.{Follower}
-use Rattle.transcript_check.specs.Checks.{Decides, DifferAt, IsAgreement, IsFaultOf, IsFaultOfPair, IsTraceOf, IsVerdict}
 use Rattle.transcript_check.specs.Tracing.{Follows, IsTraced}
 
 -- a script that was played to its end

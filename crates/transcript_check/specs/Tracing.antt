@@ -1,7 +1,6 @@
 -- A player's seat that follows a campaign, and a script that is played.
 use Rattle.std.specs.Prelude.{◌≡◌, ◌≤◌, ℕ, false, List, ◌++◌, length, Some}
 use Rattle.campaign_law.specs.declared.entry.Entry.{Entry}
-use Rattle.campaign_law.specs.World.{World}
 use Rattle.campaign_law.specs.Worlds.{FitsTogether}
 use Rattle.campaign_law.specs.Law.{Course, IsOpening, world_of}
 use Rattle.campaign_law.specs.Player.{Opening, Item, trace}

@@ -1,5 +1,7 @@
 use Rattle.std.proofs.Common.{inl, inr}
+use Rattle.line_io.specs.Counts.{CountRose}
 use Rattle.tabletop.proofs.EndsLemmas.{run_ended, usage_if, no_job_only, told_usage, read_fault_of, write_fault_of, count_before, play_completes, check_completes, drill_completes}
+use Rattle.tabletop.proofs.AnsweredRuns.{verify_answers, compare_answers}
 use Rattle.tabletop.proofs.top.tabletop.Goals as goal
 
 pub returns-clause-ends : goal.returns-clause-ends
@@ -46,3 +48,23 @@ returns-clause-drilled g c =
     λ number lines job no_out.
     drill_completes c.status_of.result _ (g.D.Desk.text_of c.args.desk.now) _ _ _ _ _ _ _ number lines h job
     (λ e. no_out (count_before _ _ _ c.print_last_line.ensures.count (c.job-ended.ensures.write_fault (write_fault_of c.status_of.result c.job-ended.result c.print_last_line.result c.status_of.ensures c.print_last_line.ensures.ended e))))
+
+pub returns-clause-verified : goal.returns-clause-verified
+returns-clause-verified g c =
+    let desk = CountRose (g.D.Desk.faults_of c.args.desk.now) (g.D.Desk.faults_of c.job-ended.new.desk) in
+    let source = CountRose (g.S.Source.faults_of c.args.script.now) (g.S.Source.faults_of c.job-ended.new.script) in
+    let h = run_ended desk source c.status_of.result c.job-ended.result c.print_last_line.result _ _ _ _ _ _ _ _ _ _ c.status_of.ensures c.print_last_line.ensures.ended c.job-ended.ensures.ends c.job-ended.ensures.out_count c.print_last_line.ensures.line in
+    λ file lines transcript told seat job at there no_desk no_out.
+    verify_answers c.status_of.result _ (g.D.Desk.text_of c.args.desk.now) _ _ _ _ desk source _ h no_desk
+    (λ e. no_out (count_before _ _ _ c.print_last_line.ensures.count (c.job-ended.ensures.write_fault (write_fault_of c.status_of.result c.job-ended.result c.print_last_line.result c.status_of.ensures c.print_last_line.ensures.ended e))))
+    file lines transcript told seat job at there
+
+pub returns-clause-compared : goal.returns-clause-compared
+returns-clause-compared g c =
+    let desk = CountRose (g.D.Desk.faults_of c.args.desk.now) (g.D.Desk.faults_of c.job-ended.new.desk) in
+    let source = CountRose (g.S.Source.faults_of c.args.script.now) (g.S.Source.faults_of c.job-ended.new.script) in
+    let h = run_ended desk source c.status_of.result c.job-ended.result c.print_last_line.result _ _ _ _ _ _ _ _ _ _ c.status_of.ensures c.print_last_line.ensures.ended c.job-ended.ensures.ends c.job-ended.ensures.out_count c.print_last_line.ensures.line in
+    λ file lines file2 lines2 seat job at at2 no_desk no_out.
+    compare_answers c.status_of.result _ (g.D.Desk.text_of c.args.desk.now) _ _ _ _ desk source _ h no_desk
+    (λ e. no_out (count_before _ _ _ c.print_last_line.ensures.count (c.job-ended.ensures.write_fault (write_fault_of c.status_of.result c.job-ended.result c.print_last_line.result c.status_of.ensures c.print_last_line.ensures.ended e))))
+    file lines file2 lines2 seat job at at2

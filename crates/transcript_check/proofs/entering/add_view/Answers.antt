@@ -1,4 +1,4 @@
-use Rattle.std.proofs.Common.{◌≡◌, ◌∷◌, [], ◌++◌, ◌∙◌, true, false, refl, sym, ap, rules, ◌⊎◌, inl, inr}
+use Rattle.std.proofs.Common.{◌≡◌, ◌∷◌, [], ◌++◌, ◌∙◌, true, false, sym, ap, rules, ◌⊎◌, inl, inr}
 use Rattle.player_view.specs.View.{view_of}
 use Rattle.campaign_law.specs.Law.{world_of}
 use Rattle.campaign_law.specs.Player.{view}

@@ -1,5 +1,4 @@
 use Rattle.std.proofs.Common.{◌∙◌, refl, sym}
-use Rattle.transcript_check.proofs.Histories.{Enters}
 use Rattle.transcript_check.proofs.Followed.{accepted_is, own_is_there, follows_own, others_are_there, follows_others}
 use Rattle.transcript_check.proofs.Results.{on_both}
 use Rattle.transcript_check.proofs.tracing.Follower.enter.Goals as goal

@@ -1,4 +1,4 @@
-use Rattle.std.proofs.Common.{◌≡◌, ◌≤◌, ◌+◌, ◌∷◌, [], ◌∙◌, subst, arith}
+use Rattle.std.proofs.Common.{◌≡◌, ◌≤◌, ◌∷◌, [], ◌∙◌, subst, arith}
 use Rattle.line_io.specs.Lines.{lines_of}
 use Rattle.script_play.specs.Script.{script_of}
 use Rattle.transcript_check.specs.Tracing.{IsStopOf}
