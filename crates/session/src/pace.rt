@@ -1,6 +1,6 @@
 //! How far the reading half of a session may be ahead of its writing half.
 use std::sync::Wait;
-use std::sync::atomic::{AtomicU64, Ordering};
+use std::sync::atomic::{AtomicBool, AtomicU64, Ordering};
 use std::time::Duration;
 
 /// So many lines may be entered between two turns of the writing half.
@@ -28,6 +28,8 @@ pub(crate) struct Pace {
     bytes: AtomicU64,
     // 0 before the first turn of the writing half.
     found: AtomicU64,
+    // Whether the reading half sleeps, or is about to, and is to be woken by a turn.
+    sleeps: AtomicBool,
 }
 
 impl Pace {
@@ -38,6 +40,7 @@ impl Pace {
             lines: AtomicU64::new(LINES),
             bytes: AtomicU64::new(0),
             found: AtomicU64::new(0),
+            sleeps: AtomicBool::new(false),
         }
     }
 
@@ -51,10 +54,13 @@ impl Pace {
             .store(before.saturating_add(bytes), Ordering::SeqCst);
     }
 
-    /// A turn of the writing half found a history of this length, which isn't empty.
+    /// A turn of the writing half found a history of this length, which isn't empty. Most turns find the reading half awake, and
+    /// ask nothing of the system.
     pub(crate) fn found(&self, length: u64) {
         self.found.store(length, Ordering::SeqCst);
-        self.found.wake_one();
+        if self.sleeps.load(Ordering::SeqCst) {
+            self.found.wake_one();
+        }
     }
 
     /// The writing half takes no more turns.
@@ -82,20 +88,31 @@ impl Pace {
                 self.wait_to_begin(rt);
                 continue;
             }
-            // A thread parks on the low 32 bits of a word.
-            self.found.park(rt, (found % (1 << 32)) as u32);
+            self.sleep(rt, found);
         }
         unreachable!()
     }
 
+    // Sleeps until a turn finds more than this. A turn that comes between the load of `found` and the sleep has changed the word by
+    // then, or sees that the half sleeps.
+    fn sleep<R: Wait>(&self, rt: &R, found: u64) {
+        self.sleeps.store(true, Ordering::SeqCst);
+        // A thread parks on the low 32 bits of a word.
+        self.found.park(rt, (found % (1 << 32)) as u32);
+        self.sleeps.store(false, Ordering::SeqCst);
+    }
+
     // Waits for the first turn. Where it comes later than that, it is told all the same.
     fn wait_to_begin<R: Wait>(&self, rt: &R) {
+        self.sleeps.store(true, Ordering::SeqCst);
         for _ in 0..LOOKS {
             self.found.park_timeout(rt, 0, Duration::from_millis(LOOK));
             if self.found.load(Ordering::SeqCst) != 0 {
+                self.sleeps.store(false, Ordering::SeqCst);
                 return;
             }
         }
+        self.sleeps.store(false, Ordering::SeqCst);
         let _told = self
             .found
             .compare_exchange(0, NEVER, Ordering::SeqCst, Ordering::SeqCst);
