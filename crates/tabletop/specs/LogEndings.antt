@@ -1,5 +1,7 @@
 -- How a run with a log ends: its status and its last line. This project's own table.
 use Rattle.std.specs.Prelude.{◌≡◌, ◌⊎◌, ℕ, List, [], ◌∷◌, ◌++◌, codes, decimal}
+use Rattle.campaign_core.specs.declared.campaign.OpenFault.{OpenFault}
+use Rattle.campaign_core.specs.declared.campaign.OpenFault.TheVariants as fault
 use Rattle.log_play.specs.declared.logged.Logged.{Logged}
 use Rattle.log_play.specs.declared.logged.Logged.TheVariants as logged
 use Rattle.tabletop.specs.declared.endings.Ended.{Ended}
@@ -50,3 +52,8 @@ ended_logged logged.TooLarge = Plain plain.TooLarge
 ended_logged logged.DiskFault = DiskFault
 ended_logged logged.Full = Full
 ended_logged logged.Memory = Plain plain.Memory
+
+-- as what a text ends the run that opens no campaign
+abbrev pub unopened : OpenFault → LogEnded
+unopened (fault.Bad breach) = Plain (plain.BadCampaign breach)
+unopened fault.Memory = Plain plain.Memory

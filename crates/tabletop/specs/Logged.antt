@@ -2,7 +2,6 @@
 use Rattle.std.specs.Prelude.{◌≡◌, ◌≢◌, ◌≤◌, ◌<◌, ◌^◌, ◌⊎◌, ℕ, zero, suc, List, [], ◌∷◌, ◌++◌, length, drop, Bool, true, false, if◌then◌else◌, Option, Some, None, Err}
 use Rattle.std.specs.Io.KnownBytes.{append_known}
 use Rattle.line_io.specs.Told.{WhereTold}
-use Rattle.line_io.specs.declared.desks.DeskFault.{DeskFault}
 use Rattle.seats.specs.SeatState.{is_free}
 use Rattle.campaign_json.specs.declared.faults.BadCampaign.{BadCampaign as Breach}
 use Rattle.campaign_file.specs.Campaign.{campaign_of}
@@ -29,7 +28,7 @@ use Rattle.tabletop.specs.declared.endings.Ended.TheVariants as plain
 use Rattle.tabletop.specs.declared.log_end.LogEnded.{LogEnded}
 use Rattle.tabletop.specs.declared.log_end.LogEnded.TheVariants.{Plain, Usage, DiskFault, BadLog, OtherCampaign, Full}
 use Rattle.tabletop.specs.Printing.{PrintsLine}
-use Rattle.tabletop.specs.Ends.{Fetched, NotFetched, unfetched, end_line, campaign_limit}
+use Rattle.tabletop.specs.Ends.{Fetched, NotFetched, end_line, campaign_limit}
 use Rattle.tabletop.specs.LogEndings.{log_status, log_line, IsToldInLog, ended_logged}
 
 -- ---- what is entered behind a log's entries
@@ -164,7 +163,7 @@ module _ {D : Type 0} (seen : D → List ℕ) (may_leave : D → List ℕ → Ty
   -- on the campaign of a file, which has this text where it is told
   abbrev pub FileLogs : (Tells DeskFailed : Type 0) → Bool → LogEnded → (campaign script left out after : Option (List ℕ)) → (old new : D) → Type 0
   FileLogs Tells DeskFailed end ended campaign script left out after old new =
-      ((fault : DeskFault) × (ended ≡ Plain (unfetched fault)) × NotFetched DeskFailed (unfetched fault) campaign × (after ≡ out))
+      ((want : Ended) × (ended ≡ Plain want) × NotFetched DeskFailed want campaign × (after ≡ out))
       ⊎ Fetched (λ text. TextLogs Tells end ended text script left out after old new) campaign
 
   -- the words asked for this, or for nothing. The desk has a text of some names

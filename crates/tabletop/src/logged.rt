@@ -17,11 +17,11 @@ ghost use Rattle.command_words.specs.Logged.{logged_of};
 ghost use Rattle.tabletop.specs.Logged.{FileLogs, FollowsLogged, HasEndedLogged, HasNoLog, IsAskedFor, IsFound, IsOtherLog, JobLogs, PlayedTo, TextLogs, behind_leaves, resumed, start_of};
 
 use crate::endings::Ended;
-use crate::files::not_fetched;
-use crate::log_end::{LogEnded, ended_logged, log_status, print_log_line};
+use crate::files::fetch;
+use crate::log_end::{LogEnded, ended_logged, log_status, not_opened, print_log_line};
 use crate::log_start::{enter_again, leaves_due, open_log};
 use crate::playing::print_end;
-use campaign_core::{Campaign, OpenFault};
+use campaign_core::Campaign;
 use command_words::{LoggedPlay, WordsFault, read_logged_words};
 use crash_log::{Disk, Journal};
 use line_io::{Desk, Sink, Source};
@@ -122,9 +122,9 @@ fn play_file_logged<D: Desk, S: Source, O: Sink, K: Disk>(
     ensures disk_fault { result ≡ LogEnded.DiskFault → CountRose (K.faults_of disk.old) (K.faults_of disk.new) }
     ensures out_count { O.faults_of out.old ≤ O.faults_of out.new }
 {
-    match desk.fetch(file) {
+    match fetch(desk, file) {
         Ok(text) => play_text_logged(alloc, log, end, &text, script, out, disk),
-        Err(fault) => LogEnded::Plain(not_fetched(fault)),
+        Err(ended) => LogEnded::Plain(ended),
     }
 }
 
@@ -150,8 +150,7 @@ fn play_text_logged<S: Source, O: Sink, K: Disk>(
         Ok(mut campaign) => {
             play_with_log(alloc, &mut campaign, log, end, text, script, out, disk)
         }
-        Err(OpenFault::Bad(breach)) => LogEnded::Plain(Ended::BadCampaign(breach)),
-        Err(OpenFault::Memory) => LogEnded::Plain(Ended::Memory),
+        Err(fault) => not_opened(fault),
     }
 }
 
