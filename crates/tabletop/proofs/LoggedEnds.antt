@@ -1,6 +1,6 @@
 -- How a run with a log ends, from what its parts did.
-use Rattle.std.proofs.Common.{◌≡◌, ◌≢◌, ◌≤◌, ◌<◌, ◌^◌, ◌+◌, ℕ, true, false, List, [], ◌∷◌, ◌++◌, length, Some, None, refl, sym, ◌∙◌, ap, subst, arith, append_assoc, length-append, ◌⊎◌, inl, inr}
-use Rattle.std.specs.Prelude.{Option, Bool, IfSome, unwrap_or, Err}
+use Rattle.std.proofs.Common.{◌≡◌, ◌≢◌, ◌≤◌, ◌<◌, ◌^◌, ◌+◌, ℕ, true, false, List, [], ◌∷◌, ◌++◌, length, Some, None, refl, sym, ◌∙◌, ap, subst, arith, length-append, ◌⊎◌, inl, inr}
+use Rattle.std.specs.Prelude.{Option, Bool, IfSome}
 use Rattle.std.specs.Io.KnownBytes.{append_known}
 use Rattle.line_io.specs.Counts.{CountRose}
 use Rattle.line_io.specs.Told.{WhereTold}
@@ -16,7 +16,7 @@ use Rattle.crash_log.specs.Log.{IsLog, IsBadAt, open_part}
 use Rattle.crash_log.proofs.LogLaws.{log_same, log_not_bad}
 use Rattle.script_play.specs.declared.run.Played.{Played}
 use Rattle.script_play.specs.Script.{Script, Ending, done, bad_line, too_large}
-use Rattle.script_play.specs.Played.{IsPrefix, HasEntered}
+use Rattle.script_play.specs.Played.{HasEntered}
 use Rattle.script_play.specs.Sending.{WroteFront}
 use Rattle.log_play.specs.declared.logged.Logged.{Logged}
 use Rattle.log_play.specs.declared.logged.Logged.TheVariants as logged
@@ -26,11 +26,11 @@ use Rattle.tabletop.specs.declared.endings.Ended.{Ended}
 use Rattle.tabletop.specs.declared.endings.Ended.TheVariants as plain
 use Rattle.tabletop.specs.declared.log_end.LogEnded.{LogEnded}
 use Rattle.tabletop.specs.declared.log_end.LogEnded.TheVariants.{Plain, Usage, DiskFault, BadLog, OtherCampaign, Full}
-use Rattle.tabletop.specs.Endings.{status_of, HasOwnLine}
+use Rattle.tabletop.specs.Endings.{status_of}
 use Rattle.tabletop.specs.Printing.{PrintsLine}
-use Rattle.tabletop.specs.Ends.{IsToldAs, NotFetched, end_line, campaign_limit}
+use Rattle.tabletop.specs.Ends.{IsToldAs, NotFetched, end_line}
 use Rattle.tabletop.specs.LogEndings.{log_status, log_line, IsToldInLog, ended_logged, unopened}
-use Rattle.tabletop.specs.Logged.{Begins, BreaksFormat, FileLogs, FollowsLogged, HasEndedLogged, HasNoLog, IsAskedFor, IsFound, IsFull, IsOtherLog, JobLogs, PlayedTo, RunsOn, TextLogs, resumed}
+use Rattle.tabletop.specs.Logged.{BreaksFormat, FileLogs, FollowsLogged, HasEndedLogged, HasNoLog, IsAskedFor, IsFound, IsFull, IsOtherLog, JobLogs, PlayedTo, RunsOn, TextLogs, resumed}
 use Rattle.tabletop.proofs.OpenParts.{has_room}
 use Rattle.tabletop.proofs.AnswerLemmas.{some_same, breach_world}
 use Rattle.tabletop.proofs.EndsLemmas.{count_after, two_is_usage, read_fault_of, write_fault_of}

@@ -4,7 +4,6 @@ use Rattle.campaign_core.specs.declared.campaign.OpenFault.{OpenFault}
 use Rattle.campaign_core.specs.declared.campaign.OpenFault.TheVariants as fault
 use Rattle.log_play.specs.declared.logged.Logged.{Logged}
 use Rattle.log_play.specs.declared.logged.Logged.TheVariants as logged
-use Rattle.tabletop.specs.declared.endings.Ended.{Ended}
 use Rattle.tabletop.specs.declared.endings.Ended.TheVariants as plain
 use Rattle.tabletop.specs.declared.log_end.LogEnded.{LogEnded}
 use Rattle.tabletop.specs.declared.log_end.LogEnded.TheVariants.{Plain, Usage, DiskFault, BadLog, OtherCampaign, Full}

@@ -3,7 +3,7 @@ ghost use Rattle.std.specs.Prelude.{◌≡◌, ◌≤◌, ◌⊎◌, string_byte
 ghost use Rattle.std.specs.Io.KnownBytes.{append_known};
 ghost use Rattle.line_io.specs.Counts.{CountRose};
 ghost use Rattle.script_play.specs.Sending.{WroteFront};
-ghost use Rattle.tabletop.specs.LogEndings.{HasOwnLogLine, IsFixedLogLine, IsToldInLog, ended_logged as ended_logged_lem, log_line, log_status as log_status_lem, unopened};
+ghost use Rattle.tabletop.specs.LogEndings.{IsFixedLogLine, IsToldInLog, ended_logged as ended_logged_lem, log_line, log_status as log_status_lem, unopened};
 
 use crate::endings::{Ended, fixed_line, status_of};
 use crate::last_line::{print, print_last_line};
