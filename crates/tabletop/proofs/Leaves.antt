@@ -20,14 +20,13 @@ use Rattle.campaign_law.specs.Views.{change_line}
 use Rattle.campaign_law.specs.Seat.{Seat, freed_seat, settled}
 use Rattle.campaign_law.specs.Outcome.{Outcome, Report, nothing, outcome_at}
 use Rattle.campaign_law.specs.World.{World, seat_at, asked_of, report_of, outcome_of, scene_after, addressed, is_present, some_to_list, lines_if_present, entry_lines, changed, seat_after, lines_of, step, replay}
-use Rattle.campaign_law.specs.Law.{Course, IsOpening, world_of}
 use Rattle.campaign_law.proofs.Lists.{ap₂}
 use Rattle.campaign_law.proofs.Settled.{scene_stays, replay_settled}
 use Rattle.campaign_law.proofs.Views.{same_no_change}
 use Rattle.campaign_law.proofs.Seats.{IsSound, settled-free}
 use Rattle.campaign_law.proofs.Sessions.{seat_at-after}
 use Rattle.campaign_law.proofs.Refused.{after_quiet, queued_quiet, eqb-same, after_at, other_at}
-use Rattle.crash_log.specs.Entries.{entry_bytes, flag}
+use Rattle.crash_log.specs.Entries.{entry_bytes}
 use Rattle.script_play.specs.Script.{NothingWaits}
 use Rattle.script_play.specs.Tagged.{tagged_lines, entry_text_below, entry_text, tagged}
 use Rattle.script_play.proofs.Fronts.{replay-append, tagged-append}

@@ -1,22 +1,22 @@
 -- How a run with a log ends, from what its parts did.
-use Rattle.std.proofs.Common.{◌≡◌, ◌≢◌, ◌≤◌, ◌<◌, ◌^◌, ◌+◌, ℕ, true, false, List, [], ◌∷◌, ◌++◌, length, Some, None, refl, sym, ◌∙◌, ap, subst, arith, append_assoc, length-append, ◌⊎◌, inl, inr}
-use Rattle.std.specs.Prelude.{Option, Bool, IfSome, unwrap_or, Err}
+use Rattle.std.proofs.Common.{◌≡◌, ◌≢◌, ◌≤◌, ◌<◌, ◌^◌, ◌+◌, ℕ, true, false, List, [], ◌∷◌, ◌++◌, length, Some, None, refl, sym, ◌∙◌, ap, subst, arith, length-append, ◌⊎◌, inl, inr}
+use Rattle.std.specs.Prelude.{Option, Bool, IfSome}
 use Rattle.std.specs.Io.KnownBytes.{append_known}
 use Rattle.line_io.specs.Counts.{CountRose}
 use Rattle.line_io.specs.Told.{WhereTold}
-use Rattle.line_io.specs.declared.desks.DeskFault.{DeskFault}
-use Rattle.line_io.specs.declared.desks.DeskFault.TheVariants as desk
 use Rattle.campaign_law.specs.declared.entry.Entry.{Entry}
 use Rattle.campaign_law.specs.World.{World, replay}
 use Rattle.campaign_law.specs.Worlds.{opened_of}
 use Rattle.campaign_law.specs.Law.{Course, world_of}
 use Rattle.campaign_writing.specs.Canonical.{canonical}
-use Rattle.campaign_core.specs.Opening.{world_of_text}
+use Rattle.campaign_core.specs.declared.campaign.OpenFault.{OpenFault}
+use Rattle.campaign_core.specs.declared.campaign.OpenFault.TheVariants as faults
+use Rattle.campaign_core.specs.Opening.{world_of_text, IsOpenFault}
 use Rattle.crash_log.specs.Log.{IsLog, IsBadAt, open_part}
 use Rattle.crash_log.proofs.LogLaws.{log_same, log_not_bad}
 use Rattle.script_play.specs.declared.run.Played.{Played}
 use Rattle.script_play.specs.Script.{Script, Ending, done, bad_line, too_large}
-use Rattle.script_play.specs.Played.{IsPrefix, HasEntered}
+use Rattle.script_play.specs.Played.{HasEntered}
 use Rattle.script_play.specs.Sending.{WroteFront}
 use Rattle.log_play.specs.declared.logged.Logged.{Logged}
 use Rattle.log_play.specs.declared.logged.Logged.TheVariants as logged
@@ -26,19 +26,41 @@ use Rattle.tabletop.specs.declared.endings.Ended.{Ended}
 use Rattle.tabletop.specs.declared.endings.Ended.TheVariants as plain
 use Rattle.tabletop.specs.declared.log_end.LogEnded.{LogEnded}
 use Rattle.tabletop.specs.declared.log_end.LogEnded.TheVariants.{Plain, Usage, DiskFault, BadLog, OtherCampaign, Full}
-use Rattle.tabletop.specs.Endings.{status_of, HasOwnLine}
+use Rattle.tabletop.specs.Endings.{status_of}
 use Rattle.tabletop.specs.Printing.{PrintsLine}
-use Rattle.tabletop.specs.Ends.{IsToldAs, Fetched, NotFetched, unfetched, end_line, campaign_limit}
-use Rattle.tabletop.specs.LogEndings.{log_status, log_line, HasOwnLogLine, IsToldInLog, ended_logged}
-use Rattle.tabletop.specs.Logged.{Begins, BreaksFormat, FileLogs, FollowsLogged, HasEndedLogged, HasNoLog, IsAskedFor, IsFound, IsFull, IsOtherLog, JobLogs, PlayedTo, RunsOn, TextLogs, resumed}
+use Rattle.tabletop.specs.Ends.{IsToldAs, NotFetched, end_line}
+use Rattle.tabletop.specs.LogEndings.{log_status, log_line, IsToldInLog, ended_logged, unopened}
+use Rattle.tabletop.specs.Logged.{BreaksFormat, FileLogs, FollowsLogged, HasEndedLogged, HasNoLog, IsAskedFor, IsFound, IsFull, IsOtherLog, JobLogs, PlayedTo, RunsOn, TextLogs, resumed}
 use Rattle.tabletop.proofs.OpenParts.{has_room}
-use Rattle.tabletop.proofs.EndsLemmas.{breach_world, count_after, two_is_usage, read_fault_of, write_fault_of}
+use Rattle.tabletop.proofs.AnswerLemmas.{some_same, breach_world}
+use Rattle.tabletop.proofs.EndsLemmas.{count_after, two_is_usage, read_fault_of, write_fault_of}
 
 -- ---- the last line
 
 pub told_plain : (ended told : Ended) → IsToldAs ended told → IsToldInLog (Plain ended) (Plain told)
 told_plain ended told (inl same) = inl (ap Plain same)
 told_plain ended told (inr less) = inr (less.0, ap Plain less.1)
+
+-- ---- a file that wasn't fetched
+
+abbrev unplain : Ended → LogEnded → Ended
+unplain other (Plain ended) = ended
+unplain other ended = other
+
+pub plain_same : (a b : Ended) → Plain a ≡ Plain b → a ≡ b
+plain_same a b e = ap (unplain a) e
+
+pub unfetched_reads : (DeskFailed : Type 0) (want : Ended) (campaign : Option (List ℕ)) → NotFetched DeskFailed want campaign → Plain want ≡ Plain plain.ReadFault → DeskFailed
+unfetched_reads DeskFailed want campaign n e = subst (λ x. NotFetched DeskFailed x campaign) (plain_same want plain.ReadFault e) n
+
+pub unfetched_writes : (DeskFailed : Type 0) (want : Ended) (campaign : Option (List ℕ)) → NotFetched DeskFailed want campaign → Plain want ≡ Plain plain.WriteFault → ⊥
+unfetched_writes DeskFailed want campaign n e = subst (λ x. NotFetched DeskFailed x campaign) (plain_same want plain.WriteFault e) n
+
+-- ---- a text that opens no campaign
+
+pub not_opened_ends : (Tells : Type 0) (fault : OpenFault) (ended : LogEnded) (text file : List ℕ) → ended ≡ unopened fault → IsOpenFault text fault → BreaksFormat ended text ⊎ HasNoLog Tells ended text file
+not_opened_ends Tells (faults.Bad breach) ended text file is bad = inl (breach, is, bad)
+not_opened_ends Tells faults.Memory ended text file is bad = inr (subst (λ (e : LogEnded). HasNoLog Tells e text file) (sym is) refl)
 
 -- ---- what follows a script
 
@@ -137,11 +159,6 @@ two_usage (BadLog at) s = absurd (omega (arith, s))
 two_usage OtherCampaign s = absurd (omega (arith, s))
 two_usage Full s = absurd (omega (arith, s))
 
-unfetched_not : (fault : DeskFault) → unfetched fault ≡ plain.Usage → ⊥
-unfetched_not desk.Failed e = cc
-unfetched_not desk.TooLarge e = cc
-unfetched_not desk.Memory e = cc
-
 logged_not : (answer : Logged) → IsUsage (ended_logged answer) → ⊥
 logged_not logged.Done e = cc
 logged_not logged.ReadFault e = cc
@@ -187,7 +204,7 @@ module _ {D : Type 0} (seen : D → List ℕ) (may_leave : D → List ℕ → Ty
   job_not : (Tells DeskFailed : Type 0) (ended : LogEnded) (asked : Option AskedLogged) (texts : List ℕ → Option (List ℕ)) (script left out after : Option (List ℕ)) (old new : D) → IsUsage ended
       → JobLogs seen may_leave moment left_since Tells DeskFailed ended asked texts script left out after old new → asked ≡ None
   job_not Tells DeskFailed ended None texts script left out after old new u h = refl
-  job_not Tells DeskFailed ended (Some play) texts script left out after old new u (inl none) = absurd (unfetched_not none.0 (subst IsUsage none.1 u))
+  job_not Tells DeskFailed ended (Some play) texts script left out after old new u (inl none) = absurd (subst (λ e. NotFetched DeskFailed e (texts play.file)) (subst IsUsage none.1 u) none.2)
   job_not Tells DeskFailed ended (Some play) texts script left out after old new u (inr f) = absurd (text_not Tells play.end ended f.text script left out after old new u f.ends)
 
   pub usage_only : (Tells DeskFailed OutFailed : Type 0) (status : ℕ) (asked : Option AskedLogged) (texts : List ℕ → Option (List ℕ)) (script left out after : Option (List ℕ)) (old new : D)
@@ -227,9 +244,6 @@ not_bad text kept file place (inl a) there bad = there a.0
 not_bad text kept file place (inr a) there bad = log_not_bad text kept file place a bad
 
 -- ---- completeness
-
-some_same : {A : Type 0} (x y : A) → Some x ≡ Some y → x ≡ y
-some_same x y e = ap (λ (o : Option _). unwrap_or o x) e
 
 abbrev OrMemory : ℕ → ℕ → Type 0
 OrMemory status n = (status ≡ n) ⊎ (status ≡ 6)
@@ -292,10 +306,11 @@ module _ {D : Type 0} (seen : D → List ℕ) (may_leave : D → List ℕ → Ty
   comes Tells DeskFailed ended asked texts campaign origin script left out after old new a no_desk h =
       by (subst (λ (x : Option AskedLogged). JobLogs seen may_leave moment left_since Tells DeskFailed ended x texts script left out after old new) a.is h)
     where
-      unfetched_as : (fault : DeskFault) → NotFetched DeskFailed (unfetched fault) (Some campaign) → unfetched fault ≡ plain.Memory
-      unfetched_as desk.Failed n = absurd (no_desk n)
-      unfetched_as desk.TooLarge n = absurd (omega (arith, n, a.small))
-      unfetched_as desk.Memory n = refl
+      unfetched_as : (want : Ended) → NotFetched DeskFailed want (Some campaign) → want ≡ plain.Memory
+      unfetched_as plain.ReadFault n = absurd (no_desk n)
+      unfetched_as plain.TooLarge n = absurd (omega (arith, n, a.small))
+      unfetched_as plain.Memory n = refl
+      unfetched_as want n = absurd n
 
       with_text : TextLogs seen may_leave moment left_since Tells a.play.end ended campaign script left out after old new → Comes Tells ended campaign origin script left out after old new
       with_text (inl (inl breaks, same)) = absurd (breach_world campaign breaks.0 origin a.world breaks.2)
@@ -304,7 +319,7 @@ module _ {D : Type 0} (seen : D → List ℕ) (may_leave : D → List ℕ → Ty
 
       by : FileLogs seen may_leave moment left_since Tells DeskFailed a.play.end ended (texts a.play.file) script left out after old new → Comes Tells ended campaign origin script left out after old new
       by (inl none) =
-          let e : unfetched none.0 ≡ plain.Memory = unfetched_as none.0 (subst (NotFetched DeskFailed (unfetched none.0)) a.told none.2) in
+          let e : none.0 ≡ plain.Memory = unfetched_as none.0 (subst (NotFetched DeskFailed none.0) a.told none.2) in
           no_log (subst (λ (x : LogEnded). HasNoLog Tells x campaign (seen old)) (sym (none.1 ∙ ap Plain e)) refl)
       by (inr f) =
           let same : f.text ≡ campaign = subst (λ c. IfSome c (λ told. f.text ≡ told)) a.told f.told in

@@ -12,12 +12,10 @@ use Rattle.crash_log.specs.Disk.{LeavesOnly}
 use Rattle.crash_log.specs.Log.{HoldsLog}
 use Rattle.script_play.specs.declared.run.Played.{Played}
 use Rattle.script_play.specs.declared.run.Played.TheVariants as played
-use Rattle.script_play.specs.Script.{script_of}
 use Rattle.script_play.specs.Tagged.{lines_behind}
 use Rattle.script_play.specs.Played.{GoesOn, HasEntered, HasRead, HasWritten, AreWrittenOf, IsPartSent, Writes, entries_since}
 use Rattle.script_play.proofs.Fronts.{prefix_part, wrote_nothing}
-use Rattle.script_play.proofs.AfterEntry.{goes_on, nothing_since, since_is, stays}
-use Rattle.script_play.proofs.LineRuns.{world_on}
+use Rattle.script_play.proofs.AfterEntry.{nothing_since, stays}
 use Rattle.script_play.proofs.Reading.{told_same, told_weaker}
 use Rattle.script_play.proofs.Written.{writes}
 use Rattle.log_play.specs.declared.logged.Logged.{Logged}

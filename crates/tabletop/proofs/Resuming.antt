@@ -1,7 +1,7 @@
 -- A script that is played behind the Leaves of who was there.
-use Rattle.std.proofs.Common.{◌≡◌, ℕ, ◌≤◌, List, [], ◌∷◌, ◌++◌, length, drop, refl, sym, ◌∙◌, ap, subst, append_assoc}
+use Rattle.std.proofs.Common.{◌≡◌, ℕ, List, [], ◌++◌, length, drop, refl, sym, ◌∙◌, ap, subst}
 use Rattle.std.specs.Prelude.{Option, Some, None}
-use Rattle.std.proofs.lemmas.List.{append-nil, drop_at}
+use Rattle.std.proofs.lemmas.List.{drop_at}
 use Rattle.line_io.specs.Told.{WhereTold}
 use Rattle.line_io.proofs.ToldLemmas.{append_known-nil}
 use Rattle.command_effects.specs.Settle.{IsSettled}
@@ -14,12 +14,11 @@ use Rattle.crash_log.specs.Log.{HoldsLog}
 use Rattle.script_play.specs.declared.run.Played.{Played}
 use Rattle.script_play.specs.declared.run.Played.TheVariants as played
 use Rattle.script_play.specs.Script.{script_of, NothingWaits}
-use Rattle.script_play.specs.Tagged.{tagged}
 use Rattle.script_play.specs.Played.{GoesOn, IsPrefix, HasEntered, HasRead, HasWritten, entries_since}
-use Rattle.script_play.proofs.Fronts.{prefix_all, prefix_part, prefix_before, entered_behind, all_part, written_behind}
+use Rattle.script_play.proofs.Fronts.{prefix_part, prefix_before, entered_behind, all_part, written_behind}
 use Rattle.script_play.proofs.AfterEntry.{all_sound}
 use Rattle.script_play.proofs.LineRuns.{since_all, world_on}
-use Rattle.script_play.proofs.Reading.{told_same, told_weaker}
+use Rattle.script_play.proofs.Reading.{told_weaker}
 use Rattle.log_play.specs.declared.logged.Logged.{Logged}
 use Rattle.log_play.specs.declared.logged.Logged.TheVariants.{Done, ReadFault, WriteFault, BadLine, TooLarge, DiskFault, Full, Memory}
 use Rattle.log_play.specs.Logged.{as_played, IsLogStop, UnlessDiskFault}

@@ -1,8 +1,9 @@
 -- How a run with a log ends: its status and its last line. This project's own table.
 use Rattle.std.specs.Prelude.{◌≡◌, ◌⊎◌, ℕ, List, [], ◌∷◌, ◌++◌, codes, decimal}
+use Rattle.campaign_core.specs.declared.campaign.OpenFault.{OpenFault}
+use Rattle.campaign_core.specs.declared.campaign.OpenFault.TheVariants as fault
 use Rattle.log_play.specs.declared.logged.Logged.{Logged}
 use Rattle.log_play.specs.declared.logged.Logged.TheVariants as logged
-use Rattle.tabletop.specs.declared.endings.Ended.{Ended}
 use Rattle.tabletop.specs.declared.endings.Ended.TheVariants as plain
 use Rattle.tabletop.specs.declared.log_end.LogEnded.{LogEnded}
 use Rattle.tabletop.specs.declared.log_end.LogEnded.TheVariants.{Plain, Usage, DiskFault, BadLog, OtherCampaign, Full}
@@ -50,3 +51,8 @@ ended_logged logged.TooLarge = Plain plain.TooLarge
 ended_logged logged.DiskFault = DiskFault
 ended_logged logged.Full = Full
 ended_logged logged.Memory = Plain plain.Memory
+
+-- as what a text ends the run that opens no campaign
+abbrev pub unopened : OpenFault → LogEnded
+unopened (fault.Bad breach) = Plain (plain.BadCampaign breach)
+unopened fault.Memory = Plain plain.Memory

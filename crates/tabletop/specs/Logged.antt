@@ -1,8 +1,7 @@
 -- What a run of `play FILE --log LOG` did.
-use Rattle.std.specs.Prelude.{◌≡◌, ◌≢◌, ◌≤◌, ◌<◌, ◌^◌, ◌⊎◌, ℕ, zero, suc, List, [], ◌∷◌, ◌++◌, length, drop, Bool, true, false, if◌then◌else◌, Option, Some, None, Err}
+use Rattle.std.specs.Prelude.{◌≡◌, ◌≢◌, ◌≤◌, ◌^◌, ◌⊎◌, ℕ, zero, suc, List, [], ◌∷◌, ◌++◌, length, drop, Bool, true, if◌then◌else◌, Option, Some, None, Err}
 use Rattle.std.specs.Io.KnownBytes.{append_known}
 use Rattle.line_io.specs.Told.{WhereTold}
-use Rattle.line_io.specs.declared.desks.DeskFault.{DeskFault}
 use Rattle.seats.specs.SeatState.{is_free}
 use Rattle.campaign_json.specs.declared.faults.BadCampaign.{BadCampaign as Breach}
 use Rattle.campaign_file.specs.Campaign.{campaign_of}
@@ -29,7 +28,7 @@ use Rattle.tabletop.specs.declared.endings.Ended.TheVariants as plain
 use Rattle.tabletop.specs.declared.log_end.LogEnded.{LogEnded}
 use Rattle.tabletop.specs.declared.log_end.LogEnded.TheVariants.{Plain, Usage, DiskFault, BadLog, OtherCampaign, Full}
 use Rattle.tabletop.specs.Printing.{PrintsLine}
-use Rattle.tabletop.specs.Ends.{Fetched, NotFetched, unfetched, end_line, campaign_limit}
+use Rattle.tabletop.specs.Ends.{Fetched, NotFetched, end_line, campaign_limit}
 use Rattle.tabletop.specs.LogEndings.{log_status, log_line, IsToldInLog, ended_logged}
 
 -- ---- what is entered behind a log's entries
@@ -96,7 +95,8 @@ module _ {D : Type 0} (seen : D → List ℕ) (may_leave : D → List ℕ → Ty
     pub until : seen old ≢ [] → LeavesOnly moment left_since old began (may_leave old)
 
   -- a run with a log, whose entries may come to the whole, which a script gives, and came to those that were put
-  pub record KeepsRun (text : List ℕ) (kept put : List Entry) (whole : List ℕ → List Entry) (script left : Option (List ℕ)) (old new : D) : Type 0 where
+  pub record KeepsRun (text : List ℕ) (kept put : List Entry) (whole : List ℕ → List Entry) (script left : Option (List ℕ))
+      (old new : D) : Type 0 where
     pub began : D
     pub end : ℕ
     pub begins : Begins text kept old began end
@@ -106,23 +106,28 @@ module _ {D : Type 0} (seen : D → List ℕ) (may_leave : D → List ℕ → Ty
     pub now : WhereTold script left (λ all rest. (file : List ℕ) → may_leave new file → HasFront text kept put (whole all) file)
 
   -- a script was played from a world, behind the entries of a log
-  pub record PlaysLogged (Tells : Type 0) (answer : Logged) (origin : World) (text : List ℕ) (script left out after : Option (List ℕ)) (old new : D) : Type 0 where
+  pub record PlaysLogged (Tells : Type 0) (answer : Logged) (origin : World) (text : List ℕ)
+      (script left out after : Option (List ℕ)) (old new : D) : Type 0 where
     pub opens : IsOpening origin
     -- the log's entries, and those of the run, of which alone lines were written
     pub kept : List Entry
     pub entries : List Entry
     pub entered : WhereTold script left (λ all rest. HasEntered (as_played answer) (resumed (replay origin kept) all) entries)
-    pub read : WhereTold script left (λ all rest. HasRead (as_played answer) (start_of (replay origin kept)) (behind_leaves (replay origin kept) entries) all rest)
+    pub read : WhereTold script left (λ all rest. HasRead (as_played answer) (start_of (replay origin kept))
+        (behind_leaves (replay origin kept) entries) all rest)
     pub written : HasWritten (as_played answer) (replay origin kept) entries out after
     -- what stands behind a player's number is what its machine prints over all entries, behind what it printed over the log's
-    pub players : (p : ℕ) → 1 ≤ p → p ≤ 32 → AreWrittenOf (as_played answer) (sent origin kept p ++ lines_behind p written.text) (machine (opening origin p) (trace origin (kept ++ entries) p))
+    pub players : (p : ℕ) → 1 ≤ p → p ≤ 32 → AreWrittenOf (as_played answer) (sent origin kept p ++ lines_behind p written.text)
+        (machine (opening origin p) (trace origin (kept ++ entries) p))
     pub machines : (p : ℕ) → IsSentAsMachine origin (kept ++ entries) p
     -- the log has every entry of which a byte may have been written
     pub log : Tells → KeepsRun text kept entries (λ all. (resumed (replay origin kept) all).entries) script left old new
-    pub full : Tells → answer ≡ logged.Full → WhereTold script left (λ all rest. IsFull text kept entries (resumed (replay origin kept) all).entries)
+    pub full : Tells → answer ≡ logged.Full
+        → WhereTold script left (λ all rest. IsFull text kept entries (resumed (replay origin kept) all).entries)
 
   -- and this is the campaign then: where the script was played to its end, that behind all entries
-  pub record PlayedTo (Tells : Type 0) (answer : Logged) (text : List ℕ) (script left out after : Option (List ℕ)) (old new : D) (first last : Course) : Type 0 where
+  pub record PlayedTo (Tells : Type 0) (answer : Logged) (text : List ℕ) (script left out after : Option (List ℕ)) (old new : D)
+      (first last : Course) : Type 0 where
     pub plays : PlaysLogged Tells answer first.origin text script left out after old new
     pub world : answer ≡ logged.Done → world_of last ≡ replay first.origin (plays.kept ++ plays.entries)
 
@@ -147,7 +152,8 @@ pub record IsAskedFor (asked : Option AskedLogged) (texts : List ℕ → Option 
 
 module _ {D : Type 0} (seen : D → List ℕ) (may_leave : D → List ℕ → Type 0) (moment : D → ℕ) (left_since : D → ℕ → List ℕ → Type 0) where
   -- a script was played from the world of the campaign's text, and what follows was done
-  pub record RunsOn (Tells : Type 0) (end : Bool) (ended : LogEnded) (text : List ℕ) (script left out after : Option (List ℕ)) (old new : D) : Type 0 where
+  pub record RunsOn (Tells : Type 0) (end : Bool) (ended : LogEnded) (text : List ℕ) (script left out after : Option (List ℕ))
+      (old new : D) : Type 0 where
     pub answer : Logged
     pub origin : World
     pub is : world_of_text text ≡ Some origin
@@ -159,21 +165,26 @@ module _ {D : Type 0} (seen : D → List ℕ) (may_leave : D → List ℕ → Ty
   -- once the campaign's text was there
   abbrev pub TextLogs : (Tells : Type 0) → Bool → LogEnded → List ℕ → (script left out after : Option (List ℕ)) → (old new : D) → Type 0
   TextLogs Tells end ended text script left out after old new =
-      ((BreaksFormat ended text ⊎ HasNoLog Tells ended text (seen old)) × (after ≡ out)) ⊎ RunsOn Tells end ended text script left out after old new
+      ((BreaksFormat ended text ⊎ HasNoLog Tells ended text (seen old)) × (after ≡ out))
+      ⊎ RunsOn Tells end ended text script left out after old new
 
   -- on the campaign of a file, which has this text where it is told
-  abbrev pub FileLogs : (Tells DeskFailed : Type 0) → Bool → LogEnded → (campaign script left out after : Option (List ℕ)) → (old new : D) → Type 0
+  abbrev pub FileLogs : (Tells DeskFailed : Type 0) → Bool → LogEnded → (campaign script left out after : Option (List ℕ))
+      → (old new : D) → Type 0
   FileLogs Tells DeskFailed end ended campaign script left out after old new =
-      ((fault : DeskFault) × (ended ≡ Plain (unfetched fault)) × NotFetched DeskFailed (unfetched fault) campaign × (after ≡ out))
+      ((want : Ended) × (ended ≡ Plain want) × NotFetched DeskFailed want campaign × (after ≡ out))
       ⊎ Fetched (λ text. TextLogs Tells end ended text script left out after old new) campaign
 
   -- the words asked for this, or for nothing. The desk has a text of some names
-  abbrev pub JobLogs : (Tells DeskFailed : Type 0) → LogEnded → Option AskedLogged → (texts : List ℕ → Option (List ℕ)) → (script left out after : Option (List ℕ)) → (old new : D) → Type 0
+  abbrev pub JobLogs : (Tells DeskFailed : Type 0) → LogEnded → Option AskedLogged → (texts : List ℕ → Option (List ℕ))
+      → (script left out after : Option (List ℕ)) → (old new : D) → Type 0
   JobLogs Tells DeskFailed ended None texts script left out after old new = (ended ≡ Usage) × (after ≡ out)
-  JobLogs Tells DeskFailed ended (Some play) texts script left out after old new = FileLogs Tells DeskFailed play.end ended (texts play.file) script left out after old new
+  JobLogs Tells DeskFailed ended (Some play) texts script left out after old new =
+      FileLogs Tells DeskFailed play.end ended (texts play.file) script left out after old new
 
   -- the whole run: how it ended and what was told of that, by its status, and the last line printed, of which a fault leaves a front
-  pub record HasEndedLogged (Tells : Type 0) (status : ℕ) (asked : Option AskedLogged) (texts : List ℕ → Option (List ℕ)) (script left out after : Option (List ℕ)) (old new : D) (DeskFailed OutFailed : Type 0) : Type 0 where
+  pub record HasEndedLogged (Tells : Type 0) (status : ℕ) (asked : Option AskedLogged) (texts : List ℕ → Option (List ℕ))
+      (script left out after : Option (List ℕ)) (old new : D) (DeskFailed OutFailed : Type 0) : Type 0 where
     pub ended : LogEnded
     pub told : LogEnded
     pub is_told : IsToldInLog ended told

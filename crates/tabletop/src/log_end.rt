@@ -3,10 +3,11 @@ ghost use Rattle.std.specs.Prelude.{◌≡◌, ◌≤◌, ◌⊎◌, string_byte
 ghost use Rattle.std.specs.Io.KnownBytes.{append_known};
 ghost use Rattle.line_io.specs.Counts.{CountRose};
 ghost use Rattle.script_play.specs.Sending.{WroteFront};
-ghost use Rattle.tabletop.specs.LogEndings.{HasOwnLogLine, IsFixedLogLine, IsToldInLog, ended_logged as ended_logged_lem, log_line, log_status as log_status_lem};
+ghost use Rattle.tabletop.specs.LogEndings.{IsFixedLogLine, IsToldInLog, ended_logged as ended_logged_lem, log_line, log_status as log_status_lem, unopened};
 
 use crate::endings::{Ended, fixed_line, status_of};
 use crate::last_line::{print, print_last_line};
+use campaign_core::OpenFault;
 use line_io::Sink;
 use log_play::Logged;
 use names::Memory;
@@ -56,6 +57,16 @@ pub(crate) fn ended_logged(logged: Logged) -> LogEnded
         Logged::DiskFault => LogEnded::DiskFault,
         Logged::Full => LogEnded::Full,
         Logged::Memory => LogEnded::Plain(Ended::Memory),
+    }
+}
+
+/// As what a text ends the run that opens no campaign.
+pub(crate) fn not_opened(fault: OpenFault) -> LogEnded
+    ensures { result ≡ unopened fault }
+{
+    match fault {
+        OpenFault::Bad(breach) => LogEnded::Plain(Ended::BadCampaign(breach)),
+        OpenFault::Memory => LogEnded::Plain(Ended::Memory),
     }
 }
 

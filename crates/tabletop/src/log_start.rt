@@ -1,10 +1,10 @@
 //! The log of a run as it starts: it is made or recovered, its entries are entered again, and who was there has left.
-ghost use Rattle.std.specs.Prelude.{◌≡◌, ◌≤◌, ◌<◌, ◌++◌, ◌∷◌, [], length, IfOk, IfErr, IsErr, IsErrOf, OnOk, OnErr};
+ghost use Rattle.std.specs.Prelude.{◌≡◌, ◌≤◌, ◌<◌, ◌++◌, ◌∷◌, [], length, IfOk, IfErr, IsErrOf, OnOk, OnErr};
 ghost use Rattle.line_io.specs.Counts.{CountRose};
 ghost use Rattle.campaign_law.specs.World.{seat_at};
 ghost use Rattle.campaign_law.specs.Law.{world_of};
 ghost use Rattle.crash_log.specs.Disk.{LeavesOnly};
-ghost use Rattle.crash_log.specs.Log.{IsLog, HoldsLog};
+ghost use Rattle.crash_log.specs.Log.{HoldsLog};
 ghost use Rattle.crash_log.specs.Reading.{OnlyRead};
 ghost use Rattle.tabletop.specs.Logged.{Begins, HasNoLog, leave_of, leaves};
 

@@ -1,5 +1,5 @@
 //! `play FILE --log LOG [--end]`: a script is played on the campaign of the file, and a log keeps what it came to.
-ghost use Rattle.std.specs.Prelude.{◌≡◌, ◌≢◌, ◌≤◌, ◌<◌, ◌+◌, ◌^◌, ◌⊎◌, ◌↔◌, ◌++◌, ◌∷◌, [], ℕ, List, Some, None, length, map, string_bytes, IfOk, IfErr, IsErrOf};
+ghost use Rattle.std.specs.Prelude.{◌≡◌, ◌≢◌, ◌≤◌, ◌<◌, ◌^◌, ◌⊎◌, ◌↔◌, ◌++◌, ◌∷◌, [], ℕ, List, Some, None, length, map, string_bytes, IfOk, IfErr, IsErrOf};
 ghost use Rattle.line_io.specs.Counts.{CountRose};
 ghost use Rattle.line_io.specs.Told.{WhereTold};
 ghost use Rattle.campaign_writing.specs.Canonical.{canonical};
@@ -17,11 +17,11 @@ ghost use Rattle.command_words.specs.Logged.{logged_of};
 ghost use Rattle.tabletop.specs.Logged.{FileLogs, FollowsLogged, HasEndedLogged, HasNoLog, IsAskedFor, IsFound, IsOtherLog, JobLogs, PlayedTo, TextLogs, behind_leaves, resumed, start_of};
 
 use crate::endings::Ended;
-use crate::files::not_fetched;
-use crate::log_end::{LogEnded, ended_logged, log_status, print_log_line};
+use crate::files::fetch;
+use crate::log_end::{LogEnded, ended_logged, log_status, not_opened, print_log_line};
 use crate::log_start::{enter_again, leaves_due, open_log};
 use crate::playing::print_end;
-use campaign_core::{Campaign, OpenFault};
+use campaign_core::Campaign;
 use command_words::{LoggedPlay, WordsFault, read_logged_words};
 use crash_log::{Disk, Journal};
 use line_io::{Desk, Sink, Source};
@@ -47,27 +47,32 @@ pub fn tabletop_logged<D: Desk, S: Source, O: Sink, K: Disk>(
     out: &mut O,
     disk: &mut K,
 ) -> u8
-    ensures ends { HasEndedLogged K.seen K.may_leave K.moment K.left_since K.tells result (logged_of (map string_bytes words.now)) (D.text_of desk.old)
-        (S.left script.old) (S.left script.new) (O.written out.old) (O.written out.new) disk.old disk.new
+    ensures ends { HasEndedLogged K.seen K.may_leave K.moment K.left_since K.tells result (logged_of (map string_bytes words.now))
+        (D.text_of desk.old) (S.left script.old) (S.left script.new) (O.written out.old) (O.written out.new) disk.old disk.new
         (CountRose (D.faults_of desk.old) (D.faults_of desk.new)) (CountRose (O.faults_of out.old) (O.faults_of out.new)) }
     ensures usage { (result ≡ 2) ↔ (logged_of (map string_bytes words.now) ≡ None) }
-    ensures read_fault { result ≡ 4 → CountRose (D.faults_of desk.old) (D.faults_of desk.new) ⊎ CountRose (S.faults_of script.old) (S.faults_of script.new) }
+    ensures read_fault { result ≡ 4
+        → CountRose (D.faults_of desk.old) (D.faults_of desk.new) ⊎ CountRose (S.faults_of script.old) (S.faults_of script.new) }
     ensures write_fault { result ≡ 5 → CountRose (O.faults_of out.old) (O.faults_of out.new) }
     ensures disk_fault { result ≡ 10 → CountRose (K.faults_of disk.old) (K.faults_of disk.new) }
 
     // No fault: a bad log and a log of another campaign are told as that, unless memory ran out.
-    ensures bad_log { (campaign : List ℕ) (origin : World) (place : ℕ) → IsAskedFor (logged_of (map string_bytes words.now)) (D.text_of desk.old) campaign origin
+    ensures bad_log { (campaign : List ℕ) (origin : World) (place : ℕ)
+        → IsAskedFor (logged_of (map string_bytes words.now)) (D.text_of desk.old) campaign origin
         → K.tells → K.seen disk.old ≢ [] → IsBadAt (K.seen disk.old) place
         → ¬ CountRose (D.faults_of desk.old) (D.faults_of desk.new) → ¬ CountRose (K.faults_of disk.old) (K.faults_of disk.new)
         → (result ≡ 11) ⊎ (result ≡ 6) }
-    ensures other_log { (campaign : List ℕ) (origin : World) → IsAskedFor (logged_of (map string_bytes words.now)) (D.text_of desk.old) campaign origin
+    ensures other_log { (campaign : List ℕ) (origin : World)
+        → IsAskedFor (logged_of (map string_bytes words.now)) (D.text_of desk.old) campaign origin
         → K.tells → IsOtherLog campaign (K.seen disk.old)
         → ¬ CountRose (D.faults_of desk.old) (D.faults_of desk.new) → ¬ CountRose (K.faults_of disk.old) (K.faults_of disk.new)
         → (result ≡ 12) ⊎ (result ≡ 6) }
 
     // A log that is empty or the campaign's, a script that is read, and room for all of it: the job is done, unless memory ran out.
-    ensures played { (campaign all : List ℕ) (origin : World) (kept : List EntryValue) → IsAskedFor (logged_of (map string_bytes words.now)) (D.text_of desk.old) campaign origin
-        → K.tells → IsFound campaign kept (K.seen disk.old) → S.left script.old ≡ Some all → (resumed (replay origin kept) all).ending ≡ done
+    ensures played { (campaign all : List ℕ) (origin : World) (kept : List EntryValue)
+        → IsAskedFor (logged_of (map string_bytes words.now)) (D.text_of desk.old) campaign origin
+        → K.tells → IsFound campaign kept (K.seen disk.old)
+        → S.left script.old ≡ Some all → (resumed (replay origin kept) all).ending ≡ done
         → length (open_part campaign (kept ++ (resumed (replay origin kept) all).entries)) < 2 ^ 30
         → ¬ CountRose (D.faults_of desk.old) (D.faults_of desk.new) → ¬ CountRose (S.faults_of script.old) (S.faults_of script.new)
         → ¬ CountRose (O.faults_of out.old) (O.faults_of out.new) → ¬ CountRose (K.faults_of disk.old) (K.faults_of disk.new)
@@ -87,7 +92,8 @@ fn logged_job<D: Desk, S: Source, O: Sink, K: Disk>(
     disk: &mut K,
 ) -> LogEnded
     ensures ends { JobLogs K.seen K.may_leave K.moment K.left_since K.tells (CountRose (D.faults_of desk.old) (D.faults_of desk.new)) result
-        (logged_of (map string_bytes words.now)) (D.text_of desk.old) (S.left script.old) (S.left script.new) (O.written out.old) (O.written out.new) disk.old disk.new }
+        (logged_of (map string_bytes words.now)) (D.text_of desk.old) (S.left script.old) (S.left script.new)
+        (O.written out.old) (O.written out.new) disk.old disk.new }
     ensures read_fault { result ≡ LogEnded.Plain Ended.ReadFault
         → CountRose (D.faults_of desk.old) (D.faults_of desk.new) ⊎ CountRose (S.faults_of script.old) (S.faults_of script.new) }
     ensures write_fault { result ≡ LogEnded.Plain Ended.WriteFault → CountRose (O.faults_of out.old) (O.faults_of out.new) }
@@ -114,17 +120,18 @@ fn play_file_logged<D: Desk, S: Source, O: Sink, K: Disk>(
     out: &mut O,
     disk: &mut K,
 ) -> LogEnded
-    ensures ends { FileLogs K.seen K.may_leave K.moment K.left_since K.tells (CountRose (D.faults_of desk.old) (D.faults_of desk.new)) end result
-        (D.text_of desk.old file.now) (S.left script.old) (S.left script.new) (O.written out.old) (O.written out.new) disk.old disk.new }
+    ensures ends { FileLogs K.seen K.may_leave K.moment K.left_since K.tells (CountRose (D.faults_of desk.old) (D.faults_of desk.new))
+        end result (D.text_of desk.old file.now) (S.left script.old) (S.left script.new)
+        (O.written out.old) (O.written out.new) disk.old disk.new }
     ensures read_fault { result ≡ LogEnded.Plain Ended.ReadFault
         → CountRose (D.faults_of desk.old) (D.faults_of desk.new) ⊎ CountRose (S.faults_of script.old) (S.faults_of script.new) }
     ensures write_fault { result ≡ LogEnded.Plain Ended.WriteFault → CountRose (O.faults_of out.old) (O.faults_of out.new) }
     ensures disk_fault { result ≡ LogEnded.DiskFault → CountRose (K.faults_of disk.old) (K.faults_of disk.new) }
     ensures out_count { O.faults_of out.old ≤ O.faults_of out.new }
 {
-    match desk.fetch(file) {
+    match fetch(desk, file) {
         Ok(text) => play_text_logged(alloc, log, end, &text, script, out, disk),
-        Err(fault) => LogEnded::Plain(not_fetched(fault)),
+        Err(ended) => LogEnded::Plain(ended),
     }
 }
 
@@ -150,8 +157,7 @@ fn play_text_logged<S: Source, O: Sink, K: Disk>(
         Ok(mut campaign) => {
             play_with_log(alloc, &mut campaign, log, end, text, script, out, disk)
         }
-        Err(OpenFault::Bad(breach)) => LogEnded::Plain(Ended::BadCampaign(breach)),
-        Err(OpenFault::Memory) => LogEnded::Plain(Ended::Memory),
+        Err(fault) => not_opened(fault),
     }
 }
 
@@ -230,11 +236,14 @@ fn play_on<S: Source, O: Sink, E: Eye + Drop, K: Disk>(
     ensures entered { WhereTold (S.left script.old) (S.left script.new)
         (λ all rest. HasEntered (as_played result) (resumed (world_of campaign.old) all) (entries_since campaign.old campaign.new)) }
     ensures read { WhereTold (S.left script.old) (S.left script.new)
-        (λ all rest. HasRead (as_played result) (start_of (world_of campaign.old)) (behind_leaves (world_of campaign.old) (entries_since campaign.old campaign.new)) all rest) }
-    ensures written { HasWritten (as_played result) (world_of campaign.old) (entries_since campaign.old campaign.new) (O.written out.old) (O.written out.new) }
+        (λ all rest. HasRead (as_played result) (start_of (world_of campaign.old))
+        (behind_leaves (world_of campaign.old) (entries_since campaign.old campaign.new)) all rest) }
+    ensures written { HasWritten (as_played result) (world_of campaign.old) (entries_since campaign.old campaign.new)
+        (O.written out.old) (O.written out.new) }
     ensures log { K.tells → (text : List ℕ) (before : List EntryValue) → HoldsLog K.seen K.may_leave disk.old journal.old text before
         → WhereTold (S.left script.old) (S.left script.new)
-        (λ all rest. Keeps K.seen K.may_leave K.moment K.left_since result text before (entries_since campaign.old campaign.new) (resumed (world_of campaign.old) all).entries disk.old disk.new journal.new) }
+        (λ all rest. Keeps K.seen K.may_leave K.moment K.left_since result text before (entries_since campaign.old campaign.new)
+        (resumed (world_of campaign.old) all).entries disk.old disk.new journal.new) }
     ensures full { result ≡ Logged.Full → WhereTold (S.left script.old) (S.left script.new)
         (λ all rest. HasNoRoom journal.new (entries_since campaign.old campaign.new) (resumed (world_of campaign.old) all).entries) }
     ensures disk_count { K.faults_of disk.old ≤ K.faults_of disk.new }
@@ -260,10 +269,12 @@ fn after_logged<E: Eye, O: Sink>(
     campaign: &Campaign<E>,
     out: &mut O,
 ) -> LogEnded
-    ensures follows { FollowsLogged logged end result (canonical (opened_of (world_of campaign.now)) ++ 10 ∷ []) (O.written out.old) (O.written out.new) }
+    ensures follows { FollowsLogged logged end result (canonical (opened_of (world_of campaign.now)) ++ 10 ∷ [])
+        (O.written out.old) (O.written out.new) }
     ensures disk_fault { result ≡ LogEnded.DiskFault → logged ≡ Logged.DiskFault }
     ensures read_fault { result ≡ LogEnded.Plain Ended.ReadFault → logged ≡ Logged.ReadFault }
-    ensures write_fault { result ≡ LogEnded.Plain Ended.WriteFault → (logged ≡ Logged.WriteFault) ⊎ CountRose (O.faults_of out.old) (O.faults_of out.new) }
+    ensures write_fault { result ≡ LogEnded.Plain Ended.WriteFault
+        → (logged ≡ Logged.WriteFault) ⊎ CountRose (O.faults_of out.old) (O.faults_of out.new) }
     ensures out_count { O.faults_of out.old ≤ O.faults_of out.new }
 {
     match logged {

@@ -12,7 +12,7 @@ returns-then-is_free g c =
     let w : World = world_of c.args.campaign.now in
     let same : c.in-Some.seat ≡ c.args.number = search rules in
     subst (λ (n : ℕ). old ≡ old ++ leave_of n (seat_at w n)) same
-    (sym (ap (λ es. old ++ es) (none_leaves c.in-Some.seat c.state.result (seat_at w c.in-Some.seat) c.state.ensures c.if-is_free.true) ∙ append-nil old))
+    (sym (ap (λ es. old ++ es) (none_leaves c.in-Some.seat c.state.result (seat_at w c.in-Some.seat) c.state.ensures (sym c.is_free.ensures ∙ c.if-is_free.true)) ∙ append-nil old))
 
 pub returns : goal.returns
 returns g c =
@@ -20,4 +20,4 @@ returns g c =
     let w : World = world_of c.args.campaign.now in
     let same : c.in-Some.seat ≡ c.args.number = search rules in
     subst (λ (n : ℕ). c.put.new.entries.items ≡ old ++ leave_of n (seat_at w n)) same
-    (c.in_ok-put.ensures ∙ ap (λ es. old ++ es) (sym (one_leaves c.in-Some.seat c.state.result (seat_at w c.in-Some.seat) c.state.ensures c.if-is_free.false)))
+    (c.in_ok-put.ensures ∙ ap (λ es. old ++ es) (sym (one_leaves c.in-Some.seat c.state.result (seat_at w c.in-Some.seat) c.state.ensures (sym c.is_free.ensures ∙ c.if-is_free.false))))

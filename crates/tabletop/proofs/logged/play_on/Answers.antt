@@ -1,6 +1,5 @@
-use Rattle.std.proofs.Common.{◌≡◌, List, [], ◌∷◌, subst, sym}
+use Rattle.std.proofs.Common.{subst, sym}
 use Rattle.std.specs.List.{AllByRecursion}
-use Rattle.campaign_law.specs.declared.entry.Entry.{Entry}
 use Rattle.campaign_law.specs.Law.{world_of}
 use Rattle.script_play.specs.Played.{HasEntered, HasRead, IsPrefix, entries_since}
 use Rattle.script_play.specs.declared.run.Played.TheVariants as played
@@ -12,7 +11,7 @@ use Rattle.log_play.specs.declared.logged.Logged.TheVariants.{Memory}
 use Rattle.log_play.specs.Logged.{as_played}
 use Rattle.log_play.specs.Kept.{Keeps, HasNoRoom}
 use Rattle.log_play.proofs.KeptLemmas.{keeps_nothing, still_disks}
-use Rattle.tabletop.specs.Logged.{behind_leaves, leaves, resumed, start_of}
+use Rattle.tabletop.specs.Logged.{behind_leaves, resumed, start_of}
 use Rattle.tabletop.proofs.Leaves.{IsShort, leaves_short}
 use Rattle.tabletop.proofs.Resuming.{opening_settled, stop_entered, stop_read, stop_written, stop_full, stop_log, on_entered, on_read, on_written, on_full, on_quiet, on_log}
 use Rattle.tabletop.proofs.logged.play_on.Goals as goal

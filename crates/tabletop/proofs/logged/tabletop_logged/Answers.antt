@@ -27,19 +27,19 @@ returns-clause-disk_fault g c = λ e. c.logged_job-ended.ensures.disk_fault (log
 pub returns-clause-bad_log : goal.returns-clause-bad_log
 returns-clause-bad_log g c =
     λ campaign origin place asked told there bad no_desk no_disk.
-    bad_completes g.K.Disk.seen g.K.Disk.may_leave g.K.Disk.moment g.K.Disk.left_since g.K.Disk.tells _ _ c.log_status.result _ _ _ _ _ _ _ (returns-clause-ends g c) campaign origin asked told no_desk
+    bad_completes g.K.Disk.seen g.K.Disk.may_leave g.K.Disk.moment g.K.Disk.left_since g.K.Disk.tells _ _ c.log_status.result _ _ _ _ _ _ _ _ (returns-clause-ends g c) campaign origin asked told no_desk
     (λ e. no_disk (returns-clause-disk_fault g c e)) place there bad
 
 pub returns-clause-other_log : goal.returns-clause-other_log
 returns-clause-other_log g c =
     λ campaign origin asked told other no_desk no_disk.
-    other_completes g.K.Disk.seen g.K.Disk.may_leave g.K.Disk.moment g.K.Disk.left_since g.K.Disk.tells _ _ c.log_status.result _ _ _ _ _ _ _ (returns-clause-ends g c) campaign origin asked told no_desk
+    other_completes g.K.Disk.seen g.K.Disk.may_leave g.K.Disk.moment g.K.Disk.left_since g.K.Disk.tells _ _ c.log_status.result _ _ _ _ _ _ _ _ (returns-clause-ends g c) campaign origin asked told no_desk
     (λ e. no_disk (returns-clause-disk_fault g c e)) other
 
 pub returns-clause-played : goal.returns-clause-played
 returns-clause-played g c =
     λ campaign all origin kept asked told found script ends room no_desk no_script no_out no_disk.
-    log_play_completes g.K.Disk.seen g.K.Disk.may_leave g.K.Disk.moment g.K.Disk.left_since g.K.Disk.tells _ _ c.log_status.result _ _ _ _ _ _ _ (returns-clause-ends g c) campaign origin asked told no_desk
+    log_play_completes g.K.Disk.seen g.K.Disk.may_leave g.K.Disk.moment g.K.Disk.left_since g.K.Disk.tells _ _ c.log_status.result _ _ _ _ _ _ _ _ (returns-clause-ends g c) campaign origin asked told no_desk
     (λ e. no_disk (returns-clause-disk_fault g c e)) all kept found script ends room
     (λ e. elim (returns-clause-read_fault g c e) [ inl desk ↦ no_desk desk | inr source ↦ no_script source ])
     (λ e. no_out (returns-clause-write_fault g c e))
