@@ -20,9 +20,9 @@ HERE = pathlib.Path(__file__).resolve().parent
 PROGRAM = os.environ.get("TABLETOP", str(HERE.parent / "crates" / "tabletop" / "out" / "tabletop"))
 sys.path.insert(0, str(HERE))
 
+from test_runs import USAGE  # noqa: E402
 from test_table import connected, free_port  # noqa: E402
 
-USAGE = "tabletop: usage: play FILE [--end], check FILE, drill N LINES, serve FILE PORT COUNT [--end]\n"
 # Seconds, within which a session that is over ends its client's stream.
 MOMENT = 1.0
 FULL = b'{"full":{"lights":{},"maps":[],"sights":{},"tokens":[]}}\n'
