@@ -1,6 +1,6 @@
 #!/usr/bin/env bash
 # What a line costs at a small table and at the largest: processor time of the program by kind of line. All tables have the same first map, of 96 by 96
-# cells with 2,048 walls, on which all that is done is done; the larger ones have more maps, tokens and seats, which see nothing of it.
+# cells with 2,047 walls, on which all that is done is done; the larger ones have more maps, tokens and seats, which see nothing of it.
 #   bench/big.sh [PROGRAM]
 # PROGRAM is crates/tabletop/out/tabletop unless given. It prints microseconds a line, and how many times the smallest table's the largest one's are.
 set -eu
@@ -23,7 +23,10 @@ import sys
 PROGRAM, WORK = sys.argv[1:3]
 ROUNDS = 5
 LINES = 400
-SIDE, WALLS = 96, 2048
+# A short line is told from none by many of them.
+SHORT_LINES = 12000
+# One wall fewer than a map may have, so that one can be built.
+SIDE, WALLS = 96, 2047
 # Maps, tokens, seats.
 TABLES = {"small": (1, 5, 3), "middle": (3, 50, 9), "large": (8, 200, 33)}
 
@@ -79,8 +82,8 @@ def steps(sender, made):
 def kinds(tokens):
     """The lines of each kind."""
     walled = {"map": "m0", "kind": "vbl", "a": [90, 91], "b": [94, 91]}
-    yield "say to oneself", [line(1, do="say", text="hello", to="self")] * LINES
-    yield "roll to oneself", [line(1, do="roll", dice="4d6k3", to="self")] * LINES
+    yield "say to oneself", [line(1, do="say", text="hello", to="self")] * SHORT_LINES
+    yield "roll to oneself", [line(1, do="roll", dice="4d6k3", to="self")] * SHORT_LINES
     yield "own property", [line(1, do="setprop", token="0:t000", **{"class": "own"}, name="mp", value=str(at)) for at in range(LINES)]
     yield "secret property", [line(0, do="secret", token="0:t004", name="hp", value=str(at)) for at in range(LINES)]
     yield "move", steps(1, tokens[0])
@@ -113,7 +116,7 @@ def measured(name, sizes):
     base = processor_time(file, hellos)
     times = {"opening and hellos, in all": base * 1e6}
     for kind, lines in kinds(made["tokens"]):
-        times[kind] = (processor_time(file, hellos + "".join(lines)) - base) / LINES * 1e6
+        times[kind] = (processor_time(file, hellos + "".join(lines)) - base) / len(lines) * 1e6
     return times
 
 
