@@ -141,7 +141,7 @@ static EVENINGS: [Evening<'static>; 8] = [
     Evening {
         words: &["serve", "table.json", "7000", "1025"],
         status: 2,
-        output: "tabletop: usage: play FILE [--end], check FILE, drill N LINES, serve FILE PORT COUNT [--end]\n",
+        output: "tabletop: usage: play FILE [--end], check FILE, drill N LINES, serve FILE PORT COUNT [--end], verify FILE SCRIPT SEAT TRANSCRIPT, compare FILE SCRIPT FILE SCRIPT SEAT\n",
         ..UNOPENED
     },
     Evening {
