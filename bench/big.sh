@@ -79,6 +79,13 @@ def steps(sender, made):
     return [line(sender, do="move", token=made["id"], path=[[x + 1 - at % 2, y]]) for at in range(LINES)]
 
 
+def walks(sender, made):
+    """The token goes five steps and comes back, in one move."""
+    x, y = made["cell"]
+    path = [[x + min(step, 10 - step), y] for step in range(1, 11)]
+    return [line(sender, do="move", token=made["id"], path=path)] * LINES
+
+
 def kinds(tokens):
     """The lines of each kind."""
     walled = {"map": "m0", "kind": "vbl", "a": [90, 91], "b": [94, 91]}
@@ -89,6 +96,8 @@ def kinds(tokens):
     yield "move", steps(1, tokens[0])
     yield "move with a light", steps(2, tokens[1])
     yield "move of a hidden token", steps(0, tokens[4])
+    yield "move of ten steps", walks(1, tokens[0])
+    yield "the same on a map with a trail", [line(0, do="trail", map="m0", on=True)] + walks(1, tokens[0])
     yield "wall and unwall", [line(0, do=("wall", "unwall")[at % 2], **walled) for at in range(LINES)]
     yield "wall that blocks movement", [line(0, do=("wall", "unwall")[at % 2], **(walled | {"kind": "mbl"})) for at in range(LINES)]
     yield "expose and hide", [line(0, do=("expose", "hide")[at % 2], seat=1, map="m0", rect=[0, 0, 10, 10]) for at in range(LINES)]

@@ -492,7 +492,7 @@ def tell(part, lines, status, told):
             fault(f"line {number} is {line!r}")
     if len(words) != CONNECTIONS:
         fault(f"{len(words)} connections were told, not {CONNECTIONS}")
-    if status != 0 or not last.startswith('{"format":1'):
+    if status != 0 or not last.startswith('{"format":2'):
         fault(f"status {status}, last line {last[:60]!r}")
     found = collections.Counter(line.split(" ", 1)[1] for line in words)
     print(f"soak: {part}: " + ", ".join(f"{name} {told[name]}" for name in sorted(told)))

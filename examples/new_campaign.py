@@ -14,7 +14,8 @@ A map file has rows of cells, then, behind an empty line, what stands on them:
     G Goblin hp=7 hit=4         hidden at first; numbers and words are secret properties
     W Well size=2 layer=object light=candle
 
-The map's name is the file's. Players are shown the first map. It needs Python 3.9 or later, and nothing else.
+The map's name is the file's. Players are shown the first map, and no map has a trail. Lights are candle, torch,
+lantern and murk, a darkness. It needs Python 3.9 or later, and nothing else.
 """
 
 from __future__ import annotations
@@ -29,7 +30,7 @@ import sys
 from dataclasses import dataclass, field
 from typing import Any, Iterator
 
-LIGHTS = {"candle": 2, "torch": 4, "lantern": 6}
+LIGHTS = {"candle": 2, "torch": 4, "lantern": 6, "murk": -3}
 SIGHTS = {"human": [30, 0, 2], "keen": [40, 0, 3], "dark": [30, 8, 2]}
 LAYERS = ("token", "hidden", "object", "background")
 ROCK, DOOR, ROCK_LETTER = "#", "+", "x"
@@ -190,7 +191,7 @@ class Campaign:
         walls = walls_of(rows)
         if len(walls) > MOST_WALLS:
             raise BadMap(f"more than {MOST_WALLS} walls")
-        shape = {"h": height, "mode": "day", "name": name, "shown": not self.maps, "w": width}
+        shape = {"h": height, "mode": "day", "name": name, "shown": not self.maps, "trail": False, "w": width}
         self.maps.append({**shape, "mbl": walls, "rows": ground_of(rows), "vbl": walls})
 
     def put_tokens(self, name: str, rows: Rows, kinds: dict[str, Kind]) -> None:
@@ -215,7 +216,7 @@ class Campaign:
             {"drawn": 0, "fog": {}, "key": key, "macros": {}, "seed": secrets.token_hex(32), "tags": tags}
             for key, tags in zip(keys, self.tags)
         ]
-        campaign = {"format": 1, "lights": LIGHTS, "maps": self.maps, "seats": seats, "sights": SIGHTS}
+        campaign = {"format": 2, "lights": LIGHTS, "maps": self.maps, "seats": seats, "sights": SIGHTS}
         campaign["tokens"] = self.tokens
         return json.dumps(campaign, ensure_ascii=False, separators=(",", ":"), sort_keys=True)
 

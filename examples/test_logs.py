@@ -15,6 +15,8 @@ HERE = pathlib.Path(__file__).resolve().parent
 RUNS = HERE / "runs"
 PROGRAM = os.environ.get("TABLETOP", str(HERE.parent / "crates" / "tabletop" / "out" / "tabletop"))
 CAMPAIGN = RUNS / "three_seats.json"
+# The same as it is written.
+WRITTEN = CAMPAIGN.read_text(encoding="utf-8").rstrip("\n").replace('"format":1', '"format":2') + "\n"
 USAGE = "tabletop: usage: play FILE --log LOG [--end]\n"
 HELLO = '1 {"do":"hello","seat":1,"key":"a"}\n'
 JOINED = '1\t{"n":1,"ok":"hello","seat":1,"seats":3}\n1\t{"full":{"lights":{},"maps":[],"sights":{},"tokens":[]}}\n'
@@ -76,7 +78,7 @@ class Logs(unittest.TestCase):
 
     def test_the_campaign_follows(self):
         words = ["play", CAMPAIGN, "--log", self.log, "--end"]
-        self.assertEqual(self.ran("", words), (0, CAMPAIGN.read_text(encoding="utf-8").rstrip("\n") + "\n"))
+        self.assertEqual(self.ran("", words), (0, WRITTEN))
 
     def test_other_words(self):
         for words in (["--log"], ["--log", "-a"], ["--log", self.log, "--end", "--end"], ["--log", self.log, "x"]):

@@ -122,6 +122,9 @@ class Runs(unittest.TestCase):
     def test_plays(self):
         self.check("plays.txt")
 
+    def test_trails_and_darkness(self):
+        self.check("trails.txt")
+
     def test_macros(self):
         self.check("macros.txt")
 
@@ -171,15 +174,20 @@ class Runs(unittest.TestCase):
             with self.subTest(words):
                 self.assertEqual(ran(words.split()), (2, USAGE))
 
-    def test_a_campaign_is_written_at_the_end(self):
-        text = (RUNS / "three_seats.json").read_text(encoding="utf-8")
-        self.assertEqual(ran(["play", "--end", "three_seats.json"]), (0, text))
+    def test_a_campaign_of_either_format_is_written_at_the_end(self):
+        text = (RUNS / "three_seats.json").read_text(encoding="utf-8").replace('"format":1', '"format":2')
+        (self.folder / "again.json").write_text(text, encoding="utf-8")
+        for file in (RUNS / "three_seats.json", self.folder / "again.json"):
+            with self.subTest(file.name):
+                self.assertEqual(ran(["play", "--end", str(file)]), (0, text))
 
-    def test_a_campaign_with_all_parts_is_written(self):
-        written = (RUNS / "all_parts_written.json").read_text(encoding="utf-8")
-        for name in ("all_parts.json", "all_parts_written.json"):
-            with self.subTest(name):
-                self.assertEqual(ran(["play", name, "--end"]), (0, written))
+    def test_what_is_written_is_of_format_2(self):
+        written = {"all_parts.json": "all_parts_written.json", "cave.json": "cave_written.json"}
+        for name, as_written in written.items():
+            text = (RUNS / as_written).read_text(encoding="utf-8")
+            for file in (name, as_written):
+                with self.subTest(file):
+                    self.assertEqual(ran(["play", file, "--end"]), (0, text))
 
     def test_the_stored_run_is_the_example(self):
         stored = HERE.parent / "crates" / "tabletop"

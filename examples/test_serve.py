@@ -35,6 +35,7 @@ def seat(key):
 # In the order of a campaign that the program writes.
 CAMPAIGN = {"format": 1, "lights": {}, "maps": [], "seats": [seat("g"), seat("a"), seat("b")], "sights": {}, "tokens": []}
 TEXT = json.dumps(CAMPAIGN, separators=(",", ":"))
+WRITTEN = json.dumps(CAMPAIGN | {"format": 2}, separators=(",", ":"))
 
 
 def hello(key):
@@ -108,7 +109,7 @@ class Connections(unittest.TestCase):
         self.notes = self.file.with_name("notes")
 
     def test_three_connections_one_after_another(self):
-        for words, ending in ((), ""), (("--end",), TEXT + "\n"):
+        for words, ending in ((), ""), (("--end",), WRITTEN + "\n"):
             with self.subTest(words=words):
                 server, port = self.started("3", *words)
                 for lines, wanted in CONNECTIONS:

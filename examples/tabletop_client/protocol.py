@@ -26,6 +26,7 @@ REFUSALS = {  # where the name alone doesn't say it
     "BadKey": "that key doesn't open that seat",
     "SeatTaken": "somebody sits there",
     "Spent": "the seat has had all its lines in this run",
+    "BadRadius": "a light reaches 1 to 20 cells, a darkness -20 to -1",
 }
 SILENT = {"look", "macro", "roll", "say"}  # what follows their replies shows that they were done
 
@@ -66,6 +67,7 @@ FORMS = {  # each command with its fields; one in brackets may be missing, one w
     "map": "name w h",
     "mode": "map mode",
     "show": "map on",
+    "trail": "map on",
     "terrain": "map rect kind",
     "wall": "map kind a b",
     "unwall": "map kind a b",
@@ -88,7 +90,7 @@ PARAGRAPHS = (
     "give lines that were typed before. Ctrl-B and Ctrl-F turn the pages of what was said, Shift with up and down its lines.",
     "; ".join(f"{name} {fields}".rstrip() for name, fields in FORMS.items()),
     "A token is an id, or '.' for the chosen one. A cell, a and b are X,Y and a rect is X,Y,W,H; on is on or off; light and sight are a "
-    "name or -; [to] is @self, @gm, @gmself, @all or @SEAT; the others in [] stand as size=2. A path is cells, 3,4 4,5, or steps by the "
+    "name or -; a radius below 0 makes a darkness; [to] is @self, @gm, @gmself, @all or @SEAT; the others in [] stand as size=2. A path is cells, 3,4 4,5, or steps by the "
     "digits of the numeric pad, 669. Args are words, or texts in double quotes. '@2 TEXT' says TEXT to seat 2, '!NAME args' runs a macro, "
     "dropmacro NAME removes it.",
     "Without the server: choose ID (or a map, or -), tokens, types, draw; again sits down once more after a break. The GM's: save FILE, "

@@ -128,11 +128,13 @@ class AtRandom:
         wall = {**place, "kind": pick(["vbl", "vbl", "mbl"]), "a": a, "b": b}
         seat = {"seat": pick([1, 2])}
         size = {"w": self.chance.randint(1, 9), "h": self.chance.randint(1, 9)}
-        light = {"name": pick(["torch", f"l{number % 20}"]), "radius": self.chance.randint(1, 9)}
+        sign = pick([1, 1, 1, -1])
+        light = {"name": pick(["torch", f"l{number % 20}"]), "radius": sign * self.chance.randint(1, 9)}
         return pick(
             [
                 {"do": "mode", **place, "mode": pick(["off", "day", "night"])},
                 {"do": "show", **place, "on": self.chance.random() < 0.7},
+                {"do": "trail", **place, "on": self.chance.random() < 0.5},
                 {"do": "wall", **wall},
                 {"do": "wall", **wall},
                 {"do": "unwall", **wall},

@@ -58,8 +58,8 @@ def told_by_client(number, lines, sent):
     return told
 
 
-# What evenings at random seldom meet: lights by halves of their radius, one that is hidden, a wall through
-# an eye.
+# What evenings at random seldom meet: lights by halves of their radius, one that is hidden, a darkness beside
+# a light, a wall through an eye.
 YARD = {"map": "yard"}
 SELDOM = [
     {"do": "lighttype", "name": "torch", "radius": 8},
@@ -67,6 +67,8 @@ SELDOM = [
     {"do": "sight", "token": "1:mara", "sight": "hound"},
     {"do": "light", "token": "2:brok", "light": "torch"},
     {"do": "light", "token": "0:goblin", "light": "torch"},
+    {"do": "lighttype", "name": "murk", "radius": -3},
+    {"do": "light", "token": "0:well", "light": "murk"},
     {"do": "mode", **YARD, "mode": "day"},
     {"do": "wall", **YARD, "kind": "vbl", "a": [1, 18], "b": [1, 20]},
 ]

@@ -3,7 +3,7 @@ import assert from "node:assert/strict";
 import { test } from "node:test";
 import { rectOf, straightPath, wayWords } from "./page/geometry.js";
 import { Seat } from "./page/seat.js";
-import { meet } from "./page/sight.js";
+import { meet, seenBy } from "./page/sight.js";
 import { inverse } from "./page/undo.js";
 import { View } from "./page/view.js";
 import { Walls, around, distance, wallOf } from "./page/walls.js";
@@ -37,6 +37,8 @@ test("walls are kept with the lesser end first", () => {
   const kept = new Walls({ maps: [{ name: "m", vbl: [[0, 0, 2, 0]], mbl: [] }] });
   kept.take({ do: "wall", map: "m", kind: "mbl", a: [4, 0], b: [2, 0] });
   kept.take({ do: "unwall", map: "m", kind: "vbl", a: [2, 0], b: [0, 0] });
+  kept.takeTrail({ do: "trail", map: "m", on: true });
+  assert.ok(kept.trails.has("m"));
   assert.deepEqual([...kept.of("m").vbl.keys()], []);
   assert.deepEqual([...kept.of("m").mbl.keys()], ["2,0,4,0"]);
 });
@@ -79,6 +81,23 @@ test("segments meet as by the definition, all between few points", () => {
   for (const wall of segments)
     for (const [a, b] of segments)
       assert.equal(meet(wall.flat(), ...a, ...b), meetByDefinition([a, b], wall), `${wall} ${a} ${b}`);
+});
+
+test("a darkness puts out a lamp's light, but for one on the layer hidden, and hinders no sight", () => {
+  const grid = { name: "m", w: 12, h: 1, mode: "night" };
+  const token = { map: "m", size: 1, layer: "token", owners: [], sight: null };
+  const ann = { ...token, cell: [0, 0], light: "lamp", owners: [1], sight: "keen" };
+  const stone = { ...token, cell: [9, 0], light: "murk" };
+  const walls = { vbl: new Map(), mbl: new Map() };
+  const seen = (layer, night, mode) => {
+    const tokens = [ann, { ...stone, layer }];
+    const view = { lights: { lamp: 5, murk: -2 }, sights: { keen: [40, night, 4] }, onMap: () => tokens };
+    return [...seenBy(1, { ...grid, mode }, walls, view)].join("");
+  };
+  assert.equal(seen("token", 0, "night"), "111111100000");
+  assert.equal(seen("hidden", 0, "night"), "111111111110");
+  assert.equal(seen("object", 8, "night"), "111111111000");
+  assert.equal(seen("token", 0, "day"), "111111111111");
 });
 
 test("a dump is kept as it came, with numbers that are past 2^53", () => {

@@ -8,8 +8,9 @@ use Rattle.seats.specs.declared.seat_state.SeatState.{SeatState}
 use Rattle.seats.specs.declared.seat_state.SeatState.TheVariants.{Free, Joined, Closing}
 use Rattle.player_view.specs.Asked.{Asked}
 use Rattle.player_view.specs.View.{view_of}
-use Rattle.command_effects.specs.Effects.{scene_by, steps_by}
-use Rattle.command_effects.specs.Settle.{settled, IsSettled}
+use Rattle.command_effects.specs.Effects.{steps_by}
+use Rattle.command_effects.specs.Settle.{IsSettled}
+use Rattle.command_effects.specs.Way.{after_by}
 use Rattle.campaign_law.specs.declared.entry.Entry.{Entry}
 use Rattle.campaign_law.specs.declared.entry.Entry.TheVariants.{Join, Line, Leave, Taken, Cut}
 use Rattle.campaign_law.specs.Seat.{Seat}
@@ -39,7 +40,7 @@ cut_outcome_is w seat joined =
 
 cut_scene : (w : World) (seat : ℕ) → is_joined (standing (seat_at w seat)) ≡ true → scene_after w (Cut seat) ≡ scene_after w (Leave seat true)
 unfolding scene_after
-cut_scene w seat joined = λ i. settled (scene_by (same_steps w seat joined i) (cut_outcome_is w seat joined i).intents seat w.scene (cut_outcome_is w seat joined i).done)
+cut_scene w seat joined = λ i. after_by (same_steps w seat joined i) (cut_outcome_is w seat joined i).intents seat w.scene (cut_outcome_is w seat joined i).done
 
 pub cut_step : (w : World) (seat : ℕ) → is_joined (standing (seat_at w seat)) ≡ true → step w (Cut seat) ≡ step w (Leave seat true)
 cut_step w seat joined = λ i. record {

@@ -2,6 +2,7 @@ pub mod Openings
 pub mod Judging
 pub mod ViewsDecide
 pub mod Reports
+pub mod Walking
 pub mod Nexts
 pub mod Bounds
 pub mod Following

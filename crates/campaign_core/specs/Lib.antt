@@ -7,6 +7,8 @@ pub mod Taking
 pub mod Shown
 pub mod Glances
 pub mod Changed
+pub mod Looking
+pub mod Walked
 pub mod Prepared
 pub mod Over
 pub mod Totals

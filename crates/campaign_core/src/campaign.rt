@@ -8,13 +8,14 @@ ghost use Rattle.campaign_writing.specs.Written.{IsWritten};
 ghost use Rattle.campaign_core.specs.Opening.{world_of_text, IsOpenFault};
 ghost use Rattle.std.specs.Option.{option_copied};
 ghost use Rattle.command_looks.specs.Fields.{field_for};
-ghost use Rattle.command_looks.specs.Touched.{looks_of, looks_of_opening};
+ghost use Rattle.command_looks.specs.Touched.{looks_of_opening};
 ghost use Rattle.campaign_core.specs.Shown.{kept_view};
-ghost use Rattle.campaign_law.specs.World.{outcome_of, seat_at, some_to_list};
+ghost use Rattle.campaign_law.specs.World.{seat_at, some_to_list};
 ghost use Rattle.player_view.specs.View.{view_of as view_of_lem};
 ghost use Rattle.seats.specs.SeatState.{is_joined};
 ghost use Rattle.campaign_law.specs.Session.{session, waiting, standing, changes_state};
 ghost use Rattle.campaign_law.specs.Cuts.{is_cut_since};
+ghost use Rattle.campaign_core.specs.Looking.{looks_at};
 ghost use Rattle.campaign_core.specs.Over.{over_of};
 ghost use Rattle.campaign_core.specs.Said.{last_said};
 ghost use Rattle.campaign_core.specs.Taking.{is_taken as is_taken_lem};
@@ -211,7 +212,7 @@ impl<E: Eye + Drop> Campaign<E> {
         ensures back { IfErr result (λ e. e ≡ entry) }
         ensures unchanged { OnErr result (self.new ≡ record self.old { staged = None; looks = self.new.looks }) }
         ensures sure { changes_state (world_of self.old) entry ≡ true → IsOk result }
-        ensures looks { self.new.looks ≤ self.old.looks + looks_of (world_of self.old).scene (outcome_of (world_of self.old) entry).done }
+        ensures looks { self.new.looks ≤ self.old.looks + looks_at (world_of self.old) entry }
 
         // What each player was sent is what the machine without a world prints.
         ensures sent { (p : ℕ) → IsSentAsMachine self.new.origin self.new.history p }
@@ -319,7 +320,7 @@ impl<E: Eye + Drop> Campaign<E> {
         ensures back { IfErr result (λ e. e ≡ entry) }
         ensures unchanged { OnErr result (self.new ≡ record self.old { staged = None; looks = self.new.looks }) }
         ensures staged { self.new.staged ≡ None }
-        ensures looks { self.new.looks ≤ self.old.looks + looks_of (world_of self.old).scene (outcome_of (world_of self.old) entry).done }
+        ensures looks { self.new.looks ≤ self.old.looks + looks_at (world_of self.old) entry }
         ensures refused { IfOk result (λ a. is_some a.refusal ≡ true → ChangesLittle (world_of self.old) entry) }
         ensures sure { changes_state (world_of self.old) entry ≡ true → IsOk result }
 

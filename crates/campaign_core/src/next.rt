@@ -1,12 +1,13 @@
 //! What an entry makes: the scene, the seats and the views after it.
-ghost use Rattle.std.specs.Prelude.{◌≡◌, ◌==◌, ◌≤◌, ◌+◌, ℕ, ◌<◌, if◌then◌else◌, length, true, false, None, Some, IfOk, unwrap_or, option_map, slice_get};
+ghost use Rattle.std.specs.Prelude.{◌≡◌, ◌==◌, ◌≤◌, ◌+◌, ℕ, ◌<◌, if◌then◌else◌, length, true, false, None, Some, IfOk, IfSome, OnOk, unwrap_or, option_map, slice_get};
 ghost use Rattle.names.specs.declared.token_id.TokenId.{TokenId};
 ghost use Rattle.player_view.specs.Fields.{HasFields};
 ghost use Rattle.player_view.specs.Seen.{AreSeen};
 ghost use Rattle.player_view.specs.Tables.{HasTables};
 ghost use Rattle.command_effects.specs.Settle.{IsSettled, settled as settled_lem};
 ghost use Rattle.command_looks.specs.Fields.{AreBehind, AreKept, field_for};
-ghost use Rattle.command_looks.specs.Touched.{is_touched, looks_for, looks_of, touched};
+ghost use Rattle.command_looks.specs.Touched.{is_touched, looks_for, touched};
+ghost use Rattle.command_looks.specs.Ways.{IsWayOn};
 ghost use Rattle.vision.specs.Fields.{field_at};
 ghost use Rattle.view_keep.specs.Kept.{view_at};
 ghost use Rattle.campaign_law.specs.Outcome.{seat_of};
@@ -22,6 +23,8 @@ ghost use Rattle.campaign_core.specs.Sound.{AreSound};
 ghost use Rattle.campaign_law.specs.Law.{answer_of};
 ghost use Rattle.campaign_core.specs.Changed.{IsChanged, scene_in, fields_in};
 ghost use Rattle.campaign_core.specs.Glances.{AreGlances, ViewsFit};
+ghost use Rattle.campaign_core.specs.Looking.{looks_at};
+ghost use Rattle.campaign_core.specs.Walked.{IsWalked, looks_on_way};
 ghost use Rattle.campaign_core.specs.Steps.{with_book};
 ghost use Rattle.campaign_core.specs.Prepared.{IsPrepared};
 ghost use Rattle.campaign_core.specs.Shown.{AreShown, is_none, made_or, made_view, view_then};
@@ -32,9 +35,9 @@ use crate::queues::{Glances, NextSeats, next_seats};
 use crate::state::{NextPost, State};
 use campaign_law::{Answer, Entry};
 use cells::CellSet;
-use command_effects::{scene_by, settle};
+use command_effects::{Way, scene_by, settle, way_of};
 use command_json::Command;
-use command_looks::{Touched, fields_after, serve, touched_by};
+use command_looks::{Touched, fields_after, serve, show_way, touched_by};
 use entry_outcomes::{Message, Outcome};
 use names::{Memory, SeatNo};
 use seats::SeatBook;
@@ -79,8 +82,7 @@ pub(crate) fn made_by<E: Eye>(
     requires fields { AreKept state.now.scene keep.now.fields }
     requires views { AreShown (world_at state.now) keep.now.views }
     ensures prepared { IfOk result (IsPrepared (law state.now) keep.now entry.now) }
-    ensures looks { E.looks_made eye.new ≤ E.looks_made eye.old
-        + looks_of state.now.scene (outcome_of (world_at state.now) entry.now).done }
+    ensures looks { E.looks_made eye.new ≤ E.looks_made eye.old + looks_at (world_at state.now) entry.now }
 {
     let (steps, mut outcome) = decide(alloc, state, keep, entry)?;
     let changed = changed_scene(alloc, state, keep, eye, entry, &outcome, steps)?;
@@ -143,6 +145,29 @@ fn next_fields<E: Eye>(
     Ok(Some(fields_after(alloc, scene, &touched, fields, eye)?))
 }
 
+/// What is seen on the way, where there is one, is exposed. After `Memory` the scene is another one.
+fn walk<E: Eye>(
+    alloc: Global,
+    scene: &mut Scene,
+    way: &Option<Way>,
+    next: &Option<Fields>,
+    fields: &Fields,
+    eye: &mut E,
+) -> Result<(), Memory>
+    requires way { IfSome way.now (IsWayOn scene.old) }
+    requires kept { AreKept scene.old (unwrap_or next.now fields.now) }
+    ensures scene { OnOk result (IsWalked way.now scene.old scene.new) }
+    ensures looks { E.looks_made eye.new ≤ E.looks_made eye.old + looks_on_way way.now }
+{
+    let Some(way) = way else {
+        return Ok(());
+    };
+    match next {
+        Some(next) => show_way(alloc, scene, way, next, eye),
+        None => show_way(alloc, scene, way, fields, eye),
+    }
+}
+
 /// The scene in which what players see is exposed to them, and what they see.
 fn settled(
     alloc: Global,
@@ -185,13 +210,13 @@ pub(crate) fn changed_scene<E: Eye>(
     steps: u32,
 ) -> Result<Option<Boxed<Changed>>, Memory>
     requires fits { FitsTogether (world_at state.now) }
+    requires tables { HasTables state.now.scene }
     requires settled { IsSettled state.now.scene }
     requires fields { AreKept state.now.scene keep.now.fields }
     requires outcome { outcome.now ≡ outcome_of (world_at state.now) entry.now }
     requires steps { steps ≡ steps_of (world_at state.now) entry.now }
     ensures changed { IfOk result (IsChanged (world_at state.now) entry.now keep.now.fields) }
-    ensures looks { E.looks_made eye.new ≤ E.looks_made eye.old
-        + looks_of state.now.scene (outcome_of (world_at state.now) entry.now).done }
+    ensures looks { E.looks_made eye.new ≤ E.looks_made eye.old + looks_at (world_at state.now) entry.now }
 {
     let Some(command) = &outcome.done else {
         return Ok(None);
@@ -202,12 +227,15 @@ pub(crate) fn changed_scene<E: Eye>(
     // The scene tells with its maps that its parts fit together.
     let _maps = before.maps();
     let intents = &outcome.intents;
-    let Some(scene) = scene_by(alloc, before, entry.seat(), command, steps, intents)? else {
+    let seat = entry.seat();
+    let way = way_of(alloc, before, seat, command, steps)?;
+    let Some(mut scene) = scene_by(alloc, before, seat, command, steps, intents)? else {
         return Ok(None);
     };
     // The table tells with its length that no id is there twice.
     let _count = scene.tokens().len();
     let fields = next_fields(alloc, &scene, command, keep.fields(), eye)?;
+    walk(alloc, &mut scene, &way, &fields, keep.fields(), eye)?;
     let after = settled(alloc, scene, &fields, keep.fields())?;
     let changed = Changed {
         scene: after.0,

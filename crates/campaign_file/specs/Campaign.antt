@@ -13,7 +13,7 @@ use Rattle.campaign_json.specs.declared.faults.Rule.TheVariants.{Json}
 use Rattle.campaign_json.specs.declared.faults.BadCampaign.{BadCampaign}
 use Rattle.campaign_json.specs.declared.faults.FileFault.{FileFault}
 use Rattle.campaign_json.specs.Reading.{needed, field, Fails}
-use Rattle.campaign_json.specs.Kinds.{whole, object, only}
+use Rattle.campaign_json.specs.Kinds.{format, object, only}
 use Rattle.campaign_scene.specs.Maps.{maps}
 use Rattle.campaign_file.specs.Seats.{seats}
 use Rattle.campaign_scene.specs.Tokens.{tokens}
@@ -31,13 +31,14 @@ players_among (Some seats) = items_len seats - 1
 abbrev pub players_in : Data → ℕ
 players_in d = players_among (list_in (codes "seats") 1 33 d)
 
+-- Its number of the format says how its types of lights and its maps are read.
 unfoldable pub campaign : Data → Result World BadCampaign
 campaign d = do
   members ← object d
-  format ← field (codes "format") (whole 1 1) d
-  lit ← lights (bare (players_in d)) d
+  format ← field (codes "format") format d
+  lit ← lights format (bare (players_in d)) d
   sighted ← sights lit d
-  mapped ← maps sighted d
+  mapped ← maps format sighted d
   world ← seats mapped d
   full ← tokens world.books world.scene d
   no_others ← only campaign_keys d

@@ -43,11 +43,11 @@ fn read_root(alloc: Global, value: &Value) -> Result<World, FileFault>
     ensures opening { IfOk result (λ world. IsOpening world.books) }
 {
     check_object(alloc, value)?;
-    fields::whole(alloc, value, "format", 1, 1)?;
+    let format = fields::format(alloc, value, "format")?;
     let scene = Scene::open(alloc, players_in(value))?;
-    let scene = read_lights(alloc, value, scene)?;
+    let scene = read_lights(alloc, format, value, scene)?;
     let scene = read_sights(alloc, value, scene)?;
-    let scene = read_maps(alloc, value, scene)?;
+    let scene = read_maps(alloc, format, value, scene)?;
     let (scene, books) = read_seats(alloc, value, scene)?;
     let scene = read_tokens(alloc, &books, value, scene)?;
     check_only(alloc, value, &CAMPAIGN_KEYS)?;

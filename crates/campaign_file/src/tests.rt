@@ -27,18 +27,26 @@ const TWO_SEATS: &str = r#" {"tokens":[], "sights":{}, "seats":[
 {"key":"a", "seed":"ff00000000000000000000000000000000000000000000000000000000000009", "drawn":4611686018427387903, "tags":[], "macros":{}, "fog":{}}
 ], "maps":[], "lights":{}, "format":1} "#;
 
+/// A light, a darkness and a map with a trail, which only the second format has.
+const DARK: &str = r#"{"format":2, "lights":{"lamp":20, "murk":-20}, "sights":{}, "maps":[
+{"name":"hall", "w":2, "h":1, "mode":"off", "shown":true, "trail":true, "rows":["a."], "vbl":[], "mbl":[]}
+], "seats":[
+{"key":"g", "seed":"0000000000000000000000000000000000000000000000000000000000000000", "drawn":0, "tags":[], "macros":{}, "fog":{}}
+], "tokens":[]}"#;
+
 /// What stands in a text, what is written in its place, and the path and the rule of the first breach then.
 type Breach<'a> = (&'a str, &'a str, &'a str, Rule);
 
 /// In place of a whole text.
-static OF_TEXTS: [Breach<'static>; 16] = [
+static OF_TEXTS: [Breach<'static>; 17] = [
     ("text", "", "", Rule::Json),
     ("text", "{\"format\":1", "", Rule::Json),
     ("text", "[]", "", Rule::Kind),
     ("text", "{}", "/format", Rule::Missing),
     ("text", "{\"format\":\"1\"}", "/format", Rule::Kind),
     ("text", "{\"format\":1.5}", "/format", Rule::Kind),
-    ("text", "{\"format\":2}", "/format", Rule::Range),
+    ("text", "{\"format\":2}", "/lights", Rule::Missing),
+    ("text", "{\"format\":3}", "/format", Rule::Range),
     ("text", "{\"format\":-1}", "/format", Rule::Range),
     (
         "text",
@@ -197,8 +205,35 @@ static OF_SEATS: [Breach<'static>; 28] = [
     ),
 ];
 
-/// In the maps and types.
-static OF_MAPS: [Breach<'static>; 17] = [
+/// In the light types and the map of the second format.
+static OF_DARK: [Breach<'static>; 6] = [
+    ("\"murk\":-20", "\"murk\":-21", "/lights/murk", Rule::Range),
+    ("\"murk\":-20", "\"murk\":0", "/lights/murk", Rule::Range),
+    ("\"format\":2", "\"format\":1", "/lights/murk", Rule::Range),
+    ("\"trail\":true, ", "", "/maps/0/trail", Rule::Missing),
+    (
+        "\"trail\":true, \"rows\":[\"a.\"]",
+        "\"trail\":1, \"rows\":0",
+        "/maps/0/trail",
+        Rule::Kind,
+    ),
+    (
+        "\"mbl\":[]",
+        "\"mbl\":[], \"more\":0",
+        "/maps/0",
+        Rule::Unknown,
+    ),
+];
+
+/// In the maps and types of the first.
+static OF_MAPS: [Breach<'static>; 19] = [
+    ("\"lamp\":2", "\"lamp\":-2", "/lights/lamp", Rule::Range),
+    (
+        "\"shown\":false,",
+        "\"shown\":false, \"trail\":false,",
+        "/maps/0",
+        Rule::Unknown,
+    ),
     ("\"lamp\":2", "\"La/m~p\":2", "/lights/La~1m~0p", Rule::Form),
     ("\"lamp\":2", "\"lamp\":21", "/lights/lamp", Rule::Range),
     ("[40,20,4]", "[40,20]", "/sights/elf", Rule::Range),
@@ -361,6 +396,17 @@ fn other_spellings_are_taken(rt: HostRuntime) {
         world.fog().sets().len(),
     );
     assert_eq!(rt; counts, (3, 2, 2, 4));
+    assert!(&rt; !world.maps().at(0).trail());
+}
+
+#[test]
+fn trails_and_darknesses_are_taken_in_the_second_format(rt: HostRuntime) {
+    let world = taken(&rt, rt.alloc(), DARK);
+    assert_eq!(rt; world.lights().len(), 2);
+    assert_eq!(rt; world.lights().at(0).1, 20);
+    assert_eq!(rt; world.lights().at(1).1, -20);
+    assert_eq!(rt; world.maps().len(), 1);
+    assert!(&rt; world.maps().at(0).trail());
 }
 
 /// The text isn't taken, by the rule at the path.
@@ -380,9 +426,10 @@ fn all_break(rt: &impl Abort, alloc: Global, text: &str, breaches: &[Breach<'_>]
 
 #[test]
 fn first_breaches_are_told(rt: HostRuntime) {
-    let tables: [(&str, &[Breach<'_>]); 5] = [
+    let tables: [(&str, &[Breach<'_>]); 6] = [
         ("text", &OF_TEXTS),
         (TWO_SEATS, &OF_SEATS),
+        (DARK, &OF_DARK),
         (FULL, &OF_MAPS),
         (FULL, &OF_FOG),
         (FULL, &OF_TOKENS),

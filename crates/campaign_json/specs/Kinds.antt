@@ -1,5 +1,5 @@
 -- The kinds of value of the campaign text: what a value of the kind stands for, or the rule that it breaks first.
-use Rattle.std.specs.Prelude.{ℕ, ℤ, ◌&&◌, ◌||◌, nat_le, Bool, List, Option, Some, None, Result, Ok, if◌then◌else◌}
+use Rattle.std.specs.Prelude.{ℕ, ℤ, ◌&&◌, ◌||◌, ◌==◌, nat_le, Bool, List, Option, Some, None, Result, Ok, if◌then◌else◌}
 use Rattle.std.specs.List.{list_all}
 use Rattle.std.specs.Result.{result_ok}
 use Rattle.hex.specs.Hex.{decode_sized}
@@ -17,6 +17,8 @@ use Rattle.json_fields.specs.Fields.{unknown_in}
 use Rattle.json_fields.specs.Objects.{◌>>=◌}
 use Rattle.campaign_json.specs.declared.faults.Rule.TheVariants.{Unknown, Kind, Range, Form, Cross}
 use Rattle.campaign_json.specs.declared.faults.BadCampaign.{BadCampaign}
+use Rattle.campaign_json.specs.declared.formats.Format.{Format}
+use Rattle.campaign_json.specs.declared.formats.Format.TheVariants.{First, Second}
 use Rattle.campaign_json.specs.Reading.{broken, needed, asked}
 
 -- a whole number from least to most
@@ -63,6 +65,20 @@ integer d = needed Kind (integer_of d)
 -- true or false
 abbrev pub boolean : Data → Result Bool BadCampaign
 boolean d = needed Kind (as_bool d)
+
+-- the number that the text gives its format
+abbrev pub format_number : Format → ℕ
+format_number First = 1
+format_number Second = 2
+
+-- the format of a number, 1 or 2
+abbrev pub format_of : ℕ → Format
+format_of number = if number == 1 then First else Second
+
+abbrev pub format : Data → Result Format BadCampaign
+format d = do
+  number ← whole 1 2 d
+  Ok (format_of number)
 
 -- the members of an object, at most so many
 abbrev pub members : ℕ → Data → Result Members BadCampaign

@@ -7,9 +7,10 @@ ghost use Rattle.serde_json.specs.View.{view, items_view, members_view};
 ghost use Rattle.json_fields.specs.Objects.{Gives};
 ghost use Rattle.names.specs.Tag.{tag_of};
 ghost use Rattle.campaign_json.specs.Reading.{pointer, needed as needed_lem, field, item_at, Fails, IsBreach};
-ghost use Rattle.campaign_json.specs.Kinds.{list as list_lem, exactly, members as members_lem, boolean as boolean_lem, mode as mode_lem, layer as layer_lem, integer as integer_lem, whole as whole_lem, text as text_lem, seed as seed_lem, only as only_lem, object as object_lem, items as items_lem, entries as entries_lem};
+ghost use Rattle.campaign_json.specs.Kinds.{list as list_lem, exactly, members as members_lem, boolean as boolean_lem, mode as mode_lem, layer as layer_lem, format as format_lem, integer as integer_lem, whole as whole_lem, text as text_lem, seed as seed_lem, only as only_lem, object as object_lem, items as items_lem, entries as entries_lem};
 
 use crate::faults::{FileFault, Rule, broken, broken_at, broken_item};
+use crate::formats::Format;
 use crate::kinds;
 use names::{Layer, Mode, Tag};
 use serde_json::{Map, Value};
@@ -156,6 +157,17 @@ pub fn layer(alloc: Global, value: &Value, key: &str) -> Result<Layer, FileFault
 {
     let field = needed(alloc, value, key)?;
     match kinds::layer(field) {
+        Ok(found) => Ok(found),
+        Err(rule) => Err(broken_at(alloc, key, rule)),
+    }
+}
+
+/// The number of a format.
+pub fn format(alloc: Global, value: &Value, key: &str) -> Result<Format, FileFault>
+    ensures { Gives Fails (λ f. f) result (field key.now format_lem (view value.now)) }
+{
+    let field = needed(alloc, value, key)?;
+    match kinds::format(field) {
         Ok(found) => Ok(found),
         Err(rule) => Err(broken_at(alloc, key, rule)),
     }

@@ -7,9 +7,10 @@ ghost use Rattle.hex.specs.Hex.{decode_sized};
 ghost use Rattle.serde_json.specs.View.{view, items_view, members_view};
 ghost use Rattle.json_fields.specs.Kinds.{within};
 ghost use Rattle.campaign_json.specs.Reading.{here};
-ghost use Rattle.campaign_json.specs.Kinds.{whole as whole_lem, text as text_lem, list as list_lem, object as object_lem, only as only_lem, seed as seed_lem, seed_of, is_lower_hex as is_lower_hex_lem, integer as integer_lem, boolean as boolean_lem, members as members_lem, tag as tag_lem, mode as mode_lem, layer as layer_lem, id as id_lem, items as items_lem, entries as entries_lem, name as name_lem};
+ghost use Rattle.campaign_json.specs.Kinds.{whole as whole_lem, text as text_lem, list as list_lem, object as object_lem, only as only_lem, seed as seed_lem, seed_of, is_lower_hex as is_lower_hex_lem, integer as integer_lem, boolean as boolean_lem, members as members_lem, tag as tag_lem, mode as mode_lem, layer as layer_lem, format as format_lem, id as id_lem, items as items_lem, entries as entries_lem, name as name_lem};
 
 use crate::faults::Rule;
+use crate::formats::Format;
 use hex::FromHex;
 use json_fields::fields::unknown_key;
 use names::{Layer, Mode, Tag, TokenId};
@@ -168,6 +169,17 @@ pub fn layer(value: &Value) -> Result<Layer, Rule>
 {
     let text = value.as_str().ok_or(Rule::Kind)?;
     Layer::read(text).ok_or(Rule::Form)
+}
+
+/// The number of a format.
+pub fn format(value: &Value) -> Result<Format, Rule>
+    ensures { here (λ f. f) result ≡ format_lem (view value.now) }
+{
+    if whole(value, 1, 2)? == 1 {
+        Ok(Format::First)
+    } else {
+        Ok(Format::Second)
+    }
 }
 
 /// The text of a token's id.

@@ -6,6 +6,8 @@
 
 mod faults;
 pub mod fields;
+mod formats;
 pub mod kinds;
 
 pub use faults::{BadCampaign, FileFault, Rule, broken, broken_at, broken_item};
+pub use formats::Format;

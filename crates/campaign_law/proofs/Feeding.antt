@@ -15,15 +15,17 @@ use Rattle.player_view.proofs.ViewIs.{view_is}
 use Rattle.command_json.specs.declared.command.Command.{Command}
 use Rattle.command_effects.specs.Effects.{scene_by}
 use Rattle.command_effects.specs.Settle.{settled as settled_scene, IsSettled}
+use Rattle.command_effects.specs.Way.{way_of, after_by}
 use Rattle.command_effects.proofs.Following.{scenes_follow}
 use Rattle.command_effects.proofs.Players.{players_kept}
+use Rattle.command_effects.proofs.Ways.{way_players}
 use Rattle.macro_eval.specs.declared.intent.Intent.{Intent}
 use Rattle.world.specs.Scene.{Scene}
 use Rattle.campaign_law.specs.declared.entry.Entry.{Entry}
 use Rattle.campaign_law.specs.Views.{change_line}
 use Rattle.campaign_law.specs.Seat.{Seat, blank_seat, was_joined}
 use Rattle.campaign_law.specs.Outcome.{Outcome, of_steps, seat_of, blank_entry}
-use Rattle.campaign_law.specs.World.{World, seat_at, asked_of, outcome_of, steps_of, report_of, scene_after, is_present, messages_to, step}
+use Rattle.campaign_law.specs.World.{World, seat_at, asked_of, outcome_of, steps_of, report_of, made_by, scene_after, is_present, messages_to, step}
 use Rattle.campaign_law.specs.Worlds.{FitsTogether}
 use Rattle.campaign_law.specs.Player.{Item, own, message, view, view_items, items_if_present, entry_items, items_of, trace, Machine, own_outcome, after, opening, started}
 use Rattle.campaign_law.specs.Feeding.{MayFeedAll, TracesFeed}
@@ -37,15 +39,15 @@ use Rattle.campaign_law.proofs.Worlds.{fits_always, seat_numbered}
 
 -- ---- what is shown after an entry fits what was shown
 
-still_follows : (steps : ℕ) (intents : List Intent) (seat : ℕ) (s : Scene) → SceneFollows s (settled_scene (scene_by steps intents seat s None))
-unfolding settled_scene scene_by
+still_follows : (steps : ℕ) (intents : List Intent) (seat : ℕ) (s : Scene) → SceneFollows s (after_by steps intents seat s None)
+unfolding settled_scene scene_by way_of after_by
 still_follows steps intents seat s = record { sizes = λ name size h. h; lights = λ name h. h; sights = λ name h. h }
 
-by_done : (w : World) (e : Entry) (d : Option Command) → (outcome_of w e).done ≡ d → SceneFollows w.scene (settled_scene (scene_by (steps_of w e) (outcome_of w e).intents (seat_of e) w.scene d))
+by_done : (w : World) (e : Entry) (d : Option Command) → (outcome_of w e).done ≡ d → SceneFollows w.scene (after_by (steps_of w e) (outcome_of w e).intents (seat_of e) w.scene d)
 by_done w e None is = still_follows (steps_of w e) (outcome_of w e).intents (seat_of e) w.scene
 by_done w e (Some c) is = scenes_follow (steps_of w e) (outcome_of w e).intents (seat_of e) w.scene c (allowed w e (report_of w e) (outcome_of w e) c refl is)
 
-after_follows : (w : World) (e : Entry) → SceneFollows w.scene (scene_after w e)
+pub after_follows : (w : World) (e : Entry) → SceneFollows w.scene (scene_after w e)
 unfolding scene_after
 after_follows w e = by_done w e (outcome_of w e).done refl
 
@@ -54,8 +56,10 @@ unfolding settled_scene
 settled_keeps s = refl
 
 pub players_stay : (w : World) (e : Entry) → (scene_after w e).fog.players ≡ w.scene.fog.players
-unfolding scene_after
-players_stay w e = settled_keeps (scene_by (steps_of w e) (outcome_of w e).intents (seat_of e) w.scene (outcome_of w e).done) ∙ players_kept (steps_of w e) (outcome_of w e).intents (seat_of e) w.scene (outcome_of w e).done
+unfolding scene_after after_by
+players_stay w e =
+    way_players (way_of (steps_of w e) (seat_of e) w.scene (outcome_of w e).done) (made_by w e)
+    ∙ players_kept (steps_of w e) (outcome_of w e).intents (seat_of e) w.scene (outcome_of w e).done
 
 pub views_fit : (w : World) (e : Entry) (seat : ℕ) → FitsTogether w → HasTables w.scene → seat ≤ w.scene.fog.players → All (FitsAmong (view_of w.scene seat).maps) (view_of (scene_after w e) seat).maps
 views_fit w e seat fits tables within =

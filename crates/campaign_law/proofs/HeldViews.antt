@@ -8,16 +8,10 @@ use Rattle.view_change.specs.Change.{difference, apply_change}
 use Rattle.view_change.proofs.ChangeLemmas.{gives_after}
 use Rattle.views.specs.declared.view.View.{View}
 use Rattle.world.specs.Scene.{Scene}
-use Rattle.player_view.specs.Follows.{Follows}
 use Rattle.player_view.specs.Tables.{HasTables}
 use Rattle.player_view.specs.View.{view_of}
 use Rattle.player_view.proofs.FollowLemmas.{views_follow}
 use Rattle.player_view.proofs.ViewIs.{view_is}
-use Rattle.command_json.specs.declared.command.Command.{Command}
-use Rattle.command_effects.specs.Effects.{scene_by}
-use Rattle.command_effects.specs.Settle.{settled}
-use Rattle.command_effects.proofs.Following.{scenes_follow}
-use Rattle.command_effects.proofs.Players.{players_kept}
 use Rattle.campaign_law.specs.declared.entry.Entry.{Entry}
 use Rattle.campaign_law.specs.Seat.{Seat, IsFreshSeat, was_joined}
 use Rattle.campaign_law.specs.Outcome.{seat_of}
@@ -25,30 +19,13 @@ use Rattle.campaign_law.specs.World.{World, seat_at, asked_of, steps_of, report_
 use Rattle.campaign_law.specs.Law.{IsOpening}
 use Rattle.campaign_law.specs.Worlds.{FitsTogether}
 use Rattle.campaign_law.specs.Client.{told_of, held_after, held_from, ClientHoldsView}
-use Rattle.campaign_law.proofs.Allowed.{allowed}
 use Rattle.campaign_law.proofs.Clients.{present_if_joined, held_step}
+use Rattle.campaign_law.proofs.Feeding.{after_follows, players_stay}
 use Rattle.campaign_law.proofs.ScenesOfWorlds.{seat_plays, tables_after}
 use Rattle.campaign_law.proofs.Simulation.{absent_any, fresh_at}
-use Rattle.campaign_law.proofs.Worlds.{fits_after, same_players}
+use Rattle.campaign_law.proofs.Worlds.{fits_after}
 
 -- ---- one entry
-
-settling_follows : (s : Scene) → Follows s (settled s)
-unfolding settled
-settling_follows s = record { sizes = λ name size there. there; lights = λ name there. there; sights = λ name there. there }
-
-follows_by : (w : World) (e : Entry) (o : Option Command) → (outcome_of w e).done ≡ o → Follows w.scene (settled (scene_by (steps_of w e) (outcome_of w e).intents (seat_of e) w.scene o))
-unfolding scene_by
-follows_by w e None none = settling_follows w.scene
-follows_by w e (Some c) done = scenes_follow (steps_of w e) (outcome_of w e).intents (seat_of e) w.scene c (allowed w e (report_of w e) (outcome_of w e) c refl done)
-
-scene_follows : (w : World) (e : Entry) → Follows w.scene (scene_after w e)
-unfolding scene_after
-scene_follows w e = follows_by w e (outcome_of w e).done refl
-
-players_after : (w : World) (e : Entry) → (scene_after w e).fog.players ≡ w.scene.fog.players
-unfolding scene_after
-players_after w e = same_players w e (made_by w e) ∙ players_kept (steps_of w e) (outcome_of w e).intents (seat_of e) w.scene (outcome_of w e).done
 
 -- a seat that is present is there
 present_plays : (w : World) (e : Entry) (seat : ℕ) → FitsTogether w → is_present (eqb (seat_of e) seat) (seat_at w seat) (outcome_of w e) ≡ true → seat ≤ w.scene.fog.players
@@ -69,8 +46,8 @@ change_gives : (w : World) (e : Entry) (seat : ℕ) → FitsTogether w → HasTa
     → apply_change (view_of w.scene seat) (difference (view_of w.scene seat) (view_of (scene_after w e) seat)) ≡ view_of (scene_after w e) seat
 change_gives w e seat fits tables plays =
     let after = tables_after w e fits tables in
-    gives_after (view_of w.scene seat) (view_of (scene_after w e) seat) (view_is w.scene seat tables plays) (view_is (scene_after w e) seat after (subst (λ n. seat ≤ n) (sym (players_after w e)) plays))
-    (views_follow w.scene (scene_after w e) tables after (scene_follows w e) seat)
+    gives_after (view_of w.scene seat) (view_of (scene_after w e) seat) (view_is w.scene seat tables plays) (view_is (scene_after w e) seat after (subst (λ n. seat ≤ n) (sym (players_stay w e)) plays))
+    (views_follow w.scene (scene_after w e) tables after (after_follows w e) seat)
 
 -- ---- along a history
 

@@ -13,7 +13,7 @@ use Rattle.json_fields.specs.Objects.{◌>>=◌}
 use Rattle.cells.specs.Cells.{Extent}
 use Rattle.maps.specs.Letters.{IsOn}
 use Rattle.maps.specs.MapFaults.{map_fault}
-use Rattle.maps.specs.Maps.{Grid, has_map, map_of, new_map, shown_if, with_letters, with_mode, with_wall_of}
+use Rattle.maps.specs.Maps.{Grid, has_map, map_of, new_map, shown_if, trail_if, with_letters, with_mode, with_wall_of}
 use Rattle.maps.specs.declared.map_table.MapFault.TheVariants.{MapExists, MapLimit}
 use Rattle.maps.proofs.NameLemmas.{and_first, and_second, same_name}
 use Rattle.world.specs.Rules.{size_of}
@@ -23,6 +23,7 @@ use Rattle.campaign_json.specs.declared.faults.BadCampaign.{BadCampaign}
 use Rattle.campaign_json.specs.declared.faults.FileFault.{FileFault}
 use Rattle.campaign_json.specs.declared.faults.Rule.TheVariants.{Range, Twice, Cross}
 use Rattle.campaign_json.specs.Reading.{Fails, broken}
+use Rattle.campaign_scene.specs.declared.map.Heading.{Heading}
 use Rattle.campaign_scene.specs.Kept.{kept}
 use Rattle.campaign_scene.specs.Maps.{frame, cell_rect, lettered, with_blank, point_on, unbroken, walled_at, IsWallBreach}
 use Rattle.campaign_json.proofs.Each.{is_breach}
@@ -67,9 +68,16 @@ new_size name size s none =
 pub moded_size : (name : List ℕ) (mode : Mode) (s : Scene) → size_of name (with_grid name (with_mode mode) s).maps ≡ size_of name s.maps
 moded_size name mode s = size_of-changed (with_mode mode) (λ m. refl) (λ m. refl) name name s.maps
 
-pub blank_size : (name : List ℕ) (size : Extent) (mode : Mode) (shown : Bool) (s : Scene) → map_fault s.maps name ≡ None → size_of name (with_blank name size mode shown s).maps ≡ Some size
-blank_size name size mode shown s none =
-    size_of-changed (shown_if shown) (λ m. refl) (λ m. refl) name name (with_grid name (with_mode mode) (with_new_map name size s)).maps ∙ moded_size name mode (with_new_map name size s) ∙ new_size name size s none
+pub shown_size : (name : List ℕ) (shown : Bool) (s : Scene) → size_of name (with_grid name (shown_if shown) s).maps ≡ size_of name s.maps
+shown_size name shown s = size_of-changed (shown_if shown) (λ m. refl) (λ m. refl) name name s.maps
+
+pub blank_size : (new : Heading) (s : Scene) → map_fault s.maps new.name ≡ None → size_of new.name (with_blank new s).maps ≡ Some new.size
+blank_size new s none =
+    let added : Scene = with_new_map new.name new.size s in
+    let moded : Scene = with_grid new.name (with_mode new.mode) added in
+    let shown : Scene = with_grid new.name (shown_if new.shown) moded in
+    size_of-changed (trail_if new.trail) (λ m. refl) (λ m. refl) new.name new.name shown.maps
+    ∙ shown_size new.name new.shown moded ∙ moded_size new.name new.mode added ∙ new_size new.name new.size s none
 
 -- ---- walls
 

@@ -1,8 +1,7 @@
 -- Maps: their cells' letters, and their walls.
-use Rattle.std.specs.Prelude.{◌≡◌, ℕ, ℤ, ◌+◌, ◌*◌, not, nat_le, Bool, List, [], ◌∷◌, length, codes, Option, Some, None, Result, Ok}
+use Rattle.std.specs.Prelude.{◌≡◌, ℕ, ℤ, ◌+◌, ◌*◌, not, nat_le, Bool, false, List, [], ◌∷◌, length, codes, Option, Some, None, Result, Ok}
 use Rattle.std.specs.List.{list_all}
 use Rattle.names.specs.Words.{wall_word}
-use Rattle.names.specs.declared.kinds.Mode.{Mode}
 use Rattle.names.specs.declared.kinds.WallKind.{WallKind}
 use Rattle.names.specs.declared.kinds.WallKind.TheVariants.{Vbl, Mbl}
 use Rattle.lattice.specs.Coordinates.{Coordinates}
@@ -12,7 +11,7 @@ use Rattle.topology.specs.WallFaults.{wall_fault}
 use Rattle.topology.specs.declared.walls.WallFault.{WallFault}
 use Rattle.topology.specs.declared.walls.WallFault.TheVariants.{OffMap, DegenerateWall, WallThere, WallLimit, Memory}
 use Rattle.names.specs.Letters.{is_letter}
-use Rattle.maps.specs.Maps.{has_map, map_of, shown_if, with_letters, with_mode, with_wall_of}
+use Rattle.maps.specs.Maps.{has_map, map_of, shown_if, trail_if, with_letters, with_mode, with_wall_of}
 use Rattle.serde_json.specs.Data.{Data}
 use Rattle.json_fields.specs.Kinds.{within}
 use Rattle.json_fields.specs.Objects.{◌>>=◌}
@@ -23,9 +22,12 @@ use Rattle.campaign_json.specs.declared.faults.Rule.TheVariants.{Range, Form, Tw
 use Rattle.campaign_json.specs.declared.faults.FileFault.{FileFault}
 use Rattle.campaign_json.specs.declared.faults.FileFault.TheVariants.{Memory as no_memory}
 use Rattle.campaign_json.specs.declared.faults.BadCampaign.{BadCampaign}
+use Rattle.campaign_json.specs.declared.formats.Format.{Format}
+use Rattle.campaign_json.specs.declared.formats.Format.TheVariants.{First, Second}
 use Rattle.campaign_json.specs.Reading.{IsBreach, broken, needed, asked, field, item_at, under, each}
 use Rattle.campaign_json.specs.Kinds.{whole, text, list, object, only, exactly, integer, boolean, tag, mode}
 use Rattle.tokens.specs.declared.token.Token.{Token}
+use Rattle.campaign_scene.specs.declared.map.Heading.{Heading}
 use Rattle.campaign_scene.specs.Kept.{kept}
 
 -- what stays while a map is filled: the players, the tokens, and the size of the map of that name
@@ -126,8 +128,9 @@ walls name kind s d = do
 
 -- ---- maps
 
-abbrev pub map_keys : List (List ℕ)
-map_keys = codes "name" ∷ codes "w" ∷ codes "h" ∷ codes "mode" ∷ codes "shown" ∷ codes "rows" ∷ codes "vbl" ∷ codes "mbl" ∷ []
+abbrev pub map_keys : Format → List (List ℕ)
+map_keys First = codes "name" ∷ codes "w" ∷ codes "h" ∷ codes "mode" ∷ codes "shown" ∷ codes "rows" ∷ codes "vbl" ∷ codes "mbl" ∷ []
+map_keys Second = codes "name" ∷ codes "w" ∷ codes "h" ∷ codes "mode" ∷ codes "shown" ∷ codes "trail" ∷ codes "rows" ∷ codes "vbl" ∷ codes "mbl" ∷ []
 
 -- a name that no map has
 unfoldable pub new_name : Scene → Data → Result (List ℕ) BadCampaign
@@ -137,33 +140,40 @@ new_name s d = do
   room ← asked Range (not (nat_le 8 (length s.maps)))
   Ok name
 
--- a new map with that mode, shown or not
-abbrev pub with_blank : List ℕ → Extent → Mode → Bool → Scene → Scene
-with_blank name size mode shown s = with_grid name (shown_if shown) (with_grid name (with_mode mode) (with_new_map name size s))
+-- whether a map has a trail: none of the first format has one, nor says so
+abbrev pub trail : Format → Data → Result Bool BadCampaign
+trail First d = Ok false
+trail Second d = field (codes "trail") boolean d
 
--- what a map says of itself before its letters and walls: its name, its size, its mode, and whether it is shown
-unfoldable pub heading : Scene → Data → Result (List ℕ × (Extent × (Mode × Bool))) BadCampaign
-heading s d = do
+-- what a map says of itself before its letters and walls: its name, its size, its mode, whether it is shown, and whether it
+-- has a trail
+unfoldable pub heading : Format → Scene → Data → Result Heading BadCampaign
+heading format s d = do
   members ← object d
   name ← field (codes "name") (new_name s) d
   w ← field (codes "w") (whole 1 96) d
   h ← field (codes "h") (whole 1 96) d
   mode ← field (codes "mode") mode d
   shown ← field (codes "shown") boolean d
-  Ok (name, (record { w = w; h = h }, (mode, shown)))
+  trail ← trail format d
+  Ok (record { name = name; size = record { w = w; h = h }; mode = mode; shown = shown; trail = trail })
+
+-- a new map of that heading
+abbrev pub with_blank : Heading → Scene → Scene
+with_blank new s = with_grid new.name (trail_if new.trail) (with_grid new.name (shown_if new.shown) (with_grid new.name (with_mode new.mode) (with_new_map new.name new.size s)))
 
 -- a map more
-unfoldable pub map : Scene → Data → Result Scene BadCampaign
-map s d = do
-  new ← heading s d
-  laid ← rows new.0 new.1.0 (with_blank new.0 new.1.0 new.1.1.0 new.1.1.1 s) d
-  veiled ← walls new.0 Vbl laid d
-  walled ← walls new.0 Mbl veiled d
-  no_others ← only map_keys d
+unfoldable pub map : Format → Scene → Data → Result Scene BadCampaign
+map format s d = do
+  new ← heading format s d
+  laid ← rows new.name new.size (with_blank new s) d
+  veiled ← walls new.name Vbl laid d
+  walled ← walls new.name Mbl veiled d
+  no_others ← only (map_keys format) d
   Ok walled
 
 -- the scene with the maps of the campaign
-unfoldable pub maps : Scene → Data → Result Scene BadCampaign
-maps s d = do
+unfoldable pub maps : Format → Scene → Data → Result Scene BadCampaign
+maps format s d = do
   items ← field (codes "maps") (list 0 8) d
-  under (codes "maps") (each (λ place. map) 0 s items)
+  under (codes "maps") (each (λ place. map format) 0 s items)

@@ -7,13 +7,14 @@ ghost use Rattle.names.specs.Letters.{is_letter as is_letter_lem};
 ghost use Rattle.maps.specs.MapFaults.{map_fault};
 ghost use Rattle.maps.specs.Maps.{has_map};
 ghost use Rattle.world.specs.Rules.{size_of};
+ghost use Rattle.campaign_json.specs.Kinds.{only};
 ghost use Rattle.campaign_json.specs.Reading.{Fails, here, under, each, field};
 ghost use Rattle.campaign_scene.specs.Kept.{kept};
-ghost use Rattle.campaign_scene.specs.Maps.{frame, lettered, row as row_lem, row_letters as row_letters_lem, with_blank as with_blank_lem, rows as rows_lem, new_name as new_name_lem, heading as heading_lem, map as map_lem, maps as maps_lem};
+ghost use Rattle.campaign_scene.specs.Maps.{frame, lettered, row as row_lem, row_letters as row_letters_lem, with_blank as with_blank_lem, rows as rows_lem, map_keys, new_name as new_name_lem, trail as trail_lem, heading as heading_lem, map as map_lem, maps as maps_lem};
 
 use crate::wall::read_walls;
 use campaign_json::fields::{self, check_object, check_only};
-use campaign_json::{FileFault, Rule, broken, broken_at, kinds};
+use campaign_json::{FileFault, Format, Rule, broken, broken_at, kinds};
 use cells::{Rect, Size};
 use maps::MAP_LIMIT;
 use names::{Mode, Tag, WallKind, is_letter};
@@ -21,34 +22,51 @@ use serde_json::Value;
 use std::alloc::Global;
 use world::Scene;
 
-/// The keys of a map.
-const MAP_KEYS: [&str; 8] = ["name", "w", "h", "mode", "shown", "rows", "vbl", "mbl"];
+/// The keys of a map of the first format.
+const FIRST_KEYS: [&str; 8] = ["name", "w", "h", "mode", "shown", "rows", "vbl", "mbl"];
+
+/// The keys of a map of the second format.
+const SECOND_KEYS: [&str; 9] = [
+    "name", "w", "h", "mode", "shown", "trail", "rows", "vbl", "mbl",
+];
 
 /// What a map says of itself before its letters and walls.
+#[derive(Drop)]
 struct Heading {
     name: Tag,
     size: Size,
     mode: Mode,
     shown: bool,
+    trail: bool,
 }
 
-/// The scene with the maps of the campaign.
+/// The scene with the maps of a campaign of that format.
 #[tactic(auto, unfolding(crate::specs::Maps::maps))]
-pub fn read_maps(alloc: Global, value: &Value, scene: Scene) -> Result<Scene, FileFault>
-    ensures exact { Gives Fails (λ s. s) result (maps_lem scene (view value.now)) }
+pub fn read_maps(
+    alloc: Global,
+    format: Format,
+    value: &Value,
+    scene: Scene,
+) -> Result<Scene, FileFault>
+    ensures exact { Gives Fails (λ s. s) result (maps_lem format scene (view value.now)) }
     ensures kept { IfOk result (λ s. kept s ≡ kept scene) }
 {
     let values = fields::list(alloc, value, "maps", 0, 8)?;
-    each_map(alloc, values, scene)
+    each_map(alloc, format, values, scene)
 }
 
-fn each_map(alloc: Global, values: &[Value], mut scene: Scene) -> Result<Scene, FileFault>
+fn each_map(
+    alloc: Global,
+    format: Format,
+    values: &[Value],
+    mut scene: Scene,
+) -> Result<Scene, FileFault>
     ensures exact { Gives Fails (λ s. s) result
-        (under (codes "maps") (each (λ place. map_lem) 0 scene (items_view values.now))) }
+        (under (codes "maps") (each (λ place. map_lem format) 0 scene (items_view values.now))) }
     ensures kept { IfOk result (λ s. kept s ≡ kept scene) }
 {
     for (place, value) in values.iter().enumerate() {
-        scene = match read_map(alloc, value, scene) {
+        scene = match read_map(alloc, format, value, scene) {
             Ok(next) => next,
             Err(fault) => return Err(fault.under_item(alloc, "maps", place)),
         };
@@ -57,28 +75,30 @@ fn each_map(alloc: Global, values: &[Value], mut scene: Scene) -> Result<Scene, 
 }
 
 #[tactic(auto, unfolding(crate::specs::Maps::map))]
-fn read_map(alloc: Global, value: &Value, scene: Scene) -> Result<Scene, FileFault>
-    ensures exact { Gives Fails (λ s. s) result (map_lem scene (view value.now)) }
+fn read_map(alloc: Global, format: Format, value: &Value, scene: Scene) -> Result<Scene, FileFault>
+    ensures exact { Gives Fails (λ s. s) result (map_lem format scene (view value.now)) }
     ensures kept { IfOk result (λ s. kept s ≡ kept scene) }
 {
-    let Heading {
-        name,
-        size,
-        mode,
-        shown,
-    } = read_heading(alloc, value, &scene)?;
-    let scene = with_blank(name, size, mode, shown, scene)?;
+    let heading = read_heading(alloc, format, value, &scene)?;
+    let name = heading.name;
+    let size = heading.size;
+    let scene = with_blank(&heading, scene)?;
     let scene = read_rows(alloc, name, size, value, scene)?;
     let scene = read_walls(alloc, name, WallKind::Vbl, value, scene)?;
     let scene = read_walls(alloc, name, WallKind::Mbl, value, scene)?;
-    check_only(alloc, value, &MAP_KEYS)?;
+    check_keys(alloc, format, value)?;
     Ok(scene)
 }
 
 /// The heading of a new map.
 #[tactic(auto, unfolding(crate::specs::Maps::heading))]
-fn read_heading(alloc: Global, value: &Value, scene: &Scene) -> Result<Heading, FileFault>
-    ensures exact { Gives Fails (λ m. (m.name, (m.size, (m.mode, m.shown)))) result (heading_lem scene.now (view value.now)) }
+fn read_heading(
+    alloc: Global,
+    format: Format,
+    value: &Value,
+    scene: &Scene,
+) -> Result<Heading, FileFault>
+    ensures exact { Gives Fails (λ m. m) result (heading_lem format scene.now (view value.now)) }
     ensures room { IfOk result (λ m. map_fault scene.now.maps m.name ≡ None) }
 {
     check_object(alloc, value)?;
@@ -87,36 +107,54 @@ fn read_heading(alloc: Global, value: &Value, scene: &Scene) -> Result<Heading, 
     let h = fields::whole(alloc, value, "h", 1, 96)? as u8;
     let mode = fields::mode(alloc, value, "mode")?;
     let shown = fields::boolean(alloc, value, "shown")?;
+    let trail = read_trail(alloc, format, value)?;
     let size = Size::new(w, h).unwrap();
     Ok(Heading {
         name,
         size,
         mode,
         shown,
+        trail,
     })
 }
 
-/// The scene with a new map, of a name that no map has, of that mode, shown or not.
+/// Whether the map has a trail, which no map of the first format has.
+fn read_trail(alloc: Global, format: Format, value: &Value) -> Result<bool, FileFault>
+    ensures { Gives Fails (λ b. b) result (trail_lem format (view value.now)) }
+{
+    match format {
+        Format::First => Ok(false),
+        Format::Second => fields::boolean(alloc, value, "trail"),
+    }
+}
+
+/// The map has no keys beside those of its format.
+fn check_keys(alloc: Global, format: Format, value: &Value) -> Result<(), FileFault>
+    ensures { Gives Fails (λ u. u) result (only (map_keys format) (view value.now)) }
+{
+    match format {
+        Format::First => check_only(alloc, value, &FIRST_KEYS),
+        Format::Second => check_only(alloc, value, &SECOND_KEYS),
+    }
+}
+
+/// The scene with a new map of that heading, of a name that no map has.
 #[tactic(auto, using(crate::proofs::Maps::blank_size))]
-fn with_blank(
-    name: Tag,
-    size: Size,
-    mode: Mode,
-    shown: bool,
-    mut scene: Scene,
-) -> Result<Scene, FileFault>
-    requires { map_fault scene.maps name ≡ None }
-    ensures value { IfOk result (λ s. s ≡ with_blank_lem name size mode shown scene) }
+fn with_blank(heading: &Heading, mut scene: Scene) -> Result<Scene, FileFault>
+    requires { map_fault scene.maps heading.now.name ≡ None }
+    ensures value { IfOk result (λ s. s ≡ with_blank_lem heading.now scene) }
     ensures memory { IfErr result (λ fault. fault ≡ FileFault.Memory) }
     ensures kept { IfOk result (λ s. kept s ≡ kept scene) }
-    ensures size { IfOk result (λ s. size_of name s.maps ≡ Some size) }
+    ensures size { IfOk result (λ s. size_of heading.now.name s.maps ≡ Some heading.now.size) }
 {
-    match scene.add_map(name, size) {
+    let name = heading.name;
+    match scene.add_map(name, heading.size) {
         Ok(()) => {}
         Err(_) => return Err(FileFault::Memory),
     }
-    scene.set_mode(name, mode);
-    scene.set_shown(name, shown);
+    scene.set_mode(name, heading.mode);
+    scene.set_shown(name, heading.shown);
+    scene.set_trail(name, heading.trail);
     Ok(scene)
 }
 

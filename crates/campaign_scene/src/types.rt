@@ -2,13 +2,13 @@
 ghost use Rattle.std.specs.Prelude.{◌≡◌, IfOk, codes};
 ghost use Rattle.serde_json.specs.View.{view, members_view};
 ghost use Rattle.json_fields.specs.Objects.{Gives};
-ghost use Rattle.campaign_json.specs.Reading.{Fails, under, each_member};
+ghost use Rattle.campaign_json.specs.Reading.{Fails, here, under, each_member};
 ghost use Rattle.campaign_scene.specs.Kept.{kept};
-ghost use Rattle.campaign_scene.specs.Types.{light as light_lem, sight as sight_lem, sight_of as sight_of_lem, lights as lights_lem, sights as sights_lem};
+ghost use Rattle.campaign_scene.specs.Types.{is_radius_in as is_radius_in_lem, radius as radius_lem, light as light_lem, sight as sight_lem, sight_of as sight_of_lem, lights as lights_lem, sights as sights_lem};
 
 use campaign_json::fields::{self, check_count};
-use campaign_json::{FileFault, Rule, broken, kinds};
-use lights::LightFault;
+use campaign_json::{FileFault, Format, Rule, broken, kinds};
+use lights::{LightFault, MOST_RADIUS};
 use serde_json::{Map, Value};
 use sight_types::{Sight, SightFault};
 use std::alloc::Global;
@@ -17,27 +17,33 @@ use world::Scene;
 /// How many types of a kind there are at most.
 const MOST_TYPES: usize = 32;
 
-/// The scene with the light types of the campaign.
+/// The scene with the light types of a campaign of that format.
 #[tactic(auto, unfolding(crate::specs::Types::lights))]
-pub fn read_lights(alloc: Global, value: &Value, scene: Scene) -> Result<Scene, FileFault>
-    ensures exact { Gives Fails (λ s. s) result (lights_lem scene (view value.now)) }
+pub fn read_lights(
+    alloc: Global,
+    format: Format,
+    value: &Value,
+    scene: Scene,
+) -> Result<Scene, FileFault>
+    ensures exact { Gives Fails (λ s. s) result (lights_lem format scene (view value.now)) }
     ensures kept { IfOk result (λ s. kept s ≡ kept scene) }
 {
     let members = fields::members(alloc, value, "lights", MOST_TYPES)?;
-    each_light(alloc, members, scene)
+    each_light(alloc, format, members, scene)
 }
 
 fn each_light(
     alloc: Global,
+    format: Format,
     members: &Map<String, Value>,
     mut scene: Scene,
 ) -> Result<Scene, FileFault>
     ensures exact { Gives Fails (λ s. s) result
-        (under (codes "lights") (each_member light_lem scene (members_view members.now.entries))) }
+        (under (codes "lights") (each_member (light_lem format) scene (members_view members.now.entries))) }
     ensures kept { IfOk result (λ s. kept s ≡ kept scene) }
 {
     for (key, value) in members {
-        scene = match read_light(alloc, key.as_str(), value, scene) {
+        scene = match read_light(alloc, format, key.as_str(), value, scene) {
             Ok(next) => next,
             Err(fault) => return Err(fault.under_member(alloc, "lights", key.as_str())),
         };
@@ -46,19 +52,50 @@ fn each_light(
 }
 
 #[tactic(auto, unfolding(crate::specs::Types::light))]
-fn read_light(alloc: Global, key: &str, value: &Value, mut scene: Scene) -> Result<Scene, FileFault>
-    ensures exact { Gives Fails (λ s. s) result (light_lem key.now scene (view value.now)) }
+fn read_light(
+    alloc: Global,
+    format: Format,
+    key: &str,
+    value: &Value,
+    mut scene: Scene,
+) -> Result<Scene, FileFault>
+    ensures exact { Gives Fails (λ s. s) result (light_lem format key.now scene (view value.now)) }
     ensures kept { IfOk result (λ s. kept s ≡ kept scene) }
 {
     let name = fields::tag_key(alloc, key)?;
-    let radius = match kinds::whole(value, 1, 20) {
-        Ok(radius) => radius as u32,
+    let radius = match radius(format, value) {
+        Ok(radius) => radius,
         Err(rule) => return Err(broken(alloc, rule)),
     };
     match scene.set_light_type(name, radius) {
         Ok(()) => Ok(scene),
         Err(LightFault::Memory) => Err(FileFault::Memory),
         Err(_) => Err(broken(alloc, Rule::Range)),
+    }
+}
+
+/// The radius of a light type, negative for a darkness, which a campaign of the first format hasn't.
+#[tactic(auto, unfolding(crate::specs::Types::radius))]
+fn radius(format: Format, value: &Value) -> Result<i32, Rule>
+    ensures { here (λ r. r) result ≡ radius_lem format (view value.now) }
+{
+    let radius = kinds::integer(value)?;
+    if is_radius_in(format, radius) {
+        Ok(radius as i32)
+    } else {
+        Err(Rule::Range)
+    }
+}
+
+/// Whether a light type of the format may have the radius.
+fn is_radius_in(format: Format, radius: i64) -> bool
+    ensures { result ≡ is_radius_in_lem format radius }
+{
+    let size = radius.unsigned_abs();
+    let fits = 1 <= size && size <= u64::from(MOST_RADIUS);
+    match format {
+        Format::First => fits && radius > 0,
+        Format::Second => fits,
     }
 }
 

@@ -16,13 +16,16 @@ use Rattle.serde_json.specs.View.{items_of}
 use Rattle.world.specs.Rules.{is_player}
 use Rattle.world.specs.Scene.{Scene, bare}
 use Rattle.world.specs.World.{World, AreNumberedFrom}
+use Rattle.campaign_json.specs.declared.formats.Format.{Format}
+use Rattle.campaign_json.specs.declared.formats.Format.TheVariants.{First, Second}
+use Rattle.campaign_json.specs.Kinds.{format_number}
 use Rattle.campaign_json.specs.Reading.{under}
 use Rattle.campaign_json.specs.Kinds as kinds
 use Rattle.campaign_writing.proofs.Writable.{IsMapWith, IsTokenOf, IsBookOf, IsWritable}
-use Rattle.campaign_writing.specs.Trees.{list, named}
+use Rattle.campaign_writing.specs.Trees.{whole, list, named}
 use Rattle.campaign_writing.proofs.Laid.{laid, row_alike, laid_alike}
 use Rattle.campaign_writing.specs.Scenes.{fog_tree, runs_tree, runs_in, runs_at, some_runs}
-use Rattle.campaign_writing.specs.Canonical.{campaign_tree, seat_tree, reopened, reopened_book}
+use Rattle.campaign_writing.specs.Canonical.{campaign_tree_in, seat_tree, reopened, reopened_book}
 use Rattle.campaign_scene.specs.Fog.{fog, fog_of_player, no_fog}
 use Rattle.campaign_file.specs.Seats as read_seats
 use Rattle.campaign_scene.specs.Maps as read_maps
@@ -55,7 +58,11 @@ map_one : (f : Book → Book) (done : List Book) (x : Book) → map f (done ++ x
 map_one f [] x = refl
 map_one f (y ∷ done) x = ap (λ l. f y ∷ l) (map_one f done x)
 
-module _ (w : World) (is : IsWritable w) where
+format_reads : (format : Format) → kinds.format (whole (format_number format)) ≡ Ok format
+format_reads First = refl
+format_reads Second = refl
+
+module _ (format : Format) (w : World) (is : IsWritable format w) where
   abbrev s : Scene
   s = w.scene
 
@@ -73,7 +80,7 @@ module _ (w : World) (is : IsWritable w) where
   distinct : (done : List Grid) (x : Grid) (left : List Grid) → done ++ x ∷ left ≡ s.maps → IsNew x.name done
   distinct done x left e = all_differ x.name done (lesser_keys tag_cmp (λ m. m.name) done x left s.maps e is.maps_ordered)
 
-  tags_of : (maps : List Grid) → AllByRecursion IsMapWith maps → AllByRecursion (λ m. (is_tag m.name ≡ true) × IsSize m.walls.extent) maps
+  tags_of : (maps : List Grid) → AllByRecursion (IsMapWith format) maps → AllByRecursion (λ m. (is_tag m.name ≡ true) × IsSize m.walls.extent) maps
   tags_of [] h = tt
   tags_of (m ∷ maps) h = ((h.0.name, h.0.map.size), tags_of maps h.1)
 
@@ -173,8 +180,8 @@ module _ (w : World) (is : IsWritable w) where
 
   -- ---- the whole
 
-  counted_players : players_in (campaign_tree w) ≡ players
-  unfolding campaign_tree
+  counted_players : players_in (campaign_tree_in format w) ≡ players
+  unfolding campaign_tree_in
   counted_players =
       let all : players + 1 ≡ length w.books = is.world.players in
       let low = is.world.least in
@@ -195,23 +202,24 @@ module _ (w : World) (is : IsWritable w) where
     tokens_still all h.1,
   )
 
-  mapped_reads : read_maps.maps (record (bare players) { lights = s.lights; sights = s.sights }) (campaign_tree w) ≡ Ok (seated_to 0)
-  unfolding campaign_tree
+  mapped_reads : read_maps.maps format (record (bare players) { lights = s.lights; sights = s.sights }) (campaign_tree_in format w) ≡ Ok (seated_to 0)
+  unfolding campaign_tree_in
   mapped_reads =
-      maps_read (record (bare players) { lights = s.lights; sights = s.sights }) players s.maps is.maps is.few_maps is.maps_ordered (campaign_tree w) refl
+      maps_read format (record (bare players) { lights = s.lights; sights = s.sights }) players s.maps is.maps is.few_maps is.maps_ordered (campaign_tree_in format w) refl
       ∙ ap (λ sets. Ok (record s { tokens = []; fog = record { players = players; sets = sets } })) none_shown
 
   -- what is written is read back: the same world, in which no line was counted, and all seats are Free
-  pub campaign_reads : campaign (campaign_tree w) ≡ Ok (reopened w)
-  unfolding campaign campaign_tree
+  pub campaign_reads : campaign (campaign_tree_in format w) ≡ Ok (reopened w)
+  unfolding campaign campaign_tree_in
   campaign_reads =
       let all : length w.books ≡ players + 1 = sym is.world.players in
       rw (
+        field_reads (codes "format") kinds.format (campaign_tree_in format w) (whole (format_number format)) format refl (format_reads format),
         counted_players,
-        lights_read (bare players) s.lights is.lights is.few_lights is.lights_ordered (campaign_tree w) refl,
-        sights_read (record (bare players) { lights = s.lights }) s.sights is.sights is.few_sights is.sights_ordered (campaign_tree w) refl,
+        lights_read format (bare players) s.lights is.lights is.few_lights is.lights_ordered (campaign_tree_in format w) refl,
+        sights_read (record (bare players) { lights = s.lights }) s.sights is.sights is.few_sights is.sights_ordered (campaign_tree_in format w) refl,
         mapped_reads,
-        seats_read (campaign_tree w) refl,
-        tokens_read (map reopened_book w.books) (seated_to (length w.books)) s.tokens (tokens_still s.tokens is.tokens) is.tokens_ordered (campaign_tree w) refl,
+        seats_read (campaign_tree_in format w) refl,
+        tokens_read (map reopened_book w.books) (seated_to (length w.books)) s.tokens (tokens_still s.tokens is.tokens) is.tokens_ordered (campaign_tree_in format w) refl,
       )
       (λ i. Ok (record { scene = record s { fog = record { players = players; sets = (ap (λ n. laid players (shown n) s.maps) all ∙ all_shown) i } }; books = map reopened_book w.books }))

@@ -1,6 +1,6 @@
 -- A world that its types keep, with keys, names and sizes that the campaign text takes, is one that it takes.
 use Rattle.std.proofs.Common.{◌≡◌, ℕ, suc, ◌+◌, ◌*◌, ◌≤◌, List, [], ◌∷◌, ◌++◌, length, map, Option, Some, None, refl, sym, ap, ◌∙◌, arith, true, false, Bool, ◌&&◌, nat_le, subst}
-use Rattle.std.specs.Prelude.{IsTrue, AllPairs, unwrap_or, option_map, if◌then◌else◌}
+use Rattle.std.specs.Prelude.{ℤ, not, IsTrue, AllPairs, unwrap_or, option_map, if◌then◌else◌}
 use Rattle.std.specs.List.{AllByRecursion, list_all}
 use Rattle.std.specs.Map.{values_of}
 use Rattle.std.specs.Ordering.{is_lt}
@@ -14,7 +14,7 @@ use Rattle.cells.specs.Cells.{Extent, Cells, IsSize, has, cells_where}
 use Rattle.cells.specs.declared.cell.Cell.{Cell}
 use Rattle.cells.proofs.SetLaws.{IsToldByCells-cells_where}
 use Rattle.fog_book.specs.Exposures.{cells_at}
-use Rattle.lights.specs.Radii.{is_radius}
+use Rattle.lights.specs.Radii.{is_dark, is_radius}
 use Rattle.sight_types.specs.Ranges.{are_ranges}
 use Rattle.sight_types.specs.declared.Sight.{Sight}
 use Rattle.topology.specs.Order.{point_before, wall_before}
@@ -27,9 +27,11 @@ use Rattle.tokens.specs.declared.token.Token.{Token}
 use Rattle.world.specs.Rules.{belongs, fits_on, is_player, size_of, IsSetOf}
 use Rattle.world.specs.Scene.{Scene}
 use Rattle.world.specs.World.{World, is_used}
-use Rattle.campaign_writing.specs.Written.{IsWritten, are_written_keys, are_written_macros, are_written_texts, are_written_tokens, is_written_key, is_written_text, is_written_token}
+use Rattle.campaign_json.specs.declared.formats.Format.{Format}
+use Rattle.campaign_json.specs.declared.formats.Format.TheVariants.{First, Second}
+use Rattle.campaign_writing.specs.Written.{IsOfFormat, IsWritten, are_written_keys, are_written_macros, are_written_texts, are_written_tokens, is_written_key, is_written_text, is_written_token}
 use Rattle.campaign_writing.specs.Kept.{AreNamed, IsKept, IsKeptBook, IsKeptMap, IsKeptToken}
-use Rattle.campaign_writing.proofs.Writable.{AreInOrder, AreWallsOn, IsBookOf, IsLight, IsMacro, IsMapWith, IsSight, IsTokenOf, IsWallOn, IsWritable}
+use Rattle.campaign_writing.proofs.Writable.{AreInOrder, AreWallsOn, IsBookOf, IsLight, IsMacro, IsMapWith, IsSight, IsTokenOf, IsTrailOf, IsWallOn, IsWritable}
 use Rattle.campaign_writing.proofs.Laid.{laid, laid_alike}
 use Rattle.campaign_writing.proofs.Orders.{lesser_keys}
 use Rattle.campaign_writing.proofs.Maps.{all_differ, less_differs}
@@ -38,9 +40,18 @@ use Rattle.campaign_writing.proofs.Keys as keys
 
 -- ---- types
 
-light_each : (types : List (List ℕ × ℕ)) → AreNamed types → AllByRecursion (λ r. IsTrue (is_radius r)) (values_of types) → AllByRecursion IsLight types
+light_each : (types : List (List ℕ × ℤ)) → AreNamed types → AllByRecursion (λ r. IsTrue (is_radius r)) (values_of types) → AllByRecursion (IsLight Second) types
 light_each [] names radii = tt
 light_each (type ∷ types) names radii = ((names.0, radii.0), light_each types names.1 radii.1)
+
+bright_each : (types : List (List ℕ × ℤ)) → AllByRecursion (IsLight Second) types → list_all (λ light. not (is_dark light.1)) types ≡ true → AllByRecursion (IsLight First) types
+bright_each [] are bright = tt
+bright_each (type ∷ types) are bright =
+    ((are.0.0, both (is_radius type.1) (not (is_dark type.1)) are.0.1 (and_first _ _ bright)), bright_each types are.1 (and_second (not (is_dark type.1)) _ bright))
+
+lights_of : (format : Format) (w : World) → IsOfFormat format w → AllByRecursion (IsLight Second) w.scene.lights → AllByRecursion (IsLight format) w.scene.lights
+lights_of First w of are = bright_each w.scene.lights are of.darknesses
+lights_of Second w of are = are
 
 sight_each : (types : List (List ℕ × Sight)) → AreNamed types → AllByRecursion (λ s. IsTrue (are_ranges s.range s.night s.mult)) (values_of types) → AllByRecursion IsSight types
 sight_each [] names ranges = tt
@@ -73,9 +84,28 @@ walls_on size walls are = record {
   ordered = in_order walls are.ordered;
 }
 
-maps_each : (maps : List Grid) → AllByRecursion IsKeptMap maps → AllByRecursion IsMapWith maps
-maps_each [] h = tt
-maps_each (m ∷ maps) h = (record { name = h.0.name; map = h.0.map; vbl = walls_on m.walls.extent m.walls.vbl h.0.vbl; mbl = walls_on m.walls.extent m.walls.mbl h.0.mbl }, maps_each maps h.1)
+no_trails : (maps : List Grid) → list_all (λ m. not m.trail) maps ≡ true → AllByRecursion (λ m. IsTrailOf First m.trail) maps
+no_trails [] h = tt
+no_trails (m ∷ maps) h = (off m.trail (and_first _ _ h), no_trails maps (and_second (not m.trail) _ h))
+  where
+    off : (on : Bool) → not on ≡ true → on ≡ false
+    off true h = absurd cc
+    off false h = refl
+
+some_trails : (maps : List Grid) → AllByRecursion (λ m. IsTrailOf Second m.trail) maps
+some_trails [] = tt
+some_trails (m ∷ maps) = (tt, some_trails maps)
+
+trails_of : (format : Format) (w : World) → IsOfFormat format w → AllByRecursion (λ m. IsTrailOf format m.trail) w.scene.maps
+trails_of First w of = no_trails w.scene.maps of.trails
+trails_of Second w of = some_trails w.scene.maps
+
+maps_each : (format : Format) (maps : List Grid) → AllByRecursion (λ m. IsTrailOf format m.trail) maps → AllByRecursion IsKeptMap maps → AllByRecursion (IsMapWith format) maps
+maps_each format [] trails h = tt
+maps_each format (m ∷ maps) trails h = (
+  record { name = h.0.name; map = h.0.map; trail = trails.0; vbl = walls_on m.walls.extent m.walls.vbl h.0.vbl; mbl = walls_on m.walls.extent m.walls.mbl h.0.mbl },
+  maps_each format maps trails.1 h.1,
+)
 
 -- ---- tokens
 
@@ -173,7 +203,7 @@ names_differ (m ∷ maps) h = (
     )
 
 -- the cells that are found under a key, told anew on the map of that name
-module _ (w : World) (is : IsKept w) where
+module _ (format : Format) (w : World) (is : IsKept w) where
   abbrev s : Scene
   s = w.scene
 
@@ -205,16 +235,16 @@ module _ (w : World) (is : IsKept w) where
       keys.laid_out s.fog.sets s.fog.players s.maps is.scene.fog.in_order (names_differ s.maps maps_ordered)
       ∙ laid_alike s.fog.players found cells s.maps one_alike
 
-  pub writable : IsWritten w → IsWritable w
-  writable written = record {
+  pub writable : IsWritten w → IsOfFormat format w → IsWritable format w
+  writable written of = record {
     world = is.world;
-    lights = light_each s.lights is.lights.names (recursion_from_All _ (values_of s.lights) is.lights.table.radii);
+    lights = lights_of format w of (light_each s.lights is.lights.names (recursion_from_All _ (values_of s.lights) is.lights.table.radii));
     few_lights = is.lights.table.table.few;
     lights_ordered = is.lights.table.table.in_order;
     sights = sight_each s.sights is.sights.names (recursion_from_All _ (values_of s.sights) is.sights.table.sights);
     few_sights = is.sights.table.table.few;
     sights_ordered = is.sights.table.table.in_order;
-    maps = maps_each s.maps is.maps.each;
+    maps = maps_each format s.maps (trails_of format w of) is.maps.each;
     few_maps = is.maps.table.few;
     maps_ordered = maps_ordered;
     books = books_each w.books is.books written.keys written.macros;

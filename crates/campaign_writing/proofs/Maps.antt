@@ -14,17 +14,19 @@ use Rattle.fog_book.specs.Exposures.{blank_sets, with_sets, with_map as with_fog
 use Rattle.cells.specs.Cells.{Extent}
 use Rattle.fog_book.specs.declared.exposure.Exposure.{Exposure}
 use Rattle.names.specs.Letters.{blank}
-use Rattle.maps.specs.Maps.{Grid, has_map, new_map, with_map, with_mode, shown_if}
+use Rattle.maps.specs.Maps.{Grid, has_map, new_map, with_map, with_mode, shown_if, trail_if}
 use Rattle.maps.proofs.NameLemmas.{same_name, apart}
-use Rattle.serde_json.specs.Data.{Data, string}
+use Rattle.serde_json.specs.Data.{Data, boolean, string}
 use Rattle.serde_json.specs.Find.{get}
 use Rattle.serde_json.specs.View.{items_of}
 use Rattle.world.specs.Scene.{Scene, with_grid}
+use Rattle.campaign_json.specs.declared.formats.Format.{Format}
+use Rattle.campaign_json.specs.declared.formats.Format.TheVariants.{First, Second}
 use Rattle.campaign_json.specs.Reading.{under}
 use Rattle.campaign_json.specs.Kinds as kinds
-use Rattle.campaign_writing.proofs.Writable.{IsMapWith}
+use Rattle.campaign_writing.proofs.Writable.{IsMapWith, IsTrailOf}
 use Rattle.campaign_writing.specs.Trees.{whole, list}
-use Rattle.campaign_writing.specs.Scenes.{map_tree}
+use Rattle.campaign_writing.specs.Scenes.{map_tree, walls_tree}
 use Rattle.campaign_scene.specs.Maps as read
 use Rattle.campaign_writing.proofs.Parts.{field_reads, each_reads, list_reads, whole_reads}
 use Rattle.campaign_writing.proofs.Orders.{between, fewer, room_left, lesser_keys}
@@ -58,7 +60,31 @@ bool_reads mode = rw (mode_back mode) refl
 side : (n : ℕ) → 1 ≤ n → n ≤ 96 → (nat_le 1 n && nat_le n 96) ≡ true
 side n low high = grind (arith, nat_tests)
 
-module _ (s : Scene) (m : Grid) (is : IsMapWith m) (done : List Grid) (lesser : AllByRecursion (λ y. is_lt (tag_cmp y.name m.name) ≡ true) done) (few : length done < 8) where
+-- ---- members behind that of the trail
+
+width_there : (format : Format) (m : Grid) → get (codes "w") (map_tree format m) ≡ Some (whole m.walls.extent.w)
+unfolding map_tree
+width_there First m = refl
+width_there Second m = refl
+
+vbl_there : (format : Format) (m : Grid) → get (codes "vbl") (map_tree format m) ≡ Some (walls_tree m.walls.vbl)
+unfolding map_tree
+vbl_there First m = refl
+vbl_there Second m = refl
+
+trail_reads : (format : Format) (m : Grid) → IsTrailOf format m.trail → read.trail format (map_tree format m) ≡ Ok m.trail
+unfolding map_tree
+trail_reads First m is = ap Ok (sym is)
+trail_reads Second m is = field_reads (codes "trail") kinds.boolean (map_tree Second m) (boolean m.trail) m.trail refl refl
+
+keys_known : (format : Format) (m : Grid) → kinds.only (read.map_keys format) (map_tree format m) ≡ Ok tt
+unfolding map_tree
+keys_known First m = refl
+keys_known Second m = refl
+
+-- ---- one map
+
+module _ (format : Format) (s : Scene) (m : Grid) (is : IsMapWith format m) (done : List Grid) (lesser : AllByRecursion (λ y. is_lt (tag_cmp y.name m.name) ≡ true) done) (few : length done < 8) where
   new : IsNew m.name done
   new = all_differ m.name done lesser
 
@@ -82,24 +108,26 @@ module _ (s : Scene) (m : Grid) (is : IsMapWith m) (done : List Grid) (lesser : 
   abbrev bare : Grid
   bare = record m { letters = replicate (m.walls.extent.h * m.walls.extent.w) blank; walls = record { extent = m.walls.extent; vbl = []; mbl = [] } }
 
-  blank_is : read.with_blank m.name m.walls.extent m.mode m.shown before ≡ with_maps bare
+  blank_is : read.with_blank (record { name = m.name; size = m.walls.extent; mode = m.mode; shown = m.shown; trail = m.trail }) before ≡ with_maps bare
   blank_is =
-      ap (λ maps. with_grid m.name (shown_if m.shown) (with_grid m.name (with_mode m.mode) (record after_fog { maps = maps }))) (map_last (new_map m.name m.walls.extent) done lesser)
-      ∙ ap (with_grid m.name (shown_if m.shown)) (grid_last (with_mode m.mode) (new_map m.name m.walls.extent) same)
-      ∙ grid_last (shown_if m.shown) (with_mode m.mode (new_map m.name m.walls.extent)) same
+      ap (λ maps. with_grid m.name (trail_if m.trail) (with_grid m.name (shown_if m.shown) (with_grid m.name (with_mode m.mode) (record after_fog { maps = maps })))) (map_last (new_map m.name m.walls.extent) done lesser)
+      ∙ ap (λ s. with_grid m.name (trail_if m.trail) (with_grid m.name (shown_if m.shown) s)) (grid_last (with_mode m.mode) (new_map m.name m.walls.extent) same)
+      ∙ ap (with_grid m.name (trail_if m.trail)) (grid_last (shown_if m.shown) (with_mode m.mode (new_map m.name m.walls.extent)) same)
+      ∙ grid_last (trail_if m.trail) (shown_if m.shown (with_mode m.mode (new_map m.name m.walls.extent))) same
 
   name_reads : read.new_name before (string m.name) ≡ Ok m.name
   unfolding read.new_name
   name_reads = rw (tag_is m.name is.name, none_there m.name done new, room_left (length done) 8 few) refl
 
-  heading_reads : read.heading before (map_tree m) ≡ Ok (m.name, (m.walls.extent, (m.mode, m.shown)))
+  heading_reads : read.heading format before (map_tree format m) ≡ Ok (record { name = m.name; size = m.walls.extent; mode = m.mode; shown = m.shown; trail = m.trail })
   unfolding read.heading map_tree
   heading_reads =
       rw (
-        field_reads (codes "name") (read.new_name before) (map_tree m) (string m.name) m.name refl name_reads,
-        field_reads (codes "w") (kinds.whole 1 96) (map_tree m) (whole m.walls.extent.w) m.walls.extent.w refl (whole_reads 1 96 m.walls.extent.w (omega arith) (side m.walls.extent.w is.map.size.w_low is.map.size.w_high)),
-        field_reads (codes "h") (kinds.whole 1 96) (map_tree m) (whole m.walls.extent.h) m.walls.extent.h refl (whole_reads 1 96 m.walls.extent.h (omega arith) (side m.walls.extent.h is.map.size.h_low is.map.size.h_high)),
-        field_reads (codes "mode") kinds.mode (map_tree m) (string (mode_word m.mode)) m.mode refl (bool_reads m.mode),
+        field_reads (codes "name") (read.new_name before) (map_tree format m) (string m.name) m.name refl name_reads,
+        field_reads (codes "w") (kinds.whole 1 96) (map_tree format m) (whole m.walls.extent.w) m.walls.extent.w (width_there format m) (whole_reads 1 96 m.walls.extent.w (omega arith) (side m.walls.extent.w is.map.size.w_low is.map.size.w_high)),
+        field_reads (codes "h") (kinds.whole 1 96) (map_tree format m) (whole m.walls.extent.h) m.walls.extent.h refl (whole_reads 1 96 m.walls.extent.h (omega arith) (side m.walls.extent.h is.map.size.h_low is.map.size.h_high)),
+        field_reads (codes "mode") kinds.mode (map_tree format m) (string (mode_word m.mode)) m.mode refl (bool_reads m.mode),
+        trail_reads format m is.trail,
       )
       refl
 
@@ -110,33 +138,29 @@ module _ (s : Scene) (m : Grid) (is : IsMapWith m) (done : List Grid) (lesser : 
   abbrev veiled : Grid
   veiled = record m { walls = record { extent = m.walls.extent; vbl = m.walls.vbl; mbl = [] } }
 
-  letters_read : read.rows m.name m.walls.extent (read.with_blank m.name m.walls.extent m.mode m.shown before) (map_tree m) ≡ Ok (with_maps lettered)
+  letters_read : read.rows m.name m.walls.extent (read.with_blank (record { name = m.name; size = m.walls.extent; mode = m.mode; shown = m.shown; trail = m.trail }) before) (map_tree format m) ≡ Ok (with_maps lettered)
   unfolding map_tree
   letters_read =
-      ap (λ scene. read.rows m.name m.walls.extent scene (map_tree m)) blank_is
-      ∙ rows_read m.name lettered (record { size = is.map.size; count = is.map.count; letters = is.map.letters }) same done new after_fog (map_tree m) refl
+      ap (λ scene. read.rows m.name m.walls.extent scene (map_tree format m)) blank_is
+      ∙ rows_read m.name lettered (record { size = is.map.size; count = is.map.count; letters = is.map.letters }) same done new after_fog (map_tree format m) refl
 
-  vbl_reads : read.walls m.name Vbl (with_maps lettered) (map_tree m) ≡ Ok (with_maps veiled)
+  vbl_reads : read.walls m.name Vbl (with_maps lettered) (map_tree format m) ≡ Ok (with_maps veiled)
   unfolding map_tree wall_word
   vbl_reads =
-      ap (λ scene. read.walls m.name Vbl scene (map_tree m)) (sym (grid_last (with_list Vbl []) lettered same))
-      ∙ walls_read m.name Vbl (with_maps lettered) lettered (last_found m.name done lettered new same) is.map.size m.walls.vbl is.vbl.each is.vbl.few is.vbl.ordered (map_tree m) refl
+      ap (λ scene. read.walls m.name Vbl scene (map_tree format m)) (sym (grid_last (with_list Vbl []) lettered same))
+      ∙ walls_read m.name Vbl (with_maps lettered) lettered (last_found m.name done lettered new same) is.map.size m.walls.vbl is.vbl.each is.vbl.few is.vbl.ordered (map_tree format m) (vbl_there format m)
       ∙ ap Ok (grid_last (with_list Vbl m.walls.vbl) lettered same)
 
-  mbl_reads : read.walls m.name Mbl (with_maps veiled) (map_tree m) ≡ Ok (with_maps m)
+  mbl_reads : read.walls m.name Mbl (with_maps veiled) (map_tree format m) ≡ Ok (with_maps m)
   unfolding map_tree wall_word
   mbl_reads =
-      ap (λ scene. read.walls m.name Mbl scene (map_tree m)) (sym (grid_last (with_list Mbl []) veiled same))
-      ∙ walls_read m.name Mbl (with_maps veiled) veiled (last_found m.name done veiled new same) is.map.size m.walls.mbl is.mbl.each is.mbl.few is.mbl.ordered (map_tree m) refl
+      ap (λ scene. read.walls m.name Mbl scene (map_tree format m)) (sym (grid_last (with_list Mbl []) veiled same))
+      ∙ walls_read m.name Mbl (with_maps veiled) veiled (last_found m.name done veiled new same) is.map.size m.walls.mbl is.mbl.each is.mbl.few is.mbl.ordered (map_tree format m) refl
       ∙ ap Ok (grid_last (with_list Mbl m.walls.mbl) veiled same)
 
-  known_keys : kinds.only read.map_keys (map_tree m) ≡ Ok tt
-  unfolding map_tree
-  known_keys = refl
-
-  pub map_reads : read.map before (map_tree m) ≡ Ok (with_maps m)
+  pub map_reads : read.map format before (map_tree format m) ≡ Ok (with_maps m)
   unfolding read.map
-  map_reads = rw (heading_reads, letters_read, vbl_reads, mbl_reads, known_keys) refl
+  map_reads = rw (heading_reads, letters_read, vbl_reads, mbl_reads, keys_known format m) refl
 
 -- ---- all maps
 
@@ -175,19 +199,19 @@ all_lesser : (players : ℕ) (name : List ℕ) (done : List Grid) → AllByRecur
 all_lesser players name [] h = tt
 all_lesser players name (y ∷ done) h = both_lesser name (blank_sets players y.name y.walls.extent) (blank_fog players done) (blank_lesser players y.name name y.walls.extent h.0) (all_lesser players name done h.1)
 
-module _ (s : Scene) (players : ℕ) (all : List Grid) (are : AllByRecursion IsMapWith all) (few : length all ≤ 8) (ordered : is_sorted tag_cmp (map (λ m. (m.name, m)) all) ≡ true) where
+module _ (format : Format) (s : Scene) (players : ℕ) (all : List Grid) (are : AllByRecursion (IsMapWith format) all) (few : length all ≤ 8) (ordered : is_sorted tag_cmp (map (λ m. (m.name, m)) all) ≡ true) where
   abbrev pub with_first : List Grid → Scene
   with_first done = record s { maps = done; fog = record { players = players; sets = blank_fog players done } }
 
-  one_map : (done : List Grid) (x : Grid) (left : List Grid) → done ++ x ∷ left ≡ all → read.map (with_first done) (map_tree x) ≡ Ok (with_first (done ++ x ∷ []))
+  one_map : (done : List Grid) (x : Grid) (left : List Grid) → done ++ x ∷ left ≡ all → read.map format (with_first done) (map_tree format x) ≡ Ok (with_first (done ++ x ∷ []))
   one_map done x left e =
       let lesser = lesser_keys tag_cmp (λ m. m.name) done x left all e ordered in
-      map_reads (record s { fog = record { players = players; sets = blank_fog players done } }) x (between IsMapWith done x left all e are) done lesser (fewer done x left all 8 e few)
+      map_reads format (record s { fog = record { players = players; sets = blank_fog players done } }) x (between (IsMapWith format) done x left all e are) done lesser (fewer done x left all 8 e few)
       ∙ ap (λ sets. Ok (record s { maps = done ++ x ∷ []; fog = record { players = players; sets = sets } }))
       (behind_lesser x.name (blank_sets players x.name x.walls.extent) (blank_fog players done) (all_lesser players x.name done lesser) ∙ sym (fog_last players done x))
 
-  pub maps_read : (d : Data) → get (codes "maps") d ≡ Some (list (map map_tree all)) → read.maps (with_first []) d ≡ Ok (with_first all)
+  pub maps_read : (d : Data) → get (codes "maps") d ≡ Some (list (map (map_tree format) all)) → read.maps format (with_first []) d ≡ Ok (with_first all)
   unfolding read.maps
   maps_read d at =
-      rw (field_reads (codes "maps") (kinds.list 0 8) d (list (map map_tree all)) (items_of (map map_tree all)) at (list_reads 0 8 map_tree all (omega arith) few))
-      (ap (under (codes "maps")) (each_reads with_first all (λ place. read.map) map_tree one_map))
+      rw (field_reads (codes "maps") (kinds.list 0 8) d (list (map (map_tree format) all)) (items_of (map (map_tree format) all)) at (list_reads 0 8 (map_tree format) all (omega arith) few))
+      (ap (under (codes "maps")) (each_reads with_first all (λ place. read.map format) (map_tree format) one_map))

@@ -1,6 +1,6 @@
 -- Parts that were written are read.
 use Rattle.std.proofs.Common.{◌≡◌, ℕ, zero, suc, ◌+◌, ◌≤◌, ◌<◌, List, [], ◌∷◌, ◌++◌, length, map, Some, None, Result, Ok, refl, sym, ap, ◌∙◌, arith, true, ◌&&◌, cond, nat_le, decimal, subst}
-use Rattle.std.specs.Prelude.{take, slice_get, nat_lt, pos, ◌^◌}
+use Rattle.std.specs.Prelude.{take, slice_get, nat_lt, ℤ, pos, negsuc, unsigned_abs, ◌^◌}
 use Rattle.std.proofs.lemmas.List.{append-nil}
 use Rattle.std.specs.List.{AllByRecursion, range_with_len}
 use Rattle.std.proofs.lemmas.List.FromFn.{map-range_with_len_more}
@@ -16,7 +16,7 @@ use Rattle.campaign_json.specs.declared.faults.BadCampaign.{BadCampaign}
 use Rattle.campaign_json.specs.declared.faults.Rule.TheVariants.{Missing, Range}
 use Rattle.campaign_json.specs.Reading.{needed, field, item_at, under, each, each_member, escaped}
 use Rattle.campaign_json.specs.Kinds as kinds
-use Rattle.campaign_writing.specs.Trees.{whole, list, named}
+use Rattle.campaign_writing.specs.Trees.{whole, integer, list, named}
 
 -- ---- fields and items
 
@@ -105,6 +105,11 @@ whole_reads least most n lt fits = rw (small n (let high = (in_bounds least most
 
 pub integer_reads : (n : ℕ) → n < 2 ^ 63 → kinds.integer (whole n) ≡ Ok (pos n)
 integer_reads n lt = rw (small n lt)
+
+-- with a sign
+pub signed_reads : (z : ℤ) → unsigned_abs z ≤ 20 → kinds.integer (integer z) ≡ Ok z
+signed_reads (pos n) low = integer_reads n (omega (arith, low))
+signed_reads (negsuc n) low = refl
 
 pub items_reads : (ds : List Data) → kinds.items (list ds) ≡ Ok (items_of ds)
 items_reads ds = refl

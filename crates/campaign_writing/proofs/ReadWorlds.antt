@@ -35,7 +35,8 @@ use Rattle.world.specs.Rules.{is_player, size_of}
 use Rattle.world.proofs.TokenRules.{all_put}
 use Rattle.campaign_json.specs.declared.faults.Rule.TheVariants.{Json, Missing, Kind, Range, Form, Twice, Cross}
 use Rattle.campaign_json.specs.declared.faults.BadCampaign.{BadCampaign}
-use Rattle.campaign_json.specs.Reading.{needed, asked, under, field, item_at, each, each_member, escaped}
+use Rattle.campaign_json.specs.declared.formats.Format.{Format}
+use Rattle.campaign_json.specs.Reading.{needed, asked, under, field, each, each_member, escaped}
 use Rattle.campaign_json.specs.Kinds as kinds
 use Rattle.campaign_scene.specs.Types as types
 use Rattle.campaign_scene.specs.Maps as maps
@@ -106,18 +107,18 @@ whole_so least most d = pass (InBounds least most) (needed Kind (integer_of d)) 
 abbrev Fits : Scene → Type 0
 Fits s = are_written_tokens s.tokens ≡ true
 
-light_so : (key : List ℕ) (s : Scene) (d : Data) → Fits s → IfOk (types.light key s d) Fits
+light_so : (format : Format) (key : List ℕ) (s : Scene) (d : Data) → Fits s → IfOk (types.light format key s d) Fits
 unfolding types.light
-light_so key s d is = pass Fits (needed Form (tag_of key)) _ (λ name. pass Fits (kinds.whole 1 20 d) _ (λ radius. pass Fits (asked Range (is_none (light_fault s.lights name radius))) _ (λ room. is)))
+light_so format key s d is = pass Fits (needed Form (tag_of key)) _ (λ name. pass Fits (types.radius format d) _ (λ radius. pass Fits (asked Range (is_none (light_fault s.lights name radius))) _ (λ room. is)))
 
 sight_so : (key : List ℕ) (s : Scene) (d : Data) → Fits s → IfOk (types.sight key s d) Fits
 unfolding types.sight
 sight_so key s d is =
     pass Fits (needed Form (tag_of key)) _ (λ name. pass Fits (types.sight_of d) _ (λ found. pass Fits (asked Range (is_none (sight_fault s.sights name found.range found.night found.mult))) _ (λ room. is)))
 
-lights_so : (s : Scene) (d : Data) → Fits s → IfOk (types.lights s d) Fits
+lights_so : (format : Format) (s : Scene) (d : Data) → Fits s → IfOk (types.lights format s d) Fits
 unfolding types.lights
-lights_so s d is = pass Fits (field (codes "lights") (kinds.members 32) d) _ (λ all. under_so Fits (codes "lights") _ (members_so Fits types.light light_so s all is))
+lights_so format s d is = pass Fits (field (codes "lights") (kinds.members 32) d) _ (λ all. under_so Fits (codes "lights") _ (members_so Fits (types.light format) (light_so format) s all is))
 
 sights_so : (s : Scene) (d : Data) → Fits s → IfOk (types.sights s d) Fits
 unfolding types.sights
@@ -150,17 +151,17 @@ walls_so : (name : List ℕ) (kind : WallKind) (s : Scene) (d : Data) → Fits s
 unfolding maps.walls
 walls_so name kind s d is = pass Fits (field (wall_word kind) (kinds.list 0 2048) d) _ (λ all. under_so Fits (wall_word kind) _ (each_so Fits (λ place. maps.wall name kind) (λ place before wall so. wall_so name kind before wall so) 0 s all is))
 
-map_so : (s : Scene) (d : Data) → Fits s → IfOk (maps.map s d) Fits
+map_so : (format : Format) (s : Scene) (d : Data) → Fits s → IfOk (maps.map format s d) Fits
 unfolding maps.map
-map_so s d is =
-    pass Fits (maps.heading s d) _
-    (λ new. let blank : Scene = maps.with_blank new.0 new.1.0 new.1.1.0 new.1.1.1 s in go Fits Fits (maps.rows new.0 new.1.0 blank d) _ (rows_so new.0 new.1.0 blank d is)
-    (λ laid so. go Fits Fits (maps.walls new.0 Vbl laid d) _ (walls_so new.0 Vbl laid d so)
-    (λ veiled so. go Fits Fits (maps.walls new.0 Mbl veiled d) _ (walls_so new.0 Mbl veiled d so) (λ walled so. pass Fits (kinds.only maps.map_keys d) _ (λ no_others. so)))))
+map_so format s d is =
+    pass Fits (maps.heading format s d) _
+    (λ new. let blank : Scene = maps.with_blank new s in go Fits Fits (maps.rows new.name new.size blank d) _ (rows_so new.name new.size blank d is)
+    (λ laid so. go Fits Fits (maps.walls new.name Vbl laid d) _ (walls_so new.name Vbl laid d so)
+    (λ veiled so. go Fits Fits (maps.walls new.name Mbl veiled d) _ (walls_so new.name Mbl veiled d so) (λ walled so. pass Fits (kinds.only (maps.map_keys format) d) _ (λ no_others. so)))))
 
-maps_so : (s : Scene) (d : Data) → Fits s → IfOk (maps.maps s d) Fits
+maps_so : (format : Format) (s : Scene) (d : Data) → Fits s → IfOk (maps.maps format s d) Fits
 unfolding maps.maps
-maps_so s d is = pass Fits (field (codes "maps") (kinds.list 0 8) d) _ (λ all. under_so Fits (codes "maps") _ (each_so Fits (λ place. maps.map) (λ place before map so. map_so before map so) 0 s all is))
+maps_so format s d is = pass Fits (field (codes "maps") (kinds.list 0 8) d) _ (λ all. under_so Fits (codes "maps") _ (each_so Fits (λ place. maps.map format) (λ place before map so. map_so format before map so) 0 s all is))
 
 exposed_so : (seat : ℕ) (name : List ℕ) (y x0 x1 : ℤ) (s : Scene) → Fits s → IfOk (fogs.exposed_at seat name y x0 x1 s) Fits
 unfolding fogs.exposed_at
@@ -309,9 +310,9 @@ tokens_so books s d is = pass Fits (field (codes "tokens") kinds.items d) _ (λ 
 campaign_so : (d : Data) → IfOk (campaign d) IsWritten
 unfolding campaign
 campaign_so d =
-    pass IsWritten (kinds.object d) _ (λ members. pass IsWritten (field (codes "format") (kinds.whole 1 1) d) _ (λ format. go Fits IsWritten (types.lights (bare (players_in d)) d) _ (lights_so (bare (players_in d)) d refl)
+    pass IsWritten (kinds.object d) _ (λ members. pass IsWritten (field (codes "format") kinds.format d) _ (λ format. go Fits IsWritten (types.lights format (bare (players_in d)) d) _ (lights_so format (bare (players_in d)) d refl)
     (λ lit so. go Fits IsWritten (types.sights lit d) _ (sights_so lit d so)
-    (λ sighted so. go Fits IsWritten (maps.maps sighted d) _ (maps_so sighted d so)
+    (λ sighted so. go Fits IsWritten (maps.maps format sighted d) _ (maps_so format sighted d so)
     (λ mapped so. go AreSeats IsWritten (seats.seats mapped d) _ (seats_so mapped d so)
     (λ world are. go Fits IsWritten (tokens.tokens world.books world.scene d) _ (tokens_so world.books world.scene d are.tokens)
     (λ full so. pass IsWritten (kinds.only campaign_keys d) _ (λ no_others. record { tokens = so; keys = are.keys; macros = are.macros }))))))))

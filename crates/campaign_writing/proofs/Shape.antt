@@ -1,5 +1,6 @@
 -- The tree of a campaign has no float, and isn't deep.
-use Rattle.std.proofs.Common.{◌≡◌, ℕ, suc, ◌≤◌, List, [], ◌∷◌, map, Option, Some, None, refl, arith, true, false, Bool, ◌||◌}
+use Rattle.std.proofs.Common.{◌≡◌, ℕ, suc, ◌≤◌, List, [], ◌∷◌, map, Option, Some, None, ℤ, pos, negsuc, refl, arith, true, false, Bool, ◌||◌}
+use Rattle.std.specs.Prelude.{codes}
 use Rattle.std.specs.List.{range_with_len}
 use Rattle.cells.specs.declared.cell.Run.{Run}
 use Rattle.maps.specs.Maps.{Grid}
@@ -8,14 +9,16 @@ use Rattle.tokens.specs.Owners.{seats_of}
 use Rattle.tokens.specs.Properties.{Property}
 use Rattle.tokens.specs.declared.token.Token.{Token}
 use Rattle.topology.specs.declared.wall.Wall.{Wall}
-use Rattle.serde_json.specs.Data.{Data, string, object, depth, items_depth, members_depth}
+use Rattle.serde_json.specs.Data.{Data, string, object, Members, no_members, member, depth, items_depth, members_depth}
 use Rattle.serde_json.specs.View.{items_of}
 use Rattle.serde_json.specs.Written.{has_float, items_have_float, members_have_float}
 use Rattle.world.specs.Scene.{Scene}
 use Rattle.world.specs.World.{World}
-use Rattle.campaign_writing.specs.Trees.{whole, wholes, list, name_or_null, named}
-use Rattle.campaign_writing.specs.Scenes.{sight_tree, row_letters, wall_tree, map_tree, property_tree, owners_tree, token_tree, run_tree, runs_tree, exposed_maps}
-use Rattle.campaign_writing.specs.Canonical.{seat_tree, campaign_tree}
+use Rattle.campaign_json.specs.declared.formats.Format.{Format}
+use Rattle.campaign_json.specs.declared.formats.Format.TheVariants.{First, Second}
+use Rattle.campaign_writing.specs.Trees.{whole, integer, wholes, list, name_or_null, named}
+use Rattle.campaign_writing.specs.Scenes.{sight_tree, row_letters, wall_tree, walls_tree, trail_member, map_tree, property_tree, owners_tree, token_tree, run_tree, runs_tree, exposed_maps}
+use Rattle.campaign_writing.specs.Canonical.{seat_tree, campaign_tree, campaign_tree_in}
 
 -- no float, and nested so deep at most
 pub record IsPlain (most : ℕ) (d : Data) : Type 0 where
@@ -47,6 +50,10 @@ named_plain most tree h all = record { exact = named_floats tree (λ v. (h v).ex
 whole_plain : (n : ℕ) → IsPlain 0 (whole n)
 whole_plain n = record { exact = refl; shallow = omega arith }
 
+integer_plain : (z : ℤ) → IsPlain 0 (integer z)
+integer_plain (pos n) = whole_plain n
+integer_plain (negsuc n) = record { exact = refl; shallow = omega arith }
+
 string_plain : (bytes : List ℕ) → IsPlain 0 (string bytes)
 string_plain bytes = record { exact = refl; shallow = omega arith }
 
@@ -63,14 +70,22 @@ property_plain p = record { exact = refl; shallow = omega arith }
 walls_plain : (walls : List Wall) → IsPlain 2 (list (map wall_tree walls))
 walls_plain walls = list_plain 1 wall_tree (λ w. wholes_plain (w.first.x ∷ w.first.y ∷ w.second.x ∷ w.second.y ∷ [])) walls
 
-map_plain : (m : Grid) → IsPlain 3 (map_tree m)
+-- the members of a map from its trail on
+trail_plain : (format : Format) (on : Bool) (later : Members) → members_have_float later ≡ false → members_depth later ≤ 2 → (members_have_float (trail_member format on later) ≡ false) × (members_depth (trail_member format on later) ≤ 2)
+trail_plain First on later exact shallow = (exact, shallow)
+trail_plain Second on later exact shallow = (exact, omega (arith, shallow))
+
+map_plain : (format : Format) (m : Grid) → IsPlain 3 (map_tree format m)
 unfolding map_tree
-map_plain m =
+map_plain format m =
     let vbl = walls_plain m.walls.vbl in
     let mbl = walls_plain m.walls.mbl in
     let row : ℕ → Data = λ y. string (row_letters m y) in
     let rows = list_plain 0 row (λ y. string_plain (row_letters m y)) (range_with_len 0 m.walls.extent.h) in
-    record { exact = rw (mbl.exact, rows.exact, vbl.exact) refl; shallow = let a = vbl.shallow in let b = mbl.shallow in let c = rows.shallow in omega (arith, a, b, c) }
+    let later : Members = member (codes "vbl") (walls_tree m.walls.vbl) (member (codes "w") (whole m.walls.extent.w) no_members) in
+    let low : members_depth later ≤ 2 = (let a = vbl.shallow in omega (arith, a)) in
+    let trail = trail_plain format m.trail later (rw vbl.exact refl) low in
+    record { exact = rw (mbl.exact, rows.exact, trail.0) refl; shallow = let a = trail.1 in let b = mbl.shallow in let c = rows.shallow in omega (arith, a, b, c) }
 
 or_none : (a b : Bool) → a ≡ false → b ≡ false → (a || b) ≡ false
 or_none true b h k = h
@@ -102,12 +117,16 @@ seat_plain s b =
     let tags = list_plain 0 string string_plain b.tags in
     record { exact = rw (fog.exact, macros.exact, tags.exact) refl; shallow = let a = fog.shallow in let m = macros.shallow in let c = tags.shallow in omega (arith, a, m, c) }
 
-pub campaign_plain : (w : World) → IsPlain 6 (campaign_tree w)
-unfolding campaign_tree
-campaign_plain w =
-    let lights = named_plain 0 whole whole_plain w.scene.lights in
+pub campaign_plain_in : (format : Format) (w : World) → IsPlain 6 (campaign_tree_in format w)
+unfolding campaign_tree_in
+campaign_plain_in format w =
+    let lights = named_plain 0 integer integer_plain w.scene.lights in
     let sights = named_plain 1 sight_tree (λ sight. wholes_plain (sight.range ∷ sight.night ∷ sight.mult ∷ [])) w.scene.sights in
-    let maps = list_plain 3 map_tree map_plain w.scene.maps in
+    let maps = list_plain 3 (map_tree format) (map_plain format) w.scene.maps in
     let seats = list_plain 4 (seat_tree w.scene) (seat_plain w.scene) w.books in
     let tokens = list_plain 3 token_tree token_plain w.scene.tokens in
     record { exact = rw (lights.exact, maps.exact, seats.exact, sights.exact, tokens.exact) refl; shallow = let a = lights.shallow in let b = sights.shallow in let c = maps.shallow in let d = seats.shallow in let e = tokens.shallow in omega (arith, a, b, c, d, e) }
+
+pub campaign_plain : (w : World) → IsPlain 6 (campaign_tree w)
+unfolding campaign_tree
+campaign_plain w = campaign_plain_in Second w

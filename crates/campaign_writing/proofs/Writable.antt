@@ -1,5 +1,5 @@
 -- What the campaign text takes of a world: what its types keep, and its keys, names and sizes.
-use Rattle.std.specs.Prelude.{◌≡◌, ◌≤◌, ◌<◌, ◌^◌, ℕ, ◌&&◌, nat_le, true, List, [], ◌∷◌, length, map}
+use Rattle.std.specs.Prelude.{◌≡◌, ◌≤◌, ◌<◌, ◌^◌, ℕ, ℤ, ◌&&◌, nat_le, Bool, true, false, List, [], ◌∷◌, length, map}
 use Rattle.std.specs.List.{AllByRecursion, IsDistinct}
 use Rattle.std.specs.Str.{bytes_eq}
 use Rattle.std.specs.FinMap.Entries.{is_sorted}
@@ -7,7 +7,6 @@ use Rattle.hex.specs.Hex.{IsBytes}
 use Rattle.names.specs.Tag.{is_tag, tag_cmp}
 use Rattle.names.specs.TokenId.{IsTokenId, id_cmp}
 use Rattle.cells.specs.Cells.{Extent, Cells, IsToldByCells}
-use Rattle.lights.specs.Radii.{is_radius}
 use Rattle.sight_types.specs.Ranges.{are_ranges}
 use Rattle.sight_types.specs.declared.Sight.{Sight}
 use Rattle.topology.specs.Order.{point_before, wall_before}
@@ -19,6 +18,9 @@ use Rattle.tokens.specs.declared.token.Token.{Token}
 use Rattle.world.specs.Rules.{belongs}
 use Rattle.world.specs.Scene.{Scene}
 use Rattle.world.specs.World.{World, IsWorld, is_used}
+use Rattle.campaign_json.specs.declared.formats.Format.{Format}
+use Rattle.campaign_json.specs.declared.formats.Format.TheVariants.{First, Second}
+use Rattle.campaign_scene.specs.Types.{is_radius_in}
 use Rattle.campaign_writing.specs.Kept.{IsName, IsTag, AreProperties}
 use Rattle.campaign_writing.specs.Written.{is_written_text}
 use Rattle.campaign_writing.proofs.Laid.{laid}
@@ -26,8 +28,8 @@ use Rattle.campaign_writing.proofs.Laid.{laid}
 -- ---- types
 
 -- a name that is a tag, with numbers that a type of that kind may have
-abbrev pub IsLight : List ℕ × ℕ → Type 0
-IsLight type = (is_tag type.0 ≡ true) × (is_radius type.1 ≡ true)
+abbrev pub IsLight : Format → List ℕ × ℤ → Type 0
+IsLight format type = (is_tag type.0 ≡ true) × (is_radius_in format type.1 ≡ true)
 
 abbrev pub IsSight : List ℕ × Sight → Type 0
 IsSight type = (is_tag type.0 ≡ true) × (are_ranges type.1.range type.1.night type.1.mult ≡ true)
@@ -51,10 +53,16 @@ pub record AreWallsOn (size : Extent) (all : List Wall) : Type 0 where
   pub few : length all ≤ 2048
   pub ordered : AreInOrder all
 
+-- a trail of a map of the format
+abbrev pub IsTrailOf : Format → Bool → Type 0
+IsTrailOf First on = on ≡ false
+IsTrailOf Second on = Unit {0}
+
 -- and of a map
-pub record IsMapWith (m : Grid) : Type 0 where
+pub record IsMapWith (format : Format) (m : Grid) : Type 0 where
   pub name : is_tag m.name ≡ true
   pub map : IsMap m
+  pub trail : IsTrailOf format m.trail
   pub vbl : AreWallsOn m.walls.extent m.walls.vbl
   pub mbl : AreWallsOn m.walls.extent m.walls.mbl
 
@@ -97,16 +105,16 @@ pub record IsBookOf (b : Book) : Type 0 where
 
 -- ---- worlds
 
--- all that the campaign text takes of a world
-pub record IsWritable (w : World) : Type 0 where
+-- all that the campaign text of a format takes of a world
+pub record IsWritable (format : Format) (w : World) : Type 0 where
   pub world : IsWorld w
-  pub lights : AllByRecursion IsLight w.scene.lights
+  pub lights : AllByRecursion (IsLight format) w.scene.lights
   pub few_lights : length w.scene.lights ≤ 32
   pub lights_ordered : is_sorted tag_cmp w.scene.lights ≡ true
   pub sights : AllByRecursion IsSight w.scene.sights
   pub few_sights : length w.scene.sights ≤ 32
   pub sights_ordered : is_sorted tag_cmp w.scene.sights ≡ true
-  pub maps : AllByRecursion IsMapWith w.scene.maps
+  pub maps : AllByRecursion (IsMapWith format) w.scene.maps
   pub few_maps : length w.scene.maps ≤ 8
   pub maps_ordered : is_sorted tag_cmp (map (λ m. (m.name, m)) w.scene.maps) ≡ true
   pub books : AllByRecursion IsBookOf w.books

@@ -7,6 +7,9 @@ use Rattle.serde_json.specs.Data.{Data, Members, string, object, no_members, mem
 use Rattle.serde_json.specs.Written.{compact_text}
 use Rattle.world.specs.Scene.{Scene}
 use Rattle.world.specs.World.{World}
+use Rattle.campaign_json.specs.declared.formats.Format.{Format}
+use Rattle.campaign_json.specs.declared.formats.Format.TheVariants.{First, Second}
+use Rattle.campaign_json.specs.Kinds.{format_number}
 use Rattle.campaign_writing.specs.Trees.{whole, list, named, with_member}
 use Rattle.campaign_writing.specs.Scenes.{lights_tree, sights_tree, maps_tree, tokens_tree, fog_tree}
 
@@ -38,28 +41,40 @@ seat_members s book =
 abbrev pub seats_tree : Scene → List Book → Data
 seats_tree s books = list (map (seat_tree s) books)
 
-unfoldable pub campaign_tree : World → Data
-campaign_tree w = object
-    (member (codes "format") (whole 1)
+-- the campaign text of a format
+unfoldable pub campaign_tree_in : Format → World → Data
+campaign_tree_in format w = object
+    (member (codes "format") (whole (format_number format))
     (member (codes "lights") (lights_tree w.scene.lights)
-    (member (codes "maps") (maps_tree w.scene.maps)
+    (member (codes "maps") (maps_tree format w.scene.maps)
     (member (codes "seats") (seats_tree w.scene w.books)
     (member (codes "sights") (sights_tree w.scene.sights)
     (member (codes "tokens") (tokens_tree w.scene.tokens) no_members))))))
 
 -- its members as they are put in, one after the other
-unfoldable pub campaign_members : World → Members
-campaign_members w =
+unfoldable pub campaign_members : Format → World → Members
+campaign_members format w =
     with_member (codes "tokens") (tokens_tree w.scene.tokens)
     (with_member (codes "sights") (sights_tree w.scene.sights)
     (with_member (codes "seats") (seats_tree w.scene w.books)
-    (with_member (codes "maps") (maps_tree w.scene.maps)
+    (with_member (codes "maps") (maps_tree format w.scene.maps)
     (with_member (codes "lights") (lights_tree w.scene.lights)
-    (with_member (codes "format") (whole 1) no_members)))))
+    (with_member (codes "format") (whole (format_number format)) no_members)))))
+
+-- the campaign text is of the second format
+unfoldable pub campaign_tree : World → Data
+campaign_tree w = campaign_tree_in Second w
+
+abbrev pub canonical_in : Format → World → List ℕ
+canonical_in format w = compact_text (campaign_tree_in format w)
 
 -- the campaign text of the world. Lines and the states of seats don't stand in it
 unfoldable pub canonical : World → List ℕ
-canonical w = compact_text (campaign_tree w)
+canonical w = canonical_in Second w
+
+-- the same in the first format, in which trails and darknesses don't stand either
+unfoldable pub first_canonical : World → List ℕ
+first_canonical w = canonical_in First w
 
 -- the book as a campaign opens with it
 abbrev pub reopened_book : Book → Book

@@ -1,5 +1,5 @@
 -- What the types of a world's parts keep, as the writer learns it while it goes through them.
-use Rattle.std.specs.Prelude.{◌≡◌, ◌≤◌, ◌<◌, ◌^◌, ℕ, true, List, length, Option, Some, None}
+use Rattle.std.specs.Prelude.{◌≡◌, ◌≤◌, ◌<◌, ◌^◌, ℕ, ℤ, true, List, length, Option, Some, None}
 use Rattle.std.specs.List.{AllByRecursion, IsDistinct}
 use Rattle.std.specs.Map.{keys_of}
 use Rattle.std.specs.Str.{bytes_eq}
@@ -28,7 +28,7 @@ AreNamed entries = AllByRecursion (λ entry. IsTag entry.0) entries
 
 -- ---- types
 
-pub record AreKeptLights (lights : List (List ℕ × ℕ)) : Type 0 where
+pub record AreKeptLights (lights : List (List ℕ × ℤ)) : Type 0 where
   pub names : AreNamed lights
   pub table : AreLights lights
 

@@ -1,5 +1,5 @@
 -- The parts of a scene, as the campaign text has them: each in the order in which the table has it, keys in byte order.
-use Rattle.std.specs.Prelude.{ℕ, Bool, true, false, List, [], ◌∷◌, map, codes, Option, Some, None}
+use Rattle.std.specs.Prelude.{ℕ, ℤ, Bool, true, false, List, [], ◌∷◌, map, codes, Option, Some, None}
 use Rattle.std.specs.List.{filter, range_with_len}
 use Rattle.names.specs.Words.{mode_word, layer_word}
 use Rattle.names.specs.TokenId.{id_text}
@@ -15,15 +15,17 @@ use Rattle.tokens.specs.declared.token.Token.{Token}
 use Rattle.topology.specs.declared.wall.Wall.{Wall}
 use Rattle.serde_json.specs.Data.{Data, boolean, string, object, Members, no_members, member}
 use Rattle.world.specs.Scene.{Scene}
-use Rattle.campaign_writing.specs.Trees.{whole, wholes, list, name_or_null, named, with_member}
+use Rattle.campaign_json.specs.declared.formats.Format.{Format}
+use Rattle.campaign_json.specs.declared.formats.Format.TheVariants.{First, Second}
+use Rattle.campaign_writing.specs.Trees.{whole, integer, wholes, list, name_or_null, named, with_member}
 
 -- ---- types
 
 abbrev pub sight_tree : Sight → Data
 sight_tree sight = wholes (sight.range ∷ sight.night ∷ sight.mult ∷ [])
 
-abbrev pub lights_tree : List (List ℕ × ℕ) → Data
-lights_tree lights = object (named whole lights)
+abbrev pub lights_tree : List (List ℕ × ℤ) → Data
+lights_tree lights = object (named integer lights)
 
 abbrev pub sights_tree : List (List ℕ × Sight) → Data
 sights_tree sights = object (named sight_tree sights)
@@ -44,31 +46,43 @@ wall_tree wall = wholes (wall.first.x ∷ wall.first.y ∷ wall.second.x ∷ wal
 abbrev pub walls_tree : List Wall → Data
 walls_tree walls = list (map wall_tree walls)
 
-unfoldable pub map_tree : Grid → Data
-map_tree m = object
+-- whether a map has a trail, of which the first format has no word: behind it stand the members of later keys
+abbrev pub trail_member : Format → Bool → Members → Members
+trail_member First on later = later
+trail_member Second on later = member (codes "trail") (boolean on) later
+
+-- the same, put in
+abbrev pub with_trail : Format → Bool → Members → Members
+with_trail First on members = members
+with_trail Second on members = with_member (codes "trail") (boolean on) members
+
+unfoldable pub map_tree : Format → Grid → Data
+map_tree format m = object
     (member (codes "h") (whole m.walls.extent.h)
     (member (codes "mbl") (walls_tree m.walls.mbl)
     (member (codes "mode") (string (mode_word m.mode))
     (member (codes "name") (string m.name)
     (member (codes "rows") (rows_tree m)
     (member (codes "shown") (boolean m.shown)
+    (trail_member format m.trail
     (member (codes "vbl") (walls_tree m.walls.vbl)
-    (member (codes "w") (whole m.walls.extent.w) no_members))))))))
+    (member (codes "w") (whole m.walls.extent.w) no_members)))))))))
 
 -- its members as they are put in, one after the other
-unfoldable pub map_members : Grid → Members
-map_members m =
+unfoldable pub map_members : Format → Grid → Members
+map_members format m =
     with_member (codes "w") (whole m.walls.extent.w)
     (with_member (codes "vbl") (walls_tree m.walls.vbl)
+    (with_trail format m.trail
     (with_member (codes "shown") (boolean m.shown)
     (with_member (codes "rows") (rows_tree m)
     (with_member (codes "name") (string m.name)
     (with_member (codes "mode") (string (mode_word m.mode))
     (with_member (codes "mbl") (walls_tree m.walls.mbl)
-    (with_member (codes "h") (whole m.walls.extent.h) no_members)))))))
+    (with_member (codes "h") (whole m.walls.extent.h) no_members))))))))
 
-abbrev pub maps_tree : List Grid → Data
-maps_tree maps = list (map map_tree maps)
+abbrev pub maps_tree : Format → List Grid → Data
+maps_tree format maps = list (map (map_tree format) maps)
 
 -- ---- tokens
 

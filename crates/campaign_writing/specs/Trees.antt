@@ -1,10 +1,14 @@
 -- The values of the campaign text, as they are written.
-use Rattle.std.specs.Prelude.{ℕ, List, [], ◌∷◌, map, Option, Some, None}
+use Rattle.std.specs.Prelude.{ℕ, ℤ, List, [], ◌∷◌, map, Option, Some, None}
 use Rattle.serde_json.specs.Data.{Data, null, number, unsigned, string, array, Members, no_members, member, put}
+use Rattle.serde_json.specs.Find.{of_integer}
 use Rattle.serde_json.specs.View.{items_of}
 
 abbrev pub whole : ℕ → Data
 whole n = number (unsigned n)
+
+abbrev pub integer : ℤ → Data
+integer z = number (of_integer z)
 
 abbrev pub list : List Data → Data
 list values = array (items_of values)

@@ -1,9 +1,12 @@
 -- What the campaign text takes of a world where no type keeps it: names and sizes of tokens, keys and macros of seats.
-use Rattle.std.specs.Prelude.{ℕ, ◌≡◌, ◌&&◌, nat_le, Bool, true, List, length, is_ok}
+use Rattle.std.specs.Prelude.{ℕ, ◌≡◌, ◌&&◌, not, nat_le, Bool, true, List, length, is_ok}
 use Rattle.std.specs.List.{list_all}
+use Rattle.lights.specs.Radii.{is_dark}
 use Rattle.tokens.specs.declared.token.Token.{Token}
 use Rattle.macro_parse.specs.Answers.{macro_of}
 use Rattle.seats.specs.Book.{Book}
+use Rattle.campaign_json.specs.declared.formats.Format.{Format}
+use Rattle.campaign_json.specs.declared.formats.Format.TheVariants.{First, Second}
 use Rattle.world.specs.World.{World}
 
 -- a token's name has 1 to 40 bytes, and it is 1 to 4 cells wide
@@ -34,3 +37,15 @@ pub record IsWritten (w : World) : Type 0 where
   pub tokens : are_written_tokens w.scene.tokens ≡ true
   pub keys : are_written_keys w.books ≡ true
   pub macros : are_written_macros w.books ≡ true
+
+-- ---- formats
+
+-- what the first format takes of a world: no map has a trail, and no light type is a darkness
+pub record IsOfFirst (w : World) : Type 0 where
+  pub trails : list_all (λ m. not m.trail) w.scene.maps ≡ true
+  pub darknesses : list_all (λ light. not (is_dark light.1)) w.scene.lights ≡ true
+
+-- what a format takes: the second takes every world
+abbrev pub IsOfFormat : Format → World → Type 0
+IsOfFormat First w = IsOfFirst w
+IsOfFormat Second w = Unit {0}

@@ -4,9 +4,10 @@ ghost use Rattle.serde_json.specs.Data.{string};
 ghost use Rattle.serde_json.specs.View.{view, members_view};
 ghost use Rattle.topology.specs.WallLists.{AreWalls, walls_of};
 ghost use Rattle.campaign_writing.specs.Kept.{AreKeptMaps, IsKeptMap};
-ghost use Rattle.campaign_writing.specs.Scenes.{map_members as map_members_lem, map_tree, maps_tree, row_letters, rows_tree, wall_tree, walls_tree};
+ghost use Rattle.campaign_writing.specs.Scenes.{map_members as map_members_lem, map_tree, maps_tree, with_trail, row_letters, rows_tree, wall_tree, walls_tree};
 
 use crate::values::{name, put_member};
+use campaign_json::Format;
 use cells::Cell;
 use maps::{GridMap, MapTable};
 use names::WallKind;
@@ -54,9 +55,28 @@ fn rows(alloc: Global, map: &GridMap) -> Result<Value, AllocError>
     Ok(Value::Array(list))
 }
 
+/// Puts in whether a map has a trail, of which the first format has no word.
+fn put_trail(
+    members: &mut Map<String, Value>,
+    alloc: Global,
+    format: Format,
+    on: bool,
+) -> Result<(), AllocError>
+    ensures { OnOk result (members_view members.new.entries ≡ with_trail format on (members_view members.old.entries)) }
+{
+    match format {
+        Format::First => Ok(()),
+        Format::Second => put_member(members, alloc, "trail", Value::Bool(on)),
+    }
+}
+
 #[tactic(auto, unfolding(crate::specs::Scenes::map_members))]
-fn map_members(alloc: Global, map: &GridMap) -> Result<Map<String, Value>, AllocError>
-    ensures tree { IfOk result (λ members. members_view members.entries ≡ map_members_lem map.now) }
+fn map_members(
+    alloc: Global,
+    format: Format,
+    map: &GridMap,
+) -> Result<Map<String, Value>, AllocError>
+    ensures tree { IfOk result (λ members. members_view members.entries ≡ map_members_lem format map.now) }
     ensures kept { OnOk result (IsKeptMap map.now) }
 {
     let mut members = Map::new(alloc);
@@ -71,6 +91,7 @@ fn map_members(alloc: Global, map: &GridMap) -> Result<Map<String, Value>, Alloc
     put_member(&mut members, alloc, "name", name(alloc, map.name())?)?;
     put_member(&mut members, alloc, "rows", rows(alloc, map)?)?;
     put_member(&mut members, alloc, "shown", Value::Bool(map.shown()))?;
+    put_trail(&mut members, alloc, format, map.trail())?;
     put_member(
         &mut members,
         alloc,
@@ -81,11 +102,11 @@ fn map_members(alloc: Global, map: &GridMap) -> Result<Map<String, Value>, Alloc
     Ok(members)
 }
 
-fn map_value(alloc: Global, map: &GridMap) -> Result<Value, AllocError>
-    ensures tree { IfOk result (λ v. view v ≡ map_tree map.now) }
+fn map_value(alloc: Global, format: Format, map: &GridMap) -> Result<Value, AllocError>
+    ensures tree { IfOk result (λ v. view v ≡ map_tree format map.now) }
     ensures kept { OnOk result (IsKeptMap map.now) }
 {
-    let members = map_members(alloc, map)?;
+    let members = map_members(alloc, format, map)?;
     Ok(Value::Object(members))
 }
 
@@ -96,13 +117,17 @@ fn word(alloc: Global, word: &str) -> Result<Value, AllocError>
 }
 
 /// The maps, in byte order of their names.
-pub(crate) fn maps_value(alloc: Global, maps: &MapTable) -> Result<Value, AllocError>
-    ensures tree { IfOk result (λ v. view v ≡ maps_tree maps.now) }
+pub(crate) fn maps_value(
+    alloc: Global,
+    format: Format,
+    maps: &MapTable,
+) -> Result<Value, AllocError>
+    ensures tree { IfOk result (λ v. view v ≡ maps_tree format maps.now) }
     ensures kept { OnOk result (AreKeptMaps maps.now) }
 {
     let mut list = Vec::new(alloc);
     for place in 0..maps.len() {
-        list.push(map_value(alloc, maps.at(place))?)?;
+        list.push(map_value(alloc, format, maps.at(place))?)?;
     }
     Ok(Value::Array(list))
 }

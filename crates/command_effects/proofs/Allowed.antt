@@ -46,7 +46,7 @@ may_set s seat id class name value ordered allowed = may_set_by s seat id class 
 
 -- ---- lights
 
-known_light : (name : List ℕ) (lights : List (List ℕ × ℕ)) → is_some (type_of name lights) ≡ list_any (λ light. bytes_eq name light.0) lights
+known_light : (name : List ℕ) (lights : List (List ℕ × ℤ)) → is_some (type_of name lights) ≡ list_any (λ light. bytes_eq name light.0) lights
 known_light name [] = refl
 known_light name (l ∷ ls) = ap (λ b. is_some (cond b (Some l.1) (type_of name ls))) (is_eq-slice_cmp name l.0) ∙ by (bytes_eq name l.0) (known_light name ls)
   where
@@ -54,7 +54,7 @@ known_light name (l ∷ ls) = ap (λ b. is_some (cond b (Some l.1) (type_of name
     by true rest = refl
     by false rest = rest
 
-light_known : (lights : List (List ℕ × ℕ)) (light : Option (List ℕ)) → type_rule (λ name. list_any (λ light. bytes_eq name light.0) lights) light ≡ None → is_known lights light ≡ true
+light_known : (lights : List (List ℕ × ℤ)) (light : Option (List ℕ)) → type_rule (λ name. list_any (λ light. bytes_eq name light.0) lights) light ≡ None → is_known lights light ≡ true
 light_known lights None h = refl
 light_known lights (Some name) h = known_light name lights ∙ by (list_any (λ light. bytes_eq name light.0) lights) h
   where

@@ -9,14 +9,14 @@ use Rattle.std.proofs.lemmas.Slice.Eq.{bytes_eq-Decides}
 use Rattle.names.specs.Tag.{tag_cmp}
 use Rattle.names.specs.declared.token_id.TokenId.{TokenId}
 use Rattle.cells.specs.Cells.{Extent}
-use Rattle.maps.specs.Maps.{Grid, map_of, new_map, with_mode, shown_if as map_shown_if, with_letters, with_wall_of, without_wall_of}
+use Rattle.maps.specs.Maps.{Grid, map_of, new_map, with_mode, shown_if as map_shown_if, trail_if, with_letters, with_wall_of, without_wall_of}
 use Rattle.maps.specs.MapFaults.{map_fault}
 use Rattle.maps.specs.declared.map_table.MapFault.TheVariants.{MapExists, MapLimit}
 use Rattle.topology.specs.WallLists.{with_wall, without_wall}
 use Rattle.topology.specs.Order.{wall_between}
 use Rattle.tokens.specs.declared.token.Token.{Token as Made}
 use Rattle.type_table.specs.Types.{type_of, with_type}
-use Rattle.command_json.specs.declared.command.Command.TheVariants.{Move, Map, Mode, Show, Terrain, Wall, Unwall, Lighttype, Sighttype}
+use Rattle.command_json.specs.declared.command.Command.TheVariants.{Move, Map, Mode, Show, Trail, Terrain, Wall, Unwall, Lighttype, Sighttype}
 use Rattle.world.specs.Scene.{Scene, with_grid, with_new_map}
 use Rattle.world.specs.Rules.{size_of}
 use Rattle.world.proofs.FogRules.{size_of-changed, size_of-with_map}
@@ -27,6 +27,11 @@ use Rattle.command_effects.specs.GmEffects.{gm_scene_by, sight_by}
 use Rattle.command_effects.specs.Effects.{own_token, after_steps, scene_by}
 use Rattle.command_effects.specs.Follows.{ScenesFollow}
 use Rattle.command_effects.specs.Settle.{settled}
+use Rattle.command_effects.specs.Way.{exposed_on, way_of, after_by}
+use Rattle.command_effects.specs.Allowed.{IsAllowed}
+use Rattle.command_effects.proofs.Ways.{HasOtherSets, exposed_on_sets}
+use Rattle.command_json.specs.declared.command.Command.{Command}
+use Rattle.macro_eval.specs.declared.intent.Intent.{Intent}
 use Rattle.command_effects.proofs.GmCommands.{map_may}
 
 -- ---- parts of a scene
@@ -94,20 +99,36 @@ settles : (s t : Scene) → Follows s t → Follows s (settled t)
 unfolding settled
 settles s t follows = record { sizes = follows.sizes; lights = follows.lights; sights = follows.sights }
 
-pub scenes_follow : ScenesFollow
+follows_settled : (steps : ℕ) (intents : List Intent) (seat : ℕ) (s : Scene) (c : Command) → IsAllowed s seat c → Follows s (settled (scene_by steps intents seat s (Some c)))
 unfolding scene_by gm_scene_by settled
-scenes_follow steps intents seat s (Move token path) allowed = steps_keep steps token path (own_token s seat token) s
-scenes_follow steps intents seat s (Map name w h) allowed =
+follows_settled steps intents seat s (Move token path) allowed = steps_keep steps token path (own_token s seat token) s
+follows_settled steps intents seat s (Map name w h) allowed =
     settles s _ (one_map_more s name (record { w = coordinate w; h = coordinate h }) (map_may s seat name w h allowed))
-scenes_follow steps intents seat s (Mode map mode) allowed = settles s _ (one_grid s map (with_mode mode) (λ m. refl) (λ m. refl))
-scenes_follow steps intents seat s (Show map on) allowed = settles s _ (one_grid s map (map_shown_if on) (λ m. refl) (λ m. refl))
-scenes_follow steps intents seat s (Terrain map rect kind) allowed = settles s _ (one_grid s map (with_letters (rect_at rect) kind) (λ m. refl) (λ m. refl))
-scenes_follow steps intents seat s (Wall map kind a b) allowed =
+follows_settled steps intents seat s (Mode map mode) allowed = settles s _ (one_grid s map (with_mode mode) (λ m. refl) (λ m. refl))
+follows_settled steps intents seat s (Show map on) allowed = settles s _ (one_grid s map (map_shown_if on) (λ m. refl) (λ m. refl))
+follows_settled steps intents seat s (Trail map on) allowed = settles s _ (one_grid s map (trail_if on) (λ m. refl) (λ m. refl))
+follows_settled steps intents seat s (Terrain map rect kind) allowed = settles s _ (one_grid s map (with_letters (rect_at rect) kind) (λ m. refl) (λ m. refl))
+follows_settled steps intents seat s (Wall map kind a b) allowed =
     settles s _ (one_grid s map (with_wall_of kind (point_at a) (point_at b)) (λ m. refl) (walls_keep_size kind (with_wall (wall_between (point_at a) (point_at b)))))
-scenes_follow steps intents seat s (Unwall map kind a b) allowed =
+follows_settled steps intents seat s (Unwall map kind a b) allowed =
     settles s _ (one_grid s map (without_wall_of kind (point_at a) (point_at b)) (λ m. refl) (walls_keep_size kind (without_wall (wall_between (point_at a) (point_at b)))))
-scenes_follow steps intents seat s (Lighttype name radius) allowed =
-    record { sizes = λ other size there. there; lights = λ other there. still_there name (coordinate radius) other s.lights there; sights = λ other there. there }
-scenes_follow steps intents seat s (Sighttype name range night mult) allowed =
+follows_settled steps intents seat s (Lighttype name radius) allowed =
+    record { sizes = λ other size there. there; lights = λ other there. still_there name radius other s.lights there; sights = λ other there. there }
+follows_settled steps intents seat s (Sighttype name range night mult) allowed =
     record { sizes = λ other size there. there; lights = λ other there. there; sights = λ other there. still_there name (sight_by range night mult) other s.sights there }
-scenes_follow steps intents seat s c allowed = same_tables s _ refl refl refl
+follows_settled steps intents seat s c allowed = same_tables s _ refl refl refl
+
+-- other exposed sets change nothing of it
+other_sets : (s t u : Scene) → Follows s (settled t) → HasOtherSets t u → Follows s (settled u)
+unfolding settled
+other_sets s t u follows other = record {
+  sizes = λ name size there. ap (λ (x : Scene). size_of name x.maps) other.same ∙ follows.sizes name size there;
+  lights = λ name there. ap (λ (x : Scene). is_some (type_of name x.lights)) other.same ∙ follows.lights name there;
+  sights = λ name there. ap (λ (x : Scene). is_some (type_of name x.sights)) other.same ∙ follows.sights name there;
+}
+
+pub scenes_follow : ScenesFollow
+unfolding after_by
+scenes_follow steps intents seat s c allowed =
+    other_sets s (scene_by steps intents seat s (Some c)) (exposed_on (way_of steps seat s (Some c)) (scene_by steps intents seat s (Some c)))
+    (follows_settled steps intents seat s c allowed) (exposed_on_sets (way_of steps seat s (Some c)) (scene_by steps intents seat s (Some c)))

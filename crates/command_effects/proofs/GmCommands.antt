@@ -11,7 +11,7 @@ use Rattle.maps.specs.MapFaults.{map_fault}
 use Rattle.lights.specs.Lights.{light_fault}
 use Rattle.sight_types.specs.Sights.{sight_fault}
 use Rattle.tokens.specs.Tokens.{has_token}
-use Rattle.command_json.specs.declared.command.Command.TheVariants.{Map, Mode, Show, Terrain, Wall, Unwall, Lighttype, Sighttype, Token, Own, Layer, Visible, Sight, Place, Secret, Expose, Hide}
+use Rattle.command_json.specs.declared.command.Command.TheVariants.{Map, Mode, Show, Trail, Terrain, Wall, Unwall, Lighttype, Sighttype, Token, Own, Layer, Visible, Sight, Place, Secret, Expose, Hide}
 use Rattle.world.specs.Scene.{Scene}
 use Rattle.world.specs.Rules.{is_player, is_known}
 use Rattle.player_view.specs.Asked.{asked_of}
@@ -33,6 +33,10 @@ pub show_may : (s : Scene) (seat : ℕ) (map : List ℕ) (on : Bool) → IsAllow
 unfolding asked_of rule_of gm_rule
 show_may s seat map on allowed = map_there s map (λ m. None) (gm_kept s seat allowed.tags (Show map on) allowed.rule).1
 
+pub trail_may : (s : Scene) (seat : ℕ) (map : List ℕ) (on : Bool) → IsAllowed s seat (Trail map on) → has_map map s.maps ≡ true
+unfolding asked_of rule_of gm_rule
+trail_may s seat map on allowed = map_there s map (λ m. None) (gm_kept s seat allowed.tags (Trail map on) allowed.rule).1
+
 pub terrain_may : (s : Scene) (seat : ℕ) (map : List ℕ) (rect : Numbers) (kind : ℕ) → IsAllowed s seat (Terrain map rect kind) → MayFill s map rect
 unfolding asked_of rule_of gm_rule
 terrain_may s seat map rect kind allowed = may_fill s map rect (gm_kept s seat allowed.tags (Terrain map rect kind) allowed.rule).1
@@ -45,9 +49,9 @@ pub unwall_may : (s : Scene) (seat : ℕ) (map : List ℕ) (kind : WallKind) (a 
 unfolding asked_of rule_of gm_rule
 unwall_may s seat map kind a b allowed = may_cut s map kind a b (gm_kept s seat allowed.tags (Unwall map kind a b) allowed.rule).1
 
-pub lighttype_may : (s : Scene) (seat : ℕ) (name : List ℕ) (radius : ℤ) → IsAllowed s seat (Lighttype name radius) → light_fault s.lights name (coordinate radius) ≡ None
+pub lighttype_may : (s : Scene) (seat : ℕ) (name : List ℕ) (radius : ℤ) → IsAllowed s seat (Lighttype name radius) → light_fault s.lights name radius ≡ None
 unfolding asked_of rule_of gm_rule
-lighttype_may s seat name radius allowed = no_fault of_light_fault (light_fault s.lights name (coordinate radius)) (gm_kept s seat allowed.tags (Lighttype name radius) allowed.rule).1
+lighttype_may s seat name radius allowed = no_fault of_light_fault (light_fault s.lights name radius) (gm_kept s seat allowed.tags (Lighttype name radius) allowed.rule).1
 
 pub sighttype_may : (s : Scene) (seat : ℕ) (name : List ℕ) (range : ℤ) (night : ℤ) (mult : ℤ) → IsAllowed s seat (Sighttype name range night mult) → sight_fault s.sights name (coordinate range) (coordinate night) (coordinate mult) ≡ None
 unfolding asked_of rule_of gm_rule

@@ -13,7 +13,7 @@ use Rattle.cells.specs.declared.cell.Cell.{Cell}
 use Rattle.fog_book.specs.Exposures.{with_each_seen, with_map as with_fog_of_map}
 use Rattle.fog_book.specs.Rects.{with_rect}
 use Rattle.fog_book.proofs.Adding.{adds_after}
-use Rattle.maps.specs.Maps.{Grid, new_map, with_map, has_map, with_mode, shown_if as map_shown_if, with_letters, walled}
+use Rattle.maps.specs.Maps.{Grid, new_map, with_map, has_map, with_mode, shown_if as map_shown_if, trail_if, with_letters, walled}
 use Rattle.maps.specs.MapFaults.{map_fault}
 use Rattle.maps.specs.declared.map_table.MapFault.{MapFault}
 use Rattle.maps.specs.declared.map_table.MapFault.TheVariants.{MapExists, MapLimit}
@@ -27,7 +27,7 @@ use Rattle.tokens.specs.declared.token.Token.{Token as Made}
 use Rattle.tokens.specs.Tokens.{has_token, token_of, placed, without, with_light, with_prop, owned_by, on_layer, shown_if, with_sight}
 use Rattle.tokens.proofs.TokenLemmas.{in_order-put, in_order-changed, in_order-without}
 use Rattle.command_json.specs.declared.command.Command.{Command}
-use Rattle.command_json.specs.declared.command.Command.TheVariants.{Macro, Move, Setprop, Light, Make, Remove, Map, Mode, Show, Terrain, Wall, Unwall, Lighttype, Sighttype, Token, Own, Layer, Visible, Sight, Place, Secret, Expose, Hide}
+use Rattle.command_json.specs.declared.command.Command.TheVariants.{Macro, Move, Setprop, Light, Make, Remove, Map, Mode, Show, Trail, Terrain, Wall, Unwall, Lighttype, Sighttype, Token, Own, Layer, Visible, Sight, Place, Secret, Expose, Hide}
 use Rattle.world.specs.Scene.{Scene, with_token, with_grid, with_new_map}
 use Rattle.world.specs.Rules.{belongs, fits_on, size_of}
 use Rattle.world.proofs.Makers.{with_prop_keeps_id}
@@ -141,7 +141,7 @@ still_sorted name value types h = true_of (is_sorted tag_cmp (with_type name val
     T_of true h = tt
     T_of false h = cc
 
-light_kept : (s : Scene) (name : List ℕ) (radius : ℕ) → HasTables s → HasTables (record s { lights = with_type name radius s.lights })
+light_kept : (s : Scene) (name : List ℕ) (radius : ℤ) → HasTables s → HasTables (record s { lights = with_type name radius s.lights })
 light_kept s name radius is = record {
   fitting = IsScene-with_light s name radius is.fitting;
   maps = is.maps;
@@ -215,10 +215,11 @@ scene_kept steps intents seat s (Remove token) low allowed new is = removed_kept
 scene_kept steps intents seat s (Map name w h) low allowed new is = new_map_kept s name (record { w = coordinate w; h = coordinate h }) (map_may s seat name w h allowed) is
 scene_kept steps intents seat s (Mode map mode) low allowed new is = grid_kept s (with_mode mode) (λ m. refl) (λ m. refl) map is
 scene_kept steps intents seat s (Show map on) low allowed new is = grid_kept s (map_shown_if on) (λ m. refl) (λ m. refl) map is
+scene_kept steps intents seat s (Trail map on) low allowed new is = grid_kept s (trail_if on) (λ m. refl) (λ m. refl) map is
 scene_kept steps intents seat s (Terrain map rect kind) low allowed new is = grid_kept s (with_letters (rect_at rect) kind) (λ m. refl) (λ m. refl) map is
 scene_kept steps intents seat s (Wall map kind a b) low allowed new is = grid_kept s (walled kind (with_wall (wall_between (point_at a) (point_at b)))) (λ m. refl) (walls_keep_size kind (with_wall (wall_between (point_at a) (point_at b)))) map is
 scene_kept steps intents seat s (Unwall map kind a b) low allowed new is = grid_kept s (walled kind (without_wall (wall_between (point_at a) (point_at b)))) (λ m. refl) (walls_keep_size kind (without_wall (wall_between (point_at a) (point_at b)))) map is
-scene_kept steps intents seat s (Lighttype name radius) low allowed new is = light_kept s name (coordinate radius) is
+scene_kept steps intents seat s (Lighttype name radius) low allowed new is = light_kept s name radius is
 scene_kept steps intents seat s (Sighttype name range night mult) low allowed new is = sight_kept s name (sight_by range night mult) is
 scene_kept steps intents seat s (Token tag map place name size layer) low allowed new is = made_by_gm s seat tag map place name size layer allowed new is
 scene_kept steps intents seat s (Own token owner on) low allowed new is = changed_kept s (owned_by owner on) (λ t. refl) (keeps-owner s owner on (own_may s seat token owner on allowed).1) token is

@@ -3,13 +3,13 @@ use Rattle.std.specs.Prelude.{ℕ, Bool, true, false, List, ℤ}
 use Rattle.names.specs.declared.kinds.PropClass.TheVariants.{Secret as SecretClass}
 use Rattle.fog_book.specs.Exposures.{with_change}
 use Rattle.fog_book.specs.Rects.{with_rect}
-use Rattle.maps.specs.Maps.{with_mode, shown_if as map_shown_if, with_letters, with_wall_of, without_wall_of}
+use Rattle.maps.specs.Maps.{with_mode, shown_if as map_shown_if, trail_if, with_letters, with_wall_of, without_wall_of}
 use Rattle.sight_types.specs.declared.Sight.{Sight as SightType}
 use Rattle.type_table.specs.Types.{with_type}
 use Rattle.tokens.specs.Tokens.{placed, on_layer, shown_if, owned_by, with_sight, with_prop}
 use Rattle.world.specs.Scene.{Scene, with_token, with_grid, with_new_map}
 use Rattle.command_json.specs.declared.command.Command.{Command}
-use Rattle.command_json.specs.declared.command.Command.TheVariants.{Map, Mode, Show, Terrain, Wall, Unwall, Lighttype, Sighttype, Token, Own, Layer, Visible, Sight, Place, Secret, Expose, Hide}
+use Rattle.command_json.specs.declared.command.Command.TheVariants.{Map, Mode, Show, Trail, Terrain, Wall, Unwall, Lighttype, Sighttype, Token, Own, Layer, Visible, Sight, Place, Secret, Expose, Hide}
 use Rattle.command_rules.specs.Places.{Numbers, coordinate, cell_at, rect_at, point_at}
 use Rattle.command_effects.specs.Making.{new_token, with_new}
 
@@ -29,10 +29,11 @@ unfoldable pub gm_scene_by : ℕ → Scene → Command → Scene
 gm_scene_by seat s (Map name w h) = with_new_map name (record { w = coordinate w; h = coordinate h }) s
 gm_scene_by seat s (Mode map mode) = with_grid map (with_mode mode) s
 gm_scene_by seat s (Show map on) = with_grid map (map_shown_if on) s
+gm_scene_by seat s (Trail map on) = with_grid map (trail_if on) s
 gm_scene_by seat s (Terrain map rect kind) = with_grid map (with_letters (rect_at rect) kind) s
 gm_scene_by seat s (Wall map kind a b) = with_grid map (with_wall_of kind (point_at a) (point_at b)) s
 gm_scene_by seat s (Unwall map kind a b) = with_grid map (without_wall_of kind (point_at a) (point_at b)) s
-gm_scene_by seat s (Lighttype name radius) = record s { lights = with_type name (coordinate radius) s.lights }
+gm_scene_by seat s (Lighttype name radius) = record s { lights = with_type name radius s.lights }
 gm_scene_by seat s (Sighttype name range night mult) = record s { sights = with_type name (sight_by range night mult) s.sights }
 gm_scene_by seat s (Token tag map cell name size layer) = with_new (new_token seat tag map cell name (coordinate size) layer 0) s
 gm_scene_by seat s (Own token owner on) = with_token token (owned_by owner on) s

@@ -5,5 +5,6 @@ pub mod Tags
 pub mod MacroEffects
 pub mod Setting
 pub mod Settle
+pub mod Way
 pub mod Allowed
 pub mod Follows

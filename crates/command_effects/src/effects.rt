@@ -1,5 +1,5 @@
 //! What an accepted command does to the scene.
-ghost use Rattle.std.specs.Prelude.{◌≡◌, ◌≤◌, ◌∷◌, ◌++◌, [], None, Some, IfOk, OnOk, length, true, false, unwrap_or};
+ghost use Rattle.std.specs.Prelude.{◌≡◌, ◌≤◌, ◌∷◌, ◌++◌, [], None, Some, IfNone, IfOk, OnOk, length, true, false, unwrap_or};
 ghost use Rattle.std.specs.List.{list_all};
 ghost use Rattle.maps.specs.Maps.{in_order as maps_in_order};
 ghost use Rattle.tokens.specs.Properties.{value_limit};
@@ -12,6 +12,7 @@ ghost use Rattle.command_effects.specs.Effects.{eye_at as eye_at_lem, eyes_along
 ghost use Rattle.command_effects.specs.Allowed.{IsAllowed, MayMove, MaySet, MayStand};
 ghost use Rattle.command_effects.specs.Tags.{MakesNew};
 ghost use Rattle.command_effects.specs.Setting.{MaySetAll};
+ghost use Rattle.command_effects.specs.Way.{way_of as way_of_lem};
 
 use crate::gm_effects::gm_scene_by;
 use crate::intents::with_intents;
@@ -85,7 +86,7 @@ fn free_steps(
 }
 
 /// Where a token is after so many steps.
-fn cell_after(size: Size, side: u8, from: Cell, path: &[(i32, i32)], steps: u32) -> Cell
+pub(crate) fn cell_after(size: Size, side: u8, from: Cell, path: &[(i32, i32)], steps: u32) -> Cell
     requires { list_all (fits_at_lem size side) path.now ≡ true }
     ensures { result ≡ cell_after_lem steps from path.now }
 {
@@ -249,7 +250,7 @@ pub fn steps_by(
 
 /// The scene after an accepted command; none, where the command leaves it as it is. A token that it makes is new, since
 /// its maker hasn't used its tag. A macro sets what its run means to set, which the seat may set.
-#[tactic(auto, unfolding(crate::specs::Effects::scene_by))]
+#[tactic(auto, unfolding(crate::specs::Effects::scene_by, crate::specs::Way::way_of))]
 pub fn scene_by(
     alloc: Global,
     scene: &Scene,
@@ -262,7 +263,8 @@ pub fn scene_by(
     requires new { MakesNew scene.now seat command.now }
     requires seat { seat ≤ scene.now.fog.players }
     requires intents { MaySetAll scene.now seat intents.now }
-    ensures { IfOk result (λ after. unwrap_or after scene.now ≡ scene_by_lem steps intents.now seat scene.now (Some command.now)) }
+    ensures value { IfOk result (λ after. unwrap_or after scene.now ≡ scene_by_lem steps intents.now seat scene.now (Some command.now)) }
+    ensures stays { IfOk result (λ after. IfNone after (way_of_lem steps seat scene.now (Some command.now) ≡ None)) }
 {
     let _told = told(scene);
     match command {

@@ -1,7 +1,7 @@
 //! What an accepted command of the game master does to the scene.
 ghost use Rattle.std.specs.Prelude.{◌≡◌, IfOk, IfSome, None, true, false, unwrap_or};
 ghost use Rattle.names.specs.Letters.{is_letter};
-ghost use Rattle.maps.specs.Maps.{has_map, map_of, shown_if as map_shown_if, with_letters as with_letters_lem, with_mode as with_mode_lem, with_wall_of, without_wall_of};
+ghost use Rattle.maps.specs.Maps.{has_map, map_of, shown_if as map_shown_if, trail_if, with_letters as with_letters_lem, with_mode as with_mode_lem, with_wall_of, without_wall_of};
 ghost use Rattle.maps.specs.MapFaults.{map_fault};
 ghost use Rattle.lights.specs.Lights.{light_fault};
 ghost use Rattle.sight_types.specs.Sights.{sight_fault};
@@ -105,6 +105,15 @@ fn with_letters(
     Ok(after)
 }
 
+fn with_trail(scene: &Scene, map: &Tag, on: bool) -> Result<Scene, Memory>
+    requires { has_map map.now scene.now.maps ≡ true }
+    ensures { IfOk result (λ s. s ≡ with_grid map.now (trail_if on) scene.now) }
+{
+    let mut after = scene.copy()?;
+    after.set_trail(*map, on);
+    Ok(after)
+}
+
 // ---- walls
 
 /// The points, which are on the map.
@@ -161,11 +170,11 @@ fn without_wall(
 // ---- types
 
 fn with_light_type(scene: &Scene, name: &Tag, radius: &i32) -> Result<Scene, Memory>
-    requires { light_fault scene.now.lights name.now (coordinate_lem radius.now) ≡ None }
-    ensures { IfOk result (λ s. s ≡ record scene.now { lights = with_type name.now (coordinate_lem radius.now) scene.now.lights }) }
+    requires { light_fault scene.now.lights name.now radius.now ≡ None }
+    ensures { IfOk result (λ s. s ≡ record scene.now { lights = with_type name.now radius.now scene.now.lights }) }
 {
     let mut after = scene.copy()?;
-    match after.set_light_type(*name, coordinate(*radius)) {
+    match after.set_light_type(*name, *radius) {
         Ok(()) => Ok(after),
         Err(LightFault::Memory) => Err(Memory),
         Err(LightFault::BadRadius | LightFault::TypeLimit) => unreachable!(),
@@ -334,6 +343,7 @@ pub(crate) fn gm_scene_by(
         Command::Map { name, w, h } => Ok(Some(with_new_map(scene, name, size_of(*w, *h))?)),
         Command::Mode { map, mode } => Ok(Some(with_mode(scene, map, *mode)?)),
         Command::Show { map, on } => Ok(Some(with_shown(scene, map, *on)?)),
+        Command::Trail { map, on } => Ok(Some(with_trail(scene, map, *on)?)),
         Command::Terrain { map, rect, kind } => Ok(Some(with_letters(scene, map, *rect, *kind)?)),
         Command::Wall { map, kind, a, b } => Ok(Some(with_wall(scene, map, *kind, *a, *b)?)),
         Command::Unwall { map, kind, a, b } => Ok(Some(without_wall(scene, map, *kind, *a, *b)?)),

@@ -9,9 +9,11 @@ mod macros;
 mod making;
 mod sight;
 mod tags;
+mod way;
 
 pub use effects::{scene_by, steps_by};
 pub use laws::scenes_follow;
 pub use macros::{draw, set_text};
-pub use sight::settle;
+pub use sight::{expose_seen, settle};
 pub use tags::use_made_tag;
+pub use way::{Way, way_of};

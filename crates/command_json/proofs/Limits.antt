@@ -34,10 +34,10 @@ use Rattle.command_json.specs.declared.verbs.GmVerb.TheVariants as G
 use Rattle.command_json.specs.Verbs.{verbs, gm_verbs, keys_of, gm_keys_of}
 use Rattle.command_json.specs.Faults.{Fails}
 use Rattle.command_json.specs.EverySeat.{hello_in, bye_in, look_in, say_in, roll_in, macro_in, setmacro_in, move_in, setprop_in, light_in, make_in, remove_in, fields_in}
-use Rattle.command_json.specs.GameMaster.{map_in, mode_in, show_in, terrain_in, wall_in, unwall_in, lighttype_in, sighttype_in, token_in, own_in, layer_in, visible_in, sight_in, place_in, secret_in, expose_in, hide_in, dump_in, gm_fields_in}
+use Rattle.command_json.specs.GameMaster.{map_in, mode_in, show_in, trail_in, terrain_in, wall_in, unwall_in, lighttype_in, sighttype_in, token_in, own_in, layer_in, visible_in, sight_in, place_in, secret_in, expose_in, hide_in, dump_in, gm_fields_in}
 use Rattle.command_json.specs.Commands.{by_gm_verb, by_verb, command_in, of_value, command_of, keys_in, IsBadKeyOf, NamesBadKey}
-use Rattle.command_json.specs.Fields.{args_from, texts_from, place_from, places_from, path_from, to_from, number_from, rect_from, letter_of, letter_from, least_place, most_place}
-use Rattle.command_json.specs.Limits.{IsWithin, IsNumber, IsText, IsCoordinate, IsPlace, IsPath, IsRect, AreArgs, IsLetter, IsCommand}
+use Rattle.command_json.specs.Fields.{args_from, texts_from, place_from, places_from, path_from, to_from, number_from, rect_from, letter_of, letter_from, least_place, most_place, least_radius, most_radius}
+use Rattle.command_json.specs.Limits.{IsWithin, IsNumber, IsText, IsBetween, IsCoordinate, IsPlace, IsPath, IsRect, AreArgs, IsLetter, IsCommand}
 
 -- a command keeps its limits, and a fault isn't want of memory
 abbrev Kept : Result Command LineFault → Type 0
@@ -134,12 +134,15 @@ class_keeps d class h = through (λ c. c ≢ SecretClass) class_of keeps (as_str
 in_order : (a b : ℤ) → int_le a b ≡ true → a ≤ℤ b
 in_order a b h = le_z_yes (subst T (sym h) tt)
 
-coordinate_keeps : (d : Data) (n : ℤ) → integer_from least_place most_place d ≡ Some n → IsCoordinate n
-coordinate_keeps d n h = through IsCoordinate (between least_place most_place) keeps (integer_of d) n h
+integer_keeps : (least most : ℤ) (d : Data) (n : ℤ) → integer_from least most d ≡ Some n → IsBetween least most n
+integer_keeps least most d n h = through (IsBetween least most) (between least most) keeps (integer_of d) n h
   where
-    keeps : (z n : ℤ) → between least_place most_place z ≡ Some n → IsCoordinate n
-    keeps z n e = if_some IsCoordinate (int_le least_place z && int_le z most_place) z n
-        (λ t. let parts = and_parts (int_le least_place z) (int_le z most_place) t in record { at_least = in_order least_place z parts.0; at_most = in_order z most_place parts.1 }) e
+    keeps : (z n : ℤ) → between least most z ≡ Some n → IsBetween least most n
+    keeps z n e = if_some (IsBetween least most) (int_le least z && int_le z most) z n
+        (λ t. let parts = and_parts (int_le least z) (int_le z most) t in record { at_least = in_order least z parts.0; at_most = in_order z most parts.1 }) e
+
+coordinate_keeps : (d : Data) (n : ℤ) → integer_from least_place most_place d ≡ Some n → IsCoordinate n
+coordinate_keeps d n h = integer_keeps least_place most_place d n h
 
 both_keep : (x y : Option ℤ) (place : ℤ × ℤ) → ((n : ℤ) → x ≡ Some n → IsCoordinate n) → ((n : ℤ) → y ≡ Some n → IsCoordinate n) → option_zip x y ≡ Some place → IsPlace place
 both_keep None y place a b e = cc
@@ -355,6 +358,10 @@ show_keeps : (d : Data) → HasRisingKeys d → Keeps (gm_keys_of G.Show) d (sho
 unfolding show_in
 show_keeps d rise = step (codes "map") refl (field_in tag_from (codes "map") d) _ (λ map _. step (codes "on") refl (field_in as_bool (codes "on") d) _ (λ on _. last rise (C.Show map on) tt))
 
+trail_keeps : (d : Data) → HasRisingKeys d → Keeps (gm_keys_of G.Trail) d (trail_in d)
+unfolding trail_in
+trail_keeps d rise = step (codes "map") refl (field_in tag_from (codes "map") d) _ (λ map _. step (codes "on") refl (field_in as_bool (codes "on") d) _ (λ on _. last rise (C.Trail map on) tt))
+
 terrain_keeps : (d : Data) → HasRisingKeys d → Keeps (gm_keys_of G.Terrain) d (terrain_in d)
 unfolding terrain_in
 terrain_keeps d rise = step (codes "map") refl (field_in tag_from (codes "map") d) _ (λ map _. step (codes "rect") refl (field_in rect_from (codes "rect") d) _ (λ rect is_rect. step (codes "kind") refl (field_in letter_from (codes "kind") d) _ (λ kind is_kind. last rise (C.Terrain map rect kind) ((of_field IsRect rect_from rect_keeps (codes "rect") d rect is_rect, of_field IsLetter letter_from letter_keeps (codes "kind") d kind is_kind)))))
@@ -369,7 +376,7 @@ unwall_keeps d rise = step (codes "map") refl (field_in tag_from (codes "map") d
 
 lighttype_keeps : (d : Data) → HasRisingKeys d → Keeps (gm_keys_of G.Lighttype) d (lighttype_in d)
 unfolding lighttype_in
-lighttype_keeps d rise = step (codes "name") refl (field_in tag_from (codes "name") d) _ (λ name _. step (codes "radius") refl (field_in (number_from 0 1000) (codes "radius") d) _ (λ radius is_radius. last rise (C.Lighttype name radius) (of_field (IsNumber 0 1000) (number_from 0 1000) (number_keeps 0 1000) (codes "radius") d radius is_radius)))
+lighttype_keeps d rise = step (codes "name") refl (field_in tag_from (codes "name") d) _ (λ name _. step (codes "radius") refl (field_in (integer_from least_radius most_radius) (codes "radius") d) _ (λ radius is_radius. last rise (C.Lighttype name radius) (of_field (IsBetween least_radius most_radius) (integer_from least_radius most_radius) (integer_keeps least_radius most_radius) (codes "radius") d radius is_radius)))
 
 sighttype_keeps : (d : Data) → HasRisingKeys d → Keeps (gm_keys_of G.Sighttype) d (sighttype_in d)
 unfolding sighttype_in
@@ -420,6 +427,7 @@ unfolding gm_fields_in
 gm_fields_keep d rise G.Map = map_keeps d rise
 gm_fields_keep d rise G.Mode = mode_keeps d rise
 gm_fields_keep d rise G.Show = show_keeps d rise
+gm_fields_keep d rise G.Trail = trail_keeps d rise
 gm_fields_keep d rise G.Terrain = terrain_keeps d rise
 gm_fields_keep d rise G.Wall = wall_keeps d rise
 gm_fields_keep d rise G.Unwall = unwall_keeps d rise

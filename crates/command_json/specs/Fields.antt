@@ -46,6 +46,13 @@ least_place = negsuc 999
 abbrev pub most_place : ℤ
 most_place = pos 1000
 
+-- the least and the most radius of a light type that a command names; that of a darkness is negative
+abbrev pub least_radius : ℤ
+least_radius = negsuc 999
+
+abbrev pub most_radius : ℤ
+most_radius = pos 1000
+
 -- x and y of a cell or a point
 abbrev pub place_from : Data → Option (ℤ × ℤ)
 place_from = pair_from least_place most_place

@@ -2,7 +2,7 @@
 use Rattle.std.specs.Prelude.{pos, Result, codes}
 use Rattle.serde_json.specs.Data.{Data}
 use Rattle.serde_json.specs.Find.{as_bool}
-use Rattle.json_fields.specs.Kinds.{whole_from, text_from, tag_from, id_from, mode_from, layer_from, wall_kind_from, or_null}
+use Rattle.json_fields.specs.Kinds.{integer_from, whole_from, text_from, tag_from, id_from, mode_from, layer_from, wall_kind_from, or_null}
 use Rattle.json_fields.specs.Objects.{◌>>=◌}
 use Rattle.names.specs.declared.kinds.Layer.TheVariants.{Token}
 use Rattle.command_json.specs.declared.command.Command.{Command}
@@ -11,7 +11,7 @@ use Rattle.command_json.specs.declared.command.LineFault.{LineFault}
 use Rattle.command_json.specs.declared.verbs.GmVerb.{GmVerb}
 use Rattle.command_json.specs.declared.verbs.GmVerb.TheVariants as V
 use Rattle.command_json.specs.Verbs.{gm_keys_of}
-use Rattle.command_json.specs.Fields.{field, field_else, number_from, place_from, rect_from, letter_from, only}
+use Rattle.command_json.specs.Fields.{field, field_else, number_from, least_radius, most_radius, place_from, rect_from, letter_from, only}
 
 unfoldable pub map_in : Data → Result Command LineFault
 map_in d = do
@@ -31,6 +31,12 @@ show_in d = do
   map ← field (codes "map") tag_from d
   on ← field (codes "on") as_bool d
   only (gm_keys_of V.Show) d (C.Show map on)
+
+unfoldable pub trail_in : Data → Result Command LineFault
+trail_in d = do
+  map ← field (codes "map") tag_from d
+  on ← field (codes "on") as_bool d
+  only (gm_keys_of V.Trail) d (C.Trail map on)
 
 unfoldable pub terrain_in : Data → Result Command LineFault
 terrain_in d = do
@@ -58,7 +64,7 @@ unwall_in d = do
 unfoldable pub lighttype_in : Data → Result Command LineFault
 lighttype_in d = do
   name ← field (codes "name") tag_from d
-  radius ← field (codes "radius") (number_from 0 1000) d
+  radius ← field (codes "radius") (integer_from least_radius most_radius) d
   only (gm_keys_of V.Lighttype) d (C.Lighttype name radius)
 
 unfoldable pub sighttype_in : Data → Result Command LineFault
@@ -140,6 +146,7 @@ unfoldable pub gm_fields_in : Data → GmVerb → Result Command LineFault
 gm_fields_in d V.Map = map_in d
 gm_fields_in d V.Mode = mode_in d
 gm_fields_in d V.Show = show_in d
+gm_fields_in d V.Trail = trail_in d
 gm_fields_in d V.Terrain = terrain_in d
 gm_fields_in d V.Wall = wall_in d
 gm_fields_in d V.Unwall = unwall_in d

@@ -3,7 +3,7 @@ use Rattle.std.specs.Prelude.{◌≡◌, ◌≢◌, ◌≤◌, ◌≤ℤ◌, ℕ
 use Rattle.std.specs.List.{AllByRecursion}
 use Rattle.names.specs.Letters.{is_letter}
 use Rattle.names.specs.declared.kinds.PropClass.TheVariants.{Secret as SecretClass}
-use Rattle.command_json.specs.Fields.{least_place, most_place}
+use Rattle.command_json.specs.Fields.{least_place, most_place, least_radius, most_radius}
 use Rattle.command_json.specs.declared.command.Command.{Command}
 use Rattle.command_json.specs.declared.command.Command.TheVariants as C
 
@@ -26,10 +26,14 @@ pub record AreArgs (args : List (List ℕ)) : Type 0 where
   pub count : IsWithin 0 8 (length args)
   pub texts : AllByRecursion (IsText 0 200) args
 
+-- a whole number from least to most, which may be negative
+pub record IsBetween (least most z : ℤ) : Type 0 where
+  pub at_least : least ≤ℤ z
+  pub at_most : z ≤ℤ most
+
 -- x or y of a cell or a point
-pub record IsCoordinate (z : ℤ) : Type 0 where
-  pub at_least : least_place ≤ℤ z
-  pub at_most : z ≤ℤ most_place
+abbrev pub IsCoordinate : ℤ → Type 0
+IsCoordinate = IsBetween least_place most_place
 
 -- x and y of a cell or a point
 pub record IsPlace (place : ℤ × ℤ) : Type 0 where
@@ -66,7 +70,7 @@ IsCommand (C.Map name w h) = IsNumber 1 96 w × IsNumber 1 96 h
 IsCommand (C.Terrain map rect kind) = IsRect rect × IsLetter kind
 IsCommand (C.Wall map kind a b) = IsPlace a × IsPlace b
 IsCommand (C.Unwall map kind a b) = IsPlace a × IsPlace b
-IsCommand (C.Lighttype name radius) = IsNumber 0 1000 radius
+IsCommand (C.Lighttype name radius) = IsBetween least_radius most_radius radius
 IsCommand (C.Sighttype name range night mult) = IsNumber 0 1000 range × IsNumber 0 1000 night × IsNumber 0 1000 mult
 IsCommand (C.Token tag map cell name size layer) = IsText 1 40 name × IsNumber 1 4 size × IsPlace cell
 IsCommand (C.Place token map cell) = IsPlace cell

@@ -1,7 +1,7 @@
 -- The words that name commands.
 use Rattle.std.specs.Prelude.{ℕ, List, [], ◌∷◌, codes}
 use Rattle.command_json.specs.declared.command.Command.{Command}
-use Rattle.command_json.specs.declared.command.Command.TheVariants.{Hello, Bye, Look, Say, Roll, Macro, Setmacro, Move, Setprop, Light, Make, Remove, Map, Mode, Show, Terrain, Wall, Unwall, Lighttype, Sighttype, Token, Own, Layer, Visible, Sight, Place, Secret, Expose, Hide, Dump}
+use Rattle.command_json.specs.declared.command.Command.TheVariants.{Hello, Bye, Look, Say, Roll, Macro, Setmacro, Move, Setprop, Light, Make, Remove, Map, Mode, Show, Trail, Terrain, Wall, Unwall, Lighttype, Sighttype, Token, Own, Layer, Visible, Sight, Place, Secret, Expose, Hide, Dump}
 use Rattle.command_json.specs.declared.verbs.Verb.{Verb}
 use Rattle.command_json.specs.declared.verbs.Verb.TheVariants as V
 use Rattle.command_json.specs.declared.verbs.GmVerb.{GmVerb}
@@ -29,6 +29,7 @@ gm_verbs =
     (codes "map", G.Map) ∷
     (codes "mode", G.Mode) ∷
     (codes "show", G.Show) ∷
+    (codes "trail", G.Trail) ∷
     (codes "terrain", G.Terrain) ∷
     (codes "wall", G.Wall) ∷
     (codes "unwall", G.Unwall) ∷
@@ -62,6 +63,7 @@ name_of (Remove token) = codes "remove"
 name_of (Map name w h) = codes "map"
 name_of (Mode map mode) = codes "mode"
 name_of (Show map on) = codes "show"
+name_of (Trail map on) = codes "trail"
 name_of (Terrain map rect kind) = codes "terrain"
 name_of (Wall map kind a b) = codes "wall"
 name_of (Unwall map kind a b) = codes "unwall"
@@ -99,6 +101,7 @@ abbrev pub gm_keys_of : GmVerb → List (List ℕ)
 gm_keys_of G.Map = codes "name" ∷ codes "w" ∷ codes "h" ∷ []
 gm_keys_of G.Mode = codes "map" ∷ codes "mode" ∷ []
 gm_keys_of G.Show = codes "map" ∷ codes "on" ∷ []
+gm_keys_of G.Trail = codes "map" ∷ codes "on" ∷ []
 gm_keys_of G.Terrain = codes "map" ∷ codes "rect" ∷ codes "kind" ∷ []
 gm_keys_of G.Wall = codes "map" ∷ codes "kind" ∷ codes "a" ∷ codes "b" ∷ []
 gm_keys_of G.Unwall = codes "map" ∷ codes "kind" ∷ codes "a" ∷ codes "b" ∷ []

@@ -2,7 +2,7 @@
 ghost use Rattle.serde_json.specs.View.{view};
 ghost use Rattle.json_fields.specs.Objects.{Gives};
 ghost use Rattle.command_json.specs.Faults.{Fails};
-ghost use Rattle.command_json.specs.GameMaster.{map_in, mode_in, show_in, terrain_in, wall_in, unwall_in, lighttype_in, sighttype_in, token_in, own_in, layer_in, visible_in, sight_in, place_in, secret_in, expose_in, hide_in, dump_in, gm_fields_in};
+ghost use Rattle.command_json.specs.GameMaster.{map_in, mode_in, show_in, trail_in, terrain_in, wall_in, unwall_in, lighttype_in, sighttype_in, token_in, own_in, layer_in, visible_in, sight_in, place_in, secret_in, expose_in, hide_in, dump_in, gm_fields_in};
 
 use crate::command::{Command, LineFault};
 use crate::fields;
@@ -10,6 +10,11 @@ use crate::verbs::GmVerb;
 use names::Layer;
 use serde_json::Value;
 use std::alloc::Global;
+
+/// The least and the most radius that a command names; that of a darkness is negative.
+const LEAST_RADIUS: i32 = -1000;
+
+const MOST_RADIUS: i32 = 1000;
 
 #[tactic(auto, unfolding(crate::specs::GameMaster::map_in))]
 fn map_of(alloc: Global, object: &Value) -> Result<Command, LineFault>
@@ -51,6 +56,20 @@ fn show_of(alloc: Global, object: &Value) -> Result<Command, LineFault>
         object,
         &["do", "map", "on"],
         Command::Show { map, on },
+    )
+}
+
+#[tactic(auto, unfolding(crate::specs::GameMaster::trail_in))]
+fn trail_of(alloc: Global, object: &Value) -> Result<Command, LineFault>
+    ensures { Gives Fails (λ c. c) result (trail_in (view object.now)) }
+{
+    let map = fields::tag(alloc, object, "map")?;
+    let on = fields::boolean(alloc, object, "on")?;
+    fields::only(
+        alloc,
+        object,
+        &["do", "map", "on"],
+        Command::Trail { map, on },
     )
 }
 
@@ -106,7 +125,7 @@ fn lighttype_of(alloc: Global, object: &Value) -> Result<Command, LineFault>
     ensures { Gives Fails (λ c. c) result (lighttype_in (view object.now)) }
 {
     let name = fields::tag(alloc, object, "name")?;
-    let radius = fields::integer(alloc, object, "radius", 0, 1000)?;
+    let radius = fields::integer(alloc, object, "radius", LEAST_RADIUS, MOST_RADIUS)?;
     fields::only(
         alloc,
         object,
@@ -298,6 +317,7 @@ pub(crate) fn read_gm_fields(
         GmVerb::Map => map_of(alloc, object),
         GmVerb::Mode => mode_of(alloc, object),
         GmVerb::Show => show_of(alloc, object),
+        GmVerb::Trail => trail_of(alloc, object),
         GmVerb::Terrain => terrain_of(alloc, object),
         GmVerb::Wall => wall_of(alloc, object),
         GmVerb::Unwall => unwall_of(alloc, object),

@@ -3,7 +3,7 @@
 use crate::{Command, LineFault, read_line};
 
 /// Lines of the game master's, and what each is: its command's word, or its fault and the field's name.
-static LINES: [(&str, &str, &str); 40] = [
+static LINES: [(&str, &str, &str); 46] = [
     (r#"{"do":"hello","seat":32,"key":"a"}"#, "hello", ""),
     (r#"{"do":"bye"}"#, "bye", ""),
     (r#"{"do":"look"}"#, "look", ""),
@@ -56,6 +56,8 @@ static LINES: [(&str, &str, &str); 40] = [
     (r#"{"do":"map","name":"cave","w":96,"h":1}"#, "map", ""),
     (r#"{"do":"mode","map":"cave","mode":"night"}"#, "mode", ""),
     (r#"{"do":"show","map":"cave","on":true}"#, "show", ""),
+    (r#"{"do":"trail","map":"cave","on":false}"#, "trail", ""),
+    (r#"{"do":"trail","map":"cave","on":1}"#, "BadField", "on"),
     (
         r#"{"do":"terrain","map":"cave","rect":[0,0,1,96],"kind":"."}"#,
         "terrain",
@@ -75,6 +77,26 @@ static LINES: [(&str, &str, &str); 40] = [
         r#"{"do":"lighttype","name":"torch","radius":1000}"#,
         "lighttype",
         "",
+    ),
+    (
+        r#"{"do":"lighttype","name":"murk","radius":-1000}"#,
+        "lighttype",
+        "",
+    ),
+    (
+        r#"{"do":"lighttype","name":"murk","radius":0}"#,
+        "lighttype",
+        "",
+    ),
+    (
+        r#"{"do":"lighttype","name":"murk","radius":-1001}"#,
+        "BadField",
+        "radius",
+    ),
+    (
+        r#"{"do":"lighttype","name":"torch","radius":1001}"#,
+        "BadField",
+        "radius",
     ),
     (
         r#"{"do":"sighttype","name":"human","range":10,"night":0,"mult":2}"#,
@@ -159,6 +181,8 @@ fn lines_are_commands_or_faults(rt: HostRuntime) {
 
 #[test]
 fn a_player_gives_no_command_of_the_game_master(rt: HostRuntime) {
-    let answer = read_line(rt.alloc(), br#"{"do":"map"}"#, false);
-    assert!(rt; matches!(answer, Err(LineFault::GmOnly)));
+    for line in [r#"{"do":"map"}"#, r#"{"do":"trail"}"#] {
+        let answer = read_line(rt.alloc(), line.as_bytes(), false);
+        assert!(rt; matches!(answer, Err(LineFault::GmOnly)));
+    }
 }

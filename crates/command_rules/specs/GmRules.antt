@@ -21,7 +21,7 @@ use Rattle.topology.specs.WallFaults.{wall_fault}
 use Rattle.topology.specs.declared.walls.WallFault.{WallFault}
 use Rattle.topology.specs.declared.walls.WallFault.TheVariants as wall_faults
 use Rattle.command_json.specs.declared.command.Command.{Command}
-use Rattle.command_json.specs.declared.command.Command.TheVariants.{Map, Mode, Show, Terrain, Wall, Unwall, Lighttype, Sighttype, Token as TokenCommand, Own, Layer, Visible, Sight, Place, Secret, Expose, Hide, Dump}
+use Rattle.command_json.specs.declared.command.Command.TheVariants.{Map, Mode, Show, Trail, Terrain, Wall, Unwall, Lighttype, Sighttype, Token as TokenCommand, Own, Layer, Visible, Sight, Place, Secret, Expose, Hide, Dump}
 use Rattle.world.specs.Scene.{Scene}
 use Rattle.world.specs.Rules.{is_known}
 use Rattle.command_rules.specs.declared.refusal.Refusal.{Refusal}
@@ -115,10 +115,11 @@ unfoldable pub gm_rule : Scene → List (List ℕ) → Command → Option Refusa
 gm_rule s tags (Map name w h) = option_map of_map_fault (map_fault s.maps name)
 gm_rule s tags (Mode map mode) = map_rule (λ m. None) (map_of map s.maps)
 gm_rule s tags (Show map on) = map_rule (λ m. None) (map_of map s.maps)
+gm_rule s tags (Trail map on) = map_rule (λ m. None) (map_of map s.maps)
 gm_rule s tags (Terrain map rect kind) = map_rule (rect_rule rect) (map_of map s.maps)
 gm_rule s tags (Wall map kind a b) = map_rule (wall_rule kind a b) (map_of map s.maps)
 gm_rule s tags (Unwall map kind a b) = map_rule (unwall_rule kind a b) (map_of map s.maps)
-gm_rule s tags (Lighttype name radius) = option_map of_light_fault (light_fault s.lights name (coordinate radius))
+gm_rule s tags (Lighttype name radius) = option_map of_light_fault (light_fault s.lights name radius)
 gm_rule s tags (Sighttype name range night mult) = option_map of_sight_fault (sight_fault s.sights name (coordinate range) (coordinate night) (coordinate mult))
 gm_rule s tags (TokenCommand tag map cell name size layer) = map_rule (new_token_rule tags tag (coordinate size) cell) (map_of map s.maps)
 gm_rule s tags (Own token seat on) = token_rule (λ t. player_rule s.fog.players seat) (token_of token s.tokens)

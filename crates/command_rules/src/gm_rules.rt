@@ -171,9 +171,9 @@ fn unwall_rule(
 // ---- types
 
 fn light_type_rule(scene: &Scene, name: Tag, radius: i32) -> Option<Refusal>
-    ensures { result ≡ option_map of_light_fault_lem (light_fault scene.now.lights name (coordinate_lem radius)) }
+    ensures { result ≡ option_map of_light_fault_lem (light_fault scene.now.lights name radius) }
 {
-    match scene.lights().broken_check(name, coordinate(radius)) {
+    match scene.lights().broken_check(name, radius) {
         Some(fault) => Some(of_light_fault(fault)),
         None => None,
     }
@@ -355,6 +355,7 @@ pub fn gm_rule(scene: &Scene, seat: SeatNo, book: &SeatBook, command: &Command) 
         Command::Map { name, .. } => new_map_rule(scene, *name),
         Command::Mode { map, .. } => some_map_rule(scene, *map),
         Command::Show { map, .. } => some_map_rule(scene, *map),
+        Command::Trail { map, .. } => some_map_rule(scene, *map),
         Command::Terrain { map, rect, .. } => rect_rule(scene, *map, *rect),
         Command::Wall { map, kind, a, b } => wall_rule(scene, *map, *kind, *a, *b),
         Command::Unwall { map, kind, a, b } => unwall_rule(scene, *map, *kind, *a, *b),

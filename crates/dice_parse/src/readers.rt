@@ -11,7 +11,7 @@ use reading::Cursor;
 use std::alloc::{AllocError, Global};
 
 /// The next number, of at most nine digits.
-pub(crate) fn number(cursor: &mut Cursor<'_>) -> Option<u32>
+fn number(cursor: &mut Cursor<'_>) -> Option<u32>
     ensures { num_at cursor.old.rest.now ≡ (result, cursor.new.rest.now) }
 {
     let number = cursor.number(8)?;
@@ -20,7 +20,7 @@ pub(crate) fn number(cursor: &mut Cursor<'_>) -> Option<u32>
 
 /// Whether an `e` comes next, which is then taken.
 #[tactic(auto, unfolding(crate::specs::Readers::explode_at))]
-pub(crate) fn explode(cursor: &mut Cursor<'_>) -> bool
+fn explode(cursor: &mut Cursor<'_>) -> bool
     ensures { explode_at cursor.old.rest.now ≡ (Some result, cursor.new.rest.now) }
 {
     cursor.takes(b'e')
@@ -28,7 +28,7 @@ pub(crate) fn explode(cursor: &mut Cursor<'_>) -> bool
 
 /// The number behind an `r`, where there is one.
 #[tactic(auto, unfolding(crate::specs::Readers::again_at))]
-pub(crate) fn again(cursor: &mut Cursor<'_>) -> Option<Option<u32>>
+fn again(cursor: &mut Cursor<'_>) -> Option<Option<u32>>
     ensures { again_at cursor.old.rest.now ≡ (result, cursor.new.rest.now) }
 {
     if !cursor.takes(b'r') {
@@ -55,7 +55,7 @@ fn kind(cursor: &mut Cursor<'_>) -> Option<Tail>
 }
 
 #[tactic(auto, unfolding(crate::specs::Readers::tail_at))]
-pub(crate) fn tail(cursor: &mut Cursor<'_>) -> Option<Option<(Tail, u32)>>
+fn tail(cursor: &mut Cursor<'_>) -> Option<Option<(Tail, u32)>>
     ensures { tail_at cursor.old.rest.now ≡ (result, cursor.new.rest.now) }
 {
     let Some(kind) = kind(cursor) else {

@@ -1,6 +1,6 @@
 //! Texts with the answers that the grammar gives them, worked out apart from this program.
 
-use crate::{DiceFault, Group, Part, Tail, Term, read_dice, read_group};
+use crate::{DiceFault, Group, Part, Tail, Term, read_dice};
 
 #[test]
 fn places_where_texts_leave_the_grammar(rt: HostRuntime) {
@@ -81,35 +81,4 @@ fn terms_of_a_text(rt: HostRuntime) {
         },
     ];
     assert!(rt; dice.terms() == wanted.as_slice());
-}
-
-#[test]
-fn longest_groups_at_places(rt: HostRuntime) {
-    let rows = [
-        ("4d6k3+1", 0, 5),
-        ("4d6k", 0, 3),
-        ("x 2d20er", 2, 7),
-        ("2d20er1s", 0, 7),
-        ("2d20r1d2k3", 0, 8),
-        ("1d1234567890", 0, 11),
-        ("999d0", 2, 5),
-    ];
-    for (text, from, behind) in rows {
-        let found = if from as usize <= text.len() && text.len() < 20 {
-            read_group(text, from)
-        } else {
-            None
-        };
-        let Some((_group, place)) = found else {
-            assert!(rt; false, "{text}");
-            return;
-        };
-        assert!(rt; place == behind, "{text}");
-    }
-    for text in ["", "d6", "12", "12d", "1234567890d6", "01d6"] {
-        if text.len() < 20 {
-            let none = read_group(text, 0).is_none();
-            assert!(rt; none, "{text}");
-        }
-    }
 }

@@ -1,11 +1,9 @@
 -- The lines of a script, one after the other.
-use Rattle.std.proofs.Common.{◌≡◌, ℕ, zero, suc, ◌+◌, ◌-◌, ◌≤◌, List, [], ◌∷◌, ◌++◌, append_assoc, refl, sym, ap, ◌∙◌, arith, true, false, Bool, cond, ◌==◌}
+use Rattle.std.proofs.Common.{◌≡◌, ℕ, zero, suc, ◌+◌, ◌-◌, ◌≤◌, List, ◌++◌, append_assoc, refl, sym, ap, ◌∙◌, arith, true, false, Bool, cond, ◌==◌}
 use Rattle.std.proofs.lemmas.List.{append-nil}
 use Rattle.std.specs.List.{flat_map, range_with_len}
-use Rattle.std.specs.Prelude.{codes}
-use Rattle.serde_json.specs.Data.{Data}
 use Rattle.serde_json.specs.Written.{has_float}
-use Rattle.drill.specs.Script.{Course, Made, after, drawn, drill_script, first_course, gm_line, hello, hellos_text, line_after, line_of, lines_after, move_line, player_line, script_line}
+use Rattle.drill.specs.Script.{Course, Made, after, drawn, drill_script, first_course, gm_line, hello, hellos_text, line_after, lines_after, move_line, player_line, script_line}
 
 -- ---- no command has a float
 

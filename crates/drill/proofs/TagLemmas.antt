@@ -1,8 +1,8 @@
 -- The tags of a drill's tokens: tags, and all different.
-use Rattle.std.proofs.Common.{◌≡◌, ℕ, zero, suc, ◌+◌, ◌/◌, ◌%◌, ◌≤◌, ◌<◌, List, [], ◌∷◌, ◌++◌, map, refl, sym, ap, ◌∙◌, arith, subst, true, false, Bool, ◌||◌, ◌⊎◌, inl, inr}
-use Rattle.std.specs.Prelude.{All, codes, decimal, ◌^◌}
+use Rattle.std.proofs.Common.{◌≡◌, ℕ, zero, suc, ◌+◌, ◌/◌, ◌%◌, ◌≤◌, ◌<◌, List, [], ◌∷◌, ◌++◌, map, refl, ap, ◌∙◌, arith, true, false, Bool, ◌||◌, ◌⊎◌, inl, inr}
+use Rattle.std.specs.Prelude.{All, decimal}
 use Rattle.std.proofs.lemmas.List.Elements.{All-nil, All-cons, All-head, All-tail}
-use Rattle.std.specs.List.{list_any, range_with_len}
+use Rattle.std.specs.List.{range_with_len}
 use Rattle.std.specs.Str.{bytes_eq}
 use Rattle.std.proofs.lemmas.Bool.Decides.{nat_tests}
 use Rattle.std.proofs.lemmas.Fmt.{decimal_digit, decimal_injective, decimal_step}
@@ -10,8 +10,6 @@ use Rattle.std.proofs.lemmas.Slice.Eq.{bytes_eq-Decides}
 use Rattle.names.specs.Tag.{is_tag, is_tag_byte}
 use Rattle.seats.specs.Book.{tag_used}
 use Rattle.std.proofs.lemmas.List.FromFn.{map-range_with_len_more}
-use Rattle.seats.specs.Book.{Book}
-use Rattle.cells.specs.declared.cell.Cell.{Cell}
 use Rattle.drill.specs.Numbered.{cell_at, cells_up_to, tag_at}
 use Rattle.drill.specs.Campaign.{book_at}
 

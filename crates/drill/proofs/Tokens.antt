@@ -1,7 +1,7 @@
 -- A drill's tokens fit into its world.
-use Rattle.std.proofs.Common.{◌≡◌, ℕ, zero, suc, ◌+◌, ◌*◌, ◌%◌, ◌≤◌, ◌<◌, List, [], ◌∷◌, map, Some, None, refl, sym, ap, ◌∙◌, arith, true, false, Bool, not, ◌&&◌, cond, nat_lt, nat_le, ◌==◌, subst}
+use Rattle.std.proofs.Common.{◌≡◌, ℕ, zero, suc, ◌+◌, ◌*◌, ◌%◌, ◌≤◌, ◌<◌, List, [], ◌∷◌, Some, None, refl, sym, ap, ◌∙◌, arith, true, false, Bool, not, ◌&&◌, cond, nat_lt, nat_le, ◌==◌, subst}
 use Rattle.std.specs.Prelude.{codes, is_some}
-use Rattle.std.specs.List.{list_all, range_with_len}
+use Rattle.std.specs.List.{list_all}
 use Rattle.std.proofs.lemmas.Bool.Decides.{nat_tests}
 use Rattle.names.specs.declared.token_id.TokenId.{TokenId}
 use Rattle.topology.specs.declared.wall.Wall.{Wall}
@@ -15,7 +15,7 @@ use Rattle.maps.proofs.NameLemmas.{both}
 use Rattle.cells.specs.declared.cell.Cell.{Cell}
 use Rattle.drill.specs.Numbered.{cell_at, tag_at}
 use Rattle.drill.specs.Script.{IsOnMap}
-use Rattle.drill.specs.Campaign.{book_at, drill_lights, drill_sights, light_at, owners_at, sight_at, token_at, tokens_up_to, walls_up_to, world_with}
+use Rattle.drill.specs.Campaign.{book_at, drill_lights, drill_sights, token_at, tokens_up_to, walls_up_to, world_with}
 use Rattle.drill.specs.Draws.{draw}
 use Rattle.drill.proofs.TagLemmas.{one_used, tags_differ}
 

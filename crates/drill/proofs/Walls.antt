@@ -10,7 +10,7 @@ use Rattle.topology.specs.WallLists.{has_wall, with_wall}
 use Rattle.topology.specs.declared.wall.Wall.{Wall}
 use Rattle.topology.specs.declared.walls.WallFault.{WallFault}
 use Rattle.topology.specs.declared.walls.WallFault.TheVariants.{OffMap, DegenerateWall, WallThere, WallLimit, Memory}
-use Rattle.world.specs.Scene.{Scene, with_grid}
+use Rattle.world.specs.Scene.{with_grid}
 use Rattle.world.specs.World.{World}
 use Rattle.tokens.specs.declared.token.Token.{Token}
 use Rattle.drill.specs.Campaign.{and_wall, map_with, wall_drawn, walls_up_to, world_with}

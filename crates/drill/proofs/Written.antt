@@ -1,11 +1,10 @@
 -- The campaign text takes a drill's world.
-use Rattle.std.proofs.Common.{◌≡◌, ℕ, zero, suc, ◌+◌, ◌/◌, ◌≤◌, ◌<◌, List, [], ◌∷◌, ◌++◌, refl, ap, ◌∙◌, arith, true, Bool, ◌&&◌, ◌⊎◌, inl, inr, length}
+use Rattle.std.proofs.Common.{◌≡◌, ℕ, zero, suc, ◌+◌, ◌/◌, ◌≤◌, ◌<◌, ◌++◌, refl, arith, true, Bool, ◌&&◌, ◌⊎◌, inl, inr}
 use Rattle.std.specs.Prelude.{codes, decimal, map}
 use Rattle.std.specs.List.{list_all, range_with_len}
-use Rattle.std.proofs.lemmas.Bool.Decides.{nat_tests}
 use Rattle.std.proofs.lemmas.Fmt.{decimal_digit, decimal_step}
 use Rattle.tokens.specs.declared.token.Token.{Token}
-use Rattle.campaign_writing.specs.Written.{IsWritten, are_written_keys, are_written_macros, is_written_key, is_written_token}
+use Rattle.campaign_writing.specs.Written.{IsOfFirst, IsWritten, are_written_keys, are_written_macros, is_written_key, is_written_token}
 use Rattle.world.proofs.TokenRules.{all_put}
 use Rattle.drill.specs.Numbered.{tag_at}
 use Rattle.drill.specs.Campaign.{book_at, drill_world, token_at, tokens_up_to, world_with}
@@ -56,3 +55,7 @@ drill_is_written n = record {
   keys = short_keys 5 0 (omega arith);
   macros = no_macros 5 0;
 }
+
+pub drill_is_of_first : (n : ℕ) → IsOfFirst (drill_world n)
+unfolding world_with
+drill_is_of_first n = record { trails = refl; darknesses = refl }

@@ -1,11 +1,10 @@
 -- The campaign of a drill.
-use Rattle.std.specs.Prelude.{ℕ, zero, suc, ◌+◌, ◌*◌, ◌%◌, ◌==◌, nat_lt, true, List, [], ◌∷◌, ◌++◌, map, replicate, codes, decimal, min, if◌then◌else◌, Option, Some, None}
+use Rattle.std.specs.Prelude.{ℕ, ℤ, pos, zero, suc, ◌+◌, ◌*◌, ◌%◌, ◌==◌, nat_lt, true, false, List, [], ◌∷◌, ◌++◌, map, replicate, codes, decimal, min, if◌then◌else◌, Option, Some, None}
 use Rattle.std.specs.List.{range_with_len}
 use Rattle.names.specs.Letters.{blank}
 use Rattle.names.specs.declared.kinds.Layer.{Layer}
 use Rattle.names.specs.declared.kinds.Layer.TheVariants.{Token as TokenLayer, Object, Hidden}
 use Rattle.names.specs.declared.kinds.Mode.TheVariants.{Night}
-use Rattle.names.specs.declared.token_id.TokenId.{TokenId}
 use Rattle.lattice.specs.Coordinates.{Coordinates}
 use Rattle.cells.specs.Cells.{Extent}
 use Rattle.maps.specs.Maps.{Grid}
@@ -19,7 +18,6 @@ use Rattle.fog_book.specs.Exposures.{Fog, blank_sets}
 use Rattle.seats.specs.Book.{Book, fresh_book}
 use Rattle.sight_types.specs.declared.Sight.{Sight}
 use Rattle.world.specs.World.{World}
-use Rattle.world.specs.Scene.{Scene}
 use Rattle.drill.specs.Draws.{draw}
 use Rattle.drill.specs.Numbered.{tag_at, cell_at}
 
@@ -48,9 +46,9 @@ walls_up_to n (suc k) = and_wall (walls_up_to n k) (wall_drawn n (4 * k))
 abbrev pub whole_size : Extent
 whole_size = record { w = 96; h = 96 }
 
--- the map with these walls
+-- the map with these walls, without a trail
 abbrev pub map_with : List Wall → Grid
-map_with walls = record { name = codes "drill"; mode = Night; shown = true; letters = replicate 9216 blank; walls = record { extent = whole_size; vbl = walls; mbl = [] } }
+map_with walls = record { name = codes "drill"; mode = Night; shown = true; trail = false; letters = replicate 9216 blank; walls = record { extent = whole_size; vbl = walls; mbl = [] } }
 
 -- ---- tokens
 
@@ -101,8 +99,8 @@ book_at seat = record (fresh_book seat (codes "k" ++ decimal seat) (replicate 32
 
 -- ---- the campaign
 
-abbrev pub drill_lights : List (List ℕ × ℕ)
-drill_lights = (codes "torch", 8) ∷ []
+abbrev pub drill_lights : List (List ℕ × ℤ)
+drill_lights = (codes "torch", pos 8) ∷ []
 
 abbrev pub drill_sights : List (List ℕ × Sight)
 drill_sights = (codes "dark", record { range = 30; night = 12; mult = 4 }) ∷ (codes "human", record { range = 30; night = 0; mult = 2 }) ∷ []

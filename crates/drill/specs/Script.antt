@@ -1,5 +1,5 @@
 -- The script of a drill: one line for each command, a seat's number, a space and the command as compact JSON.
-use Rattle.std.specs.Prelude.{ℕ, zero, suc, ◌+◌, ◌-◌, ◌*◌, ◌<◌, ◌==◌, ◌&&◌, List, [], ◌∷◌, ◌++◌, map, codes, decimal, if◌then◌else◌, slice_index_or, slice_set}
+use Rattle.std.specs.Prelude.{ℕ, zero, suc, ◌+◌, ◌-◌, ◌*◌, ◌<◌, ◌==◌, ◌&&◌, List, [], ◌∷◌, ◌++◌, codes, decimal, if◌then◌else◌, slice_index_or, slice_set}
 use Rattle.std.specs.List.{range_with_len, flat_map}
 use Rattle.cells.specs.declared.cell.Cell.{Cell}
 use Rattle.serde_json.specs.Data.{Data, string, object, no_members, member}

@@ -73,7 +73,7 @@ piece_to (Roll at o x (Some y)) h =
     let b = both (tree_fits x) (tree_fits y) a.1 in
     (options_to o a.0, tree_to x b.0, tree_to y b.1)
 
-pieces_to : (ps : List Piece) → are_within ps ≡ true → PiecesFit ps
+pub pieces_to : (ps : List Piece) → are_within ps ≡ true → PiecesFit ps
 pieces_to [] h = tt
 pieces_to (p ∷ ps) h = let a = both (piece_fits p) (are_within ps) h in (piece_to p a.0, pieces_to ps a.1)
 

@@ -95,8 +95,8 @@ fn passed_sight_of(scene: &Scene, token: &Token) -> Option<Sight>
     }
 }
 
-/// The radius of the token's light, if it has a type of light that is there.
-pub(crate) fn radius_of(scene: &Scene, token: &Token) -> Option<u8>
+/// The radius of the token's light, if it has a type of light that is there; negative for a darkness.
+pub(crate) fn radius_of(scene: &Scene, token: &Token) -> Option<i8>
     ensures { result ≡ named_type scene.now.lights token.now.light }
 {
     match token.light {

@@ -14,7 +14,7 @@ use Rattle.campaign_law.specs.Law.{Course, IsOpening, answer_after, bytes_of, wo
 use Rattle.command_effects.specs.Settle.{IsSettled}
 use Rattle.campaign_law.proofs.Lists.{ap₂}
 use Rattle.campaign_law.proofs.Settled.{after_settled, replay_settled}
-use Rattle.command_looks.specs.Touched.{looks_of}
+use Rattle.campaign_core.specs.Looking.{looks_at}
 use Rattle.line_io.specs.Script.{script_parts}
 use Rattle.script_play.specs.declared.run.Played.{Played}
 use Rattle.script_play.specs.declared.tally.Tally.{Tally}
@@ -191,7 +191,7 @@ module _ (old new : Course) (e : Entry) (history : new.history ≡ old.history +
       ∙ sym (one_sent (world_of old) e)
       ∙ ap (lines_sent (world_of old)) (sym one)
 
-  one_looks : new.looks ≤ old.looks + looks_of (world_of old).scene (outcome_of (world_of old) e).done → new.looks ≤ old.looks + looks_in (world_of old) (entries_since old new)
+  one_looks : new.looks ≤ old.looks + looks_at (world_of old) e → new.looks ≤ old.looks + looks_in (world_of old) (entries_since old new)
   unfolding looks_in
   one_looks le = let same = ap (looks_in (world_of old)) one in omega (arith, le, same)
 
@@ -205,7 +205,7 @@ module _ (old new : Course) (e : Entry) (history : new.history ≡ old.history +
 
   -- a line of the script, and what it sends
   pub adds_line : (a b : Tally) (refused : Bool) (lines : List (List ℕ)) → is_line e ≡ true → refused ≡ is_some (outcome_of (world_of old) e).refusal → lines ≡ lines_sent (world_of old) (entries_since old new)
-      → new.looks ≤ old.looks + looks_of (world_of old).scene (outcome_of (world_of old) e).done → b ≡ with_sent (with_line a refused) lines → Adds a b old new
+      → new.looks ≤ old.looks + looks_at (world_of old) e → b ≡ with_sent (with_line a refused) lines → Adds a b old new
   adds_line a b refused lines line said sent looks is = record {
     lines = let e = ap (λ (t : Tally). t.lines) is in omega (arith, e, one_line line);
     refused = let e = ap (λ (t : Tally). t.refused) is in let same = ap one_if said in omega (arith, e, same, one_refused line);
@@ -214,7 +214,7 @@ module _ (old new : Course) (e : Entry) (history : new.history ≡ old.history +
     looks = one_looks looks;
   }
 
-  looks_more : (start : Course) → GoesOn start old → GoesOn old new → old.looks ≤ start.looks + looks_in (world_of start) (entries_since start old) → new.looks ≤ old.looks + looks_of (world_of old).scene (outcome_of (world_of old) e).done → new.looks ≤ start.looks + looks_in (world_of start) (entries_since start new)
+  looks_more : (start : Course) → GoesOn start old → GoesOn old new → old.looks ≤ start.looks + looks_in (world_of start) (entries_since start old) → new.looks ≤ old.looks + looks_at (world_of old) e → new.looks ≤ start.looks + looks_in (world_of start) (entries_since start new)
   looks_more start g h before le =
       let all : looks_in (world_of start) (entries_since start new) ≡ looks_in (world_of start) (entries_since start old) + looks_in (world_of old) (entries_since old new) =
       ap (looks_in (world_of start)) (since_all start old new g h) ∙ looks_both (world_of start) (entries_since start old) (entries_since old new)
@@ -224,7 +224,7 @@ module _ (old new : Course) (e : Entry) (history : new.history ≡ old.history +
 
 -- one more entry, behind those that were entered before
 pub looks_after : (start now new : Course) (yielded : List Entry) (e : Entry) → now.origin ≡ start.origin → now.history ≡ start.history ++ yielded → new.origin ≡ now.origin → new.history ≡ now.history ++ e ∷ []
-    → now.looks ≤ start.looks + looks_in (world_of start) (entries_since start now) → new.looks ≤ now.looks + looks_of (world_of now).scene (outcome_of (world_of now) e).done → new.looks ≤ start.looks + looks_in (world_of start) (entries_since start new)
+    → now.looks ≤ start.looks + looks_in (world_of start) (entries_since start now) → new.looks ≤ now.looks + looks_at (world_of now) e → new.looks ≤ start.looks + looks_in (world_of start) (entries_since start new)
 looks_after start now new yielded e o h o' h' before le = looks_more now new e h' start (goes_on start now yielded o h) (goes_on now new (e ∷ []) o' h') before le
 
 -- ---- courses

@@ -4,7 +4,7 @@ use Rattle.campaign_law.specs.declared.entry.Entry.{Entry}
 use Rattle.campaign_law.specs.declared.entry.Entry.TheVariants.{Join, Line}
 use Rattle.campaign_law.specs.World.{World, lines_of, outcome_of, step}
 use Rattle.campaign_law.specs.Law.{Course, bytes_of, world_of}
-use Rattle.command_looks.specs.Touched.{looks_of}
+use Rattle.campaign_core.specs.Looking.{looks_at}
 use Rattle.script_play.specs.declared.tally.Tally.{Tally}
 use Rattle.script_play.specs.Played.{entries_since}
 
@@ -63,7 +63,7 @@ lines_sent w (e ∷ es) = entry_lines_below w e 33 ++ lines_sent (step w e) es
 -- the greatest number of looks that the entries from a world take
 unfoldable pub looks_in : World → List Entry → ℕ
 looks_in w [] = 0
-looks_in w (e ∷ es) = looks_of w.scene (outcome_of w e).done + looks_in (step w e) es
+looks_in w (e ∷ es) = looks_at w e + looks_in (step w e) es
 
 -- what was counted of the entries of a campaign behind those that it had, and how many looks they took at most
 pub record Adds (before after : Tally) (old new : Course) : Type 0 where

@@ -1,6 +1,6 @@
 -- What a seat is shown answers the rules as the scene does, with the whole scene besides for the game master.
 use Rattle.std.proofs.Common.{◌≡◌, ℕ, Bool, true, false, cond, ◌&&◌, ◌||◌, List, [], ◌∷◌, Some, None, refl, ◌∙◌, ap}
-use Rattle.std.specs.Prelude.{option_map, map, is_some}
+use Rattle.std.specs.Prelude.{ℤ, option_map, map, is_some}
 use Rattle.std.specs.Str.{bytes_eq}
 use Rattle.std.specs.List.{list_any}
 use Rattle.names.specs.declared.token_id.TokenId.{TokenId}
@@ -51,7 +51,7 @@ mine_same s q id t h = own_same (acts_on s q t) (and_second (has_id id t) (acts_
     own_same true h = refl
     own_same false h = cc
 
-light_same : (name : List ℕ) (lights : List (List ℕ × ℕ))
+light_same : (name : List ℕ) (lights : List (List ℕ × ℤ))
     → list_any (λ light. bytes_eq name light.0) (map light_text lights) ≡ list_any (λ light. bytes_eq name light.0) lights
 light_same name [] = refl
 light_same name (l ∷ ls) = ap (λ b. bytes_eq name l.0 || b) (light_same name ls)

@@ -41,7 +41,12 @@ fn night_row(alloc: Global, size: Size, id: TokenId) -> Result<CellSet, Fail> {
         .put(id, open_field(alloc, size, eye)?)
         .map_err(|_| "no memory")?;
     let mut seen = CellSet::new(alloc, size)?;
-    let lamp = Lamp { id, eye, radius: 5 };
+    let lamp = Lamp {
+        id,
+        eye,
+        radius: 5,
+        dark: false,
+    };
     seen_cells(Mode::Night, SIGHT, id, eye, &[lamp], &fields, &mut seen);
     Ok(seen)
 }

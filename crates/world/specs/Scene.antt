@@ -1,5 +1,5 @@
 -- All of a campaign but its seats' books: maps, tokens, types, and what is exposed.
-use Rattle.std.specs.Prelude.{ℕ, List, []}
+use Rattle.std.specs.Prelude.{ℕ, ℤ, List, []}
 use Rattle.names.specs.declared.token_id.TokenId.{TokenId}
 use Rattle.cells.specs.Cells.{Extent}
 use Rattle.fog_book.specs.Exposures.{Fog, with_map as with_fog_of_map}
@@ -13,8 +13,8 @@ pub record Scene : Type 0 where
   pub maps : List Grid
   -- in order of ids
   pub tokens : List Token
-  -- radii of lights, in byte order of names
-  pub lights : List (List ℕ × ℕ)
+  -- radii of lights, and negative ones of darknesses, in byte order of names
+  pub lights : List (List ℕ × ℤ)
   -- in byte order of names
   pub sights : List (List ℕ × Sight)
   -- what is exposed to each player

@@ -7,7 +7,7 @@ ghost use Rattle.fog_book.specs.Rects.{with_rect};
 ghost use Rattle.lights.specs.Lights.{IsFaultOf as IsLightFaultOf, light_fault};
 ghost use Rattle.names.specs.Letters.{is_letter};
 ghost use Rattle.maps.specs.Letters.{IsOn};
-ghost use Rattle.maps.specs.Maps.{has_map, map_of, new_map, shown_if as map_shown_if, with_letters, with_map, with_mode, with_wall_of, without_wall_of};
+ghost use Rattle.maps.specs.Maps.{has_map, map_of, new_map, shown_if as map_shown_if, trail_if, with_letters, with_map, with_mode, with_wall_of, without_wall_of};
 ghost use Rattle.maps.specs.MapFaults.{IsMapFaultOf, map_fault};
 ghost use Rattle.sight_types.specs.Sights.{IsFaultOf as IsSightFaultOf, sight_fault};
 ghost use Rattle.tokens.specs.Properties.{is_full_for, value_limit};
@@ -161,6 +161,14 @@ impl Scene {
         self.maps.set_shown(map, on);
     }
 
+    /// Gives the map of that name, which is there, a trail, or takes it. All else stays.
+    pub fn set_trail(&mut self, map: Tag, on: bool)
+        requires { has_map map self.old.maps ≡ true }
+        ensures { self.new ≡ with_grid map (trail_if on) self.old }
+    {
+        self.maps.set_trail(map, on);
+    }
+
     /// Gives each cell of a rectangle the letter, `a` to `z` or `.`; the map is there, and the rectangle is on it. All
     /// else stays.
     pub fn set_ground(&mut self, map: Tag, rect: Rect, letter: u8)
@@ -212,7 +220,7 @@ impl Scene {
     /// Adds the light type with this name, or changes its radius. All else stays.
     ///
     /// The checks are made in the order of `LightFault`; after a fault the scene is as before.
-    pub fn set_light_type(&mut self, name: Tag, radius: u32) -> Result<(), LightFault>
+    pub fn set_light_type(&mut self, name: Tag, radius: i32) -> Result<(), LightFault>
         ensures set { OnOk result (self.new ≡ record self.old { lights = with_type name radius self.old.lights }) }
         ensures ok { OnOk result (light_fault self.old.lights name radius ≡ None) }
         ensures fault { IfErr result (IsLightFaultOf (light_fault self.old.lights name radius)) }

@@ -7,7 +7,7 @@ ghost use Rattle.fog_book.specs.Rects.{with_rect};
 ghost use Rattle.lights.specs.Lights.{IsFaultOf as IsLightFaultOf, light_fault};
 ghost use Rattle.names.specs.Letters.{is_letter};
 ghost use Rattle.maps.specs.Letters.{IsOn};
-ghost use Rattle.maps.specs.Maps.{has_map, map_of, shown_if as map_shown_if, with_letters, with_mode, with_wall_of, without_wall_of};
+ghost use Rattle.maps.specs.Maps.{has_map, map_of, shown_if as map_shown_if, trail_if, with_letters, with_mode, with_wall_of, without_wall_of};
 ghost use Rattle.maps.specs.MapFaults.{IsMapFaultOf, map_fault};
 ghost use Rattle.seats.specs.Book.{counted, freed, join_refusal, joined, left, macro_fault, macro_of, stream_of, tag_used, tags_spent, with_macro, with_tag, without_macro, IsBookFaultOf};
 ghost use Rattle.seats.specs.declared.tag_fault.TagFault.TheVariants.{TagUsed, TagsSpent};
@@ -198,6 +198,14 @@ impl World {
         self.scene.set_shown(map, on);
     }
 
+    /// Gives the map of that name, which is there, a trail, or takes it. All else stays.
+    pub fn set_trail(&mut self, map: Tag, on: bool)
+        requires { has_map map self.old.scene.maps ≡ true }
+        ensures { self.new ≡ record self.old { scene = with_grid map (trail_if on) self.old.scene } }
+    {
+        self.scene.set_trail(map, on);
+    }
+
     /// Gives each cell of a rectangle the letter, `a` to `z` or `.`; the map is there, and the rectangle is on it. All
     /// else stays.
     pub fn set_ground(&mut self, map: Tag, rect: Rect, letter: u8)
@@ -249,7 +257,7 @@ impl World {
     /// Adds the light type with this name, or changes its radius. All else stays.
     ///
     /// The checks are made in the order of `LightFault`; after a fault the world is as before.
-    pub fn set_light_type(&mut self, name: Tag, radius: u32) -> Result<(), LightFault>
+    pub fn set_light_type(&mut self, name: Tag, radius: i32) -> Result<(), LightFault>
         ensures set { OnOk result (self.new ≡ record self.old { scene = record self.old.scene { lights = with_type name radius self.old.scene.lights } }) }
         ensures ok { OnOk result (light_fault self.old.scene.lights name radius ≡ None) }
         ensures fault { IfErr result (IsLightFaultOf (light_fault self.old.scene.lights name radius)) }

@@ -19,11 +19,13 @@ export function askMap(table) {
 /** Shows the types that there are, and asks for more. */
 export function askTypes(table) {
   const { lights, sights } = table.seat.view;
-  const known = Object.entries(lights).map(([name, radius]) => `light ${name}: ${radius} cells`);
+  const words = (radius) => (radius < 0 ? `${-radius} cells of darkness` : `${radius} cells`);
+  const known = Object.entries(lights).map(([name, radius]) => `light ${name}: ${words(radius)}`);
   for (const [name, [range, night, mult]] of Object.entries(sights))
     known.push(`sight ${name}: ${range} cells by day, ${night} in the dark, lights by ${mult}/2 of it`);
   const more = [
     button("A light…", () => askLight(table)),
+    button("A darkness…", () => askDarkness(table)),
     button("A sight…", () => askSight(table)),
     el("ul", {}, ...known.map((words) => el("li", {}, words))),
   ];
@@ -37,6 +39,16 @@ function askLight(table) {
   ];
   const send = ({ name, radius }) => table.send({ do: "lighttype", name: tagOf(name), radius });
   ask("A type of light", fields, send);
+}
+
+/** A light type whose radius is sent below 0. */
+function askDarkness(table) {
+  const fields = [
+    ["name", "Name", nameField()],
+    ["radius", "Cells in which lights go out", numberField(2, 1, 20)],
+  ];
+  const send = ({ name, radius }) => table.send({ do: "lighttype", name: tagOf(name), radius: -radius });
+  ask("A darkness, for a token like a light", fields, send);
 }
 
 function askSight(table) {

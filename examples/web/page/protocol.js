@@ -85,7 +85,7 @@ const REFUSALS = {
   WallThere: "that wall is there",
   NoSuchWall: "there is no such wall",
   TypeLimit: "there are 32 types",
-  BadRadius: "a light reaches 1 to 20 cells",
+  BadRadius: "a light reaches 1 to 20 cells, a darkness -20 to -1",
   BadRange: "a sight reaches 0 to 40 cells by day and at night, and multiplies lights by 1 to 4",
   IdUsed: "you have used that name for a token before",
   TokenLimit: "you have made 2,048 tokens",

@@ -117,6 +117,7 @@ export class Seat {
     if (command === "move") return this.#takeSteps(sent, part(line, "moved", "int"));
     if (command === "dump") return this.#takeDump(part(line, "dump", "object"), text, sent);
     if (command === "wall" || command === "unwall") this.walls?.take(sent);
+    if (command === "trail") this.walls?.takeTrail(sent);
     if (command === "setmacro" && sent.do === "setmacro") this.#takeMacro(sent);
     return { kind: "ok", command, sent };
   }

@@ -54,13 +54,20 @@ function clearFrom(eye, reach, walls) {
   };
 }
 
-/** Whether a token of that sight sees a cell, by the map's mode; `lamps` are eyes and radii of lights. */
+/**
+ * Whether a token of that sight sees a cell, by the map's mode. `lamps` are eyes and radii, of a darkness a
+ * negative one.
+ */
 function sightOf(eye, [range, night, mult], mode, walls, lamps) {
   if (mode === "off") return () => true;
   const clear = clearFrom(eye, 2 * range, walls);
   if (mode === "day") return clear;
-  const lit = lamps.map(([lamp, radius]) => clearFrom(lamp, radius * mult, walls));
-  const isBright = (x, y) => isWithin(eye, 2 * night, x, y) || lit.some((isLit) => isLit(x, y));
+  const lights = lamps.filter(([, radius]) => radius > 0);
+  const lit = lights.map(([lamp, radius]) => clearFrom(lamp, radius * mult, walls));
+  const darknesses = lamps.filter(([, radius]) => radius < 0);
+  const dark = darknesses.map(([lamp, radius]) => clearFrom(lamp, -radius * 2, walls));
+  const isLit = (x, y) => lit.some((reaches) => reaches(x, y)) && !dark.some((reaches) => reaches(x, y));
+  const isBright = (x, y) => isWithin(eye, 2 * night, x, y) || isLit(x, y);
   return (x, y) => clear(x, y) && isBright(x, y);
 }
 

@@ -12,6 +12,7 @@ import { LAYERS } from "./view.js";
 
 const LONGEST_NAME = 40;
 const MODES = "off: all is seen; day: what isn't behind walls; night: what is lit";
+const TRAIL = "A walk of many steps also exposes what is seen on the way";
 const UNDO = "Takes back the last thing done, as far as the server can (Ctrl-Z)";
 
 const named = (words, more = {}) => ({ "aria-label": words, ...more });
@@ -49,6 +50,8 @@ export class Tools {
     const lit = named("How the map is lit", { title: MODES });
     this.mode = choice(["off", "day", "night"], "day", setMode, lit);
     this.shown = checkbox(false, (on) => this.send({ do: "show", map: this.map(), on }));
+    const setTrail = (on) => this.send({ do: "trail", map: this.map(), on });
+    this.trail = checkbox(false, setTrail, { title: TRAIL });
     const by = named("Whose eyes the map is shown by");
     this.by = choice([["", "my own"]], "", () => this.table.refresh(), by);
     this.options = el("span", { class: "options", hidden: true });
@@ -94,6 +97,7 @@ export class Tools {
       labelled("Eyes: ", this.by),
       labelled("Lit: ", this.mode),
       labelled("Shown ", this.shown),
+      labelled("Trail ", this.trail),
       button("Undo", () => this.takeBack(), { title: UNDO }),
       button("New map…", () => askMap(this.table)),
       button("Types…", () => askTypes(this.table)),
@@ -147,6 +151,7 @@ export class Tools {
     if (!grid) return;
     this.mode.value = grid.mode;
     this.shown.checked = grid.shown;
+    this.trail.checked = this.table.seat.walls?.trails.has(grid.name) ?? false;
   }
 
   players() {

@@ -17,6 +17,7 @@ export function inverse(command, view) {
     unwall: () => [{ ...command, do: "wall" }],
     mode: () => grid && [{ ...command, mode: grid.mode }],
     show: () => grid && [{ ...command, on: grid.shown }],
+    trail: () => [{ ...command, on: !command.on }],
     terrain: () => grid && lettersOf(command, grid),
     token: () => [{ do: "remove", token: `0:${command.tag}` }],
     place: back,

@@ -123,7 +123,7 @@ export class View {
   maps = new Map();
   /** @type {Map<string, Token>} */
   tokens = new Map();
-  lights = {}; // a radius for each name
+  lights = {}; // a radius for each name, of a darkness a negative one
   sights = {}; // [range, night, mult] for each name
 
   /** The view of a full line. */

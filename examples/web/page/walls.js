@@ -1,4 +1,4 @@
-// Walls, which only the game master's page knows: by a dump, and from then on by its own lines.
+// Walls and trails, which only the game master's page knows: by a dump, and from then on by its own lines.
 
 /**
  * @typedef {[number, number]} Point of half cells
@@ -13,15 +13,19 @@ export function wallOf([ax, ay], [bx, by]) {
   return ax < bx || (ax === bx && ay <= by) ? [ax, ay, bx, by] : [bx, by, ax, ay];
 }
 
-/** The walls of all maps. */
+/** The walls of all maps, and which maps have a trail. */
 export class Walls {
   /** @type {Map<string, WallsOfMap>} */
   maps = new Map();
+  /** @type {Set<string>} */
+  trails = new Set();
 
   constructor(dump) {
-    for (const map of dump.maps)
+    for (const map of dump.maps) {
+      this.takeTrail({ map: map.name, on: map.trail });
       for (const kind of KINDS_OF_WALL)
         for (const wall of map[kind]) this.of(map.name)[kind].set(wall.join(), wall);
+    }
   }
 
   of(name) {
@@ -34,6 +38,12 @@ export class Walls {
     const wall = wallOf(a, b);
     if (command === "wall") this.of(map)[kind].set(wall.join(), wall);
     else this.of(map)[kind].delete(wall.join());
+  }
+
+  /** Takes in a command `trail` that was carried out. */
+  takeTrail({ map, on }) {
+    if (on) this.trails.add(map);
+    else this.trails.delete(map);
   }
 }
 

@@ -2,11 +2,11 @@
 
 /// The game master and one player.
 pub(super) const TWO_SEATS: &str =
-    r#"{"format":1,"lights":{},"maps":[],"seats":[{"drawn":0,"fog":{},"key":"g","macros":{},"seed":"0000000000000000000000000000000000000000000000000000000000000000","tags":[]},{"drawn":0,"fog":{},"key":"a","macros":{},"seed":"0000000000000000000000000000000000000000000000000000000000000000","tags":[]}],"sights":{},"tokens":[]}"#;
+    r#"{"format":2,"lights":{},"maps":[],"seats":[{"drawn":0,"fog":{},"key":"g","macros":{},"seed":"0000000000000000000000000000000000000000000000000000000000000000","tags":[]},{"drawn":0,"fog":{},"key":"a","macros":{},"seed":"0000000000000000000000000000000000000000000000000000000000000000","tags":[]}],"sights":{},"tokens":[]}"#;
 
 /// The game master and two players.
 pub(super) const THREE_SEATS: &str =
-    r#"{"format":1,"lights":{},"maps":[],"seats":[{"drawn":0,"fog":{},"key":"g","macros":{},"seed":"0000000000000000000000000000000000000000000000000000000000000000","tags":[]},{"drawn":0,"fog":{},"key":"a","macros":{},"seed":"0000000000000000000000000000000000000000000000000000000000000000","tags":[]},{"drawn":0,"fog":{},"key":"b","macros":{},"seed":"0000000000000000000000000000000000000000000000000000000000000000","tags":[]}],"sights":{},"tokens":[]}"#;
+    r#"{"format":2,"lights":{},"maps":[],"seats":[{"drawn":0,"fog":{},"key":"g","macros":{},"seed":"0000000000000000000000000000000000000000000000000000000000000000","tags":[]},{"drawn":0,"fog":{},"key":"a","macros":{},"seed":"0000000000000000000000000000000000000000000000000000000000000000","tags":[]},{"drawn":0,"fog":{},"key":"b","macros":{},"seed":"0000000000000000000000000000000000000000000000000000000000000000","tags":[]}],"sights":{},"tokens":[]}"#;
 
 /// The game master and one player, whose token stands in a cave that a wall cuts in two.
 pub(crate) const CAVE: &str =

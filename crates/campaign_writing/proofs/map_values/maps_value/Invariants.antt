@@ -6,4 +6,4 @@ use Rattle.campaign_writing.specs.Scenes.{map_tree}
 use Rattle.campaign_writing.proofs.map_values.maps_value.Given as goal
 
 abbrev pub invariant-loop-place : goal.invariant-loop-place
-invariant-loop-place l = record { tree : map view l.list.items ≡ map map_tree (take l.place l.maps); each : AllByRecursion IsKeptMap (take l.place l.maps) }
+invariant-loop-place l = record { tree : map view l.list.items ≡ map (map_tree l.format) (take l.place l.maps); each : AllByRecursion IsKeptMap (take l.place l.maps) }

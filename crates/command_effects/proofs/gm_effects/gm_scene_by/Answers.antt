@@ -2,7 +2,7 @@ use Rattle.std.proofs.Common.{sym, ap, subst}
 use Rattle.command_json.specs.declared.command.Command.{Command}
 use Rattle.command_effects.specs.Allowed.{IsAllowed, MayStand}
 use Rattle.command_effects.specs.Tags.{tag_made}
-use Rattle.command_effects.proofs.GmCommands.{map_may, mode_may, show_may, terrain_may, wall_may, unwall_may, lighttype_may, sighttype_may, token_may, own_may, layer_may, visible_may, sight_may, place_may, secret_may, expose_may, hide_may}
+use Rattle.command_effects.proofs.GmCommands.{map_may, mode_may, show_may, trail_may, terrain_may, wall_may, unwall_may, lighttype_may, sighttype_may, token_may, own_may, layer_may, visible_may, sight_may, place_may, secret_may, expose_may, hide_may}
 use Rattle.command_effects.proofs.gm_effects.gm_scene_by.Goals as goal
 
 pub with_new_map-requires : goal.with_new_map-requires
@@ -13,6 +13,9 @@ with_mode-requires c = mode_may c.args.scene.now c.args.seat c.in-Mode.map c.in-
 
 pub with_shown-requires : goal.with_shown-requires
 with_shown-requires c = show_may c.args.scene.now c.args.seat c.in-Show.map c.in-Show.on (subst (λ (command : Command). IsAllowed c.args.scene.now c.args.seat command) c.in-Show.is c.requires.allowed)
+
+pub with_trail-requires : goal.with_trail-requires
+with_trail-requires c = trail_may c.args.scene.now c.args.seat c.in-Trail.map c.in-Trail.on (subst (λ (command : Command). IsAllowed c.args.scene.now c.args.seat command) c.in-Trail.is c.requires.allowed)
 
 pub with_letters-requires-clause-fits : goal.with_letters-requires-clause-fits
 with_letters-requires-clause-fits c = terrain_may c.args.scene.now c.args.seat c.in-Terrain.map c.in-Terrain.rect c.in-Terrain.kind (subst (λ (command : Command). IsAllowed c.args.scene.now c.args.seat command) c.in-Terrain.is c.requires.allowed)

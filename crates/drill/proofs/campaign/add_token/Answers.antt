@@ -1,7 +1,4 @@
-use Rattle.std.proofs.Common.{◌≡◌, ◌<◌, ◌∙◌, ap, sym, subst}
-use Rattle.cells.specs.declared.cell.Cell.{Cell}
-use Rattle.tokens.specs.declared.token.Token.{Token}
-use Rattle.drill.specs.Campaign.{token_at, tokens_up_to, walls_up_to}
+use Rattle.drill.specs.Campaign.{tokens_up_to, walls_up_to}
 use Rattle.drill.specs.Script.{IsOnMap}
 use Rattle.drill.proofs.Tokens.{absent_from, cell_of_token, fits_scene, one_token, used_by_maker}
 use Rattle.drill.proofs.campaign.add_token.Goals as goal

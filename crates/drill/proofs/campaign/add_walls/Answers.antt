@@ -1,4 +1,4 @@
-use Rattle.std.proofs.Common.{◌≡◌, ◌+◌, ◌*◌, ◌∙◌, ap, sym, arith, refl}
+use Rattle.std.proofs.Common.{◌≡◌, ◌+◌, ◌*◌, ◌∙◌, ap, arith, refl}
 use Rattle.std.specs.Prelude.{codes}
 use Rattle.drill.specs.Draws.{Drawing}
 use Rattle.drill.specs.Campaign.{wall_drawn, walls_up_to}

@@ -1,5 +1,4 @@
-use Rattle.std.proofs.Common.{◌≡◌, ◌≤◌, ◌∙◌, ◌+◌, ◌-◌, ◌*◌, ◌++◌, suc, ap, arith, refl, ℕ}
-use Rattle.serde_json.specs.View.{view}
+use Rattle.std.proofs.Common.{◌≡◌, ◌≤◌, ◌∙◌, ◌+◌, ◌-◌, ◌++◌, suc, ap, arith, ℕ}
 use Rattle.serde_json.specs.Written.{has_float}
 use Rattle.drill.specs.Script.{Course, Made, drill_script, line_after, lines_after, script_line}
 use Rattle.drill.proofs.Lines.{first_lines, line_exact, line_near, no_line, one_line}

@@ -1,4 +1,4 @@
-use Rattle.std.proofs.Common.{◌≡◌, ◌∙◌, ap, sym}
+use Rattle.std.proofs.Common.{◌∙◌, ap, sym}
 use Rattle.seats.specs.Book.{with_tag}
 use Rattle.drill.proofs.TagLemmas.{tags_more}
 use Rattle.drill.proofs.seat_books.with_tags.Goals as goal

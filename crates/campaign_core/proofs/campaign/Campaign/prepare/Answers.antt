@@ -1,14 +1,14 @@
 use Rattle.std.proofs.Common.{◌≡◌, ◌-◌, ◌∙◌, Some, vec_len, vec_capacity, ap, sym, subst, refl, true, false, arith}
 use Rattle.std.proofs.lemmas.List.{length-map}
 use Rattle.std.specs.Prelude.{Option}
-use Rattle.command_looks.specs.Touched.{looks_of}
-use Rattle.campaign_law.specs.World.{World, outcome_of, replay}
+use Rattle.campaign_law.specs.World.{World, replay}
 use Rattle.campaign_law.specs.Worlds.{FitsTogether}
 use Rattle.campaign_law.specs.Session.{changes_state}
 use Rattle.campaign_law.specs.Law.{Course}
 use Rattle.campaign_law.specs.State.{State, world_in}
 use Rattle.campaign_law.proofs.Simulation.{sent_is_machine}
 use Rattle.campaign_core.specs.CutList.{Ledger}
+use Rattle.campaign_core.specs.Looking.{looks_at}
 use Rattle.campaign_core.specs.Places.{law, posted, HaveRoom}
 use Rattle.campaign_core.specs.declared.campaign.Made.TheVariants.{Whole}
 use Rattle.campaign_core.specs.declared.campaign.Staged.{Staged}
@@ -61,8 +61,8 @@ returns-in_default-clause-sure g c =
 pub returns-in_default-clause-looks : goal.returns-in_default-clause-looks
 returns-in_default-clause-looks g c =
     let same = world_law c.self.inside.state ∙ world_now (world_in (law c.self.inside.origin)) c.self.inside.history.items _ c.self.inside.state c.self.inside.keep c.self.inside.staged c.self.invariant in
-    let most = ap (λ (w : World). looks_of w.scene (outcome_of w c.args.entry).done) same
-    ∙ ap (λ (x : Course). looks_of (replay x.origin x.history).scene (outcome_of (replay x.origin x.history) c.args.entry).done) c.self.view_is in
+    let most = ap (λ (w : World). looks_at w c.args.entry) same
+    ∙ ap (λ (x : Course). looks_at (replay x.origin x.history) c.args.entry) c.self.view_is in
     let before = ap (λ (x : Course). x.looks) c.self.view_is in
     omega (arith, c.made_by.ensures.looks, most, before)
 
@@ -92,8 +92,8 @@ returns-then-is_err-2-clause-sure g c =
 pub returns-then-is_err-2-clause-looks : goal.returns-then-is_err-2-clause-looks
 returns-then-is_err-2-clause-looks g c =
     let same = world_law c.self.inside.state ∙ world_now (world_in (law c.self.inside.origin)) c.self.inside.history.items _ c.self.inside.state c.self.inside.keep c.self.inside.staged c.self.invariant in
-    let most = ap (λ (w : World). looks_of w.scene (outcome_of w c.args.entry).done) same
-    ∙ ap (λ (x : Course). looks_of (replay x.origin x.history).scene (outcome_of (replay x.origin x.history) c.args.entry).done) c.self.view_is in
+    let most = ap (λ (w : World). looks_at w c.args.entry) same
+    ∙ ap (λ (x : Course). looks_at (replay x.origin x.history) c.args.entry) c.self.view_is in
     let before = ap (λ (x : Course). x.looks) c.self.view_is in
     omega (arith, c.made_by.ensures.looks, most, before)
 
@@ -103,8 +103,8 @@ returns-then-is_err-2-clause-sent g c = λ p. sent_is_machine _ _ p c.self.invar
 pub returns-clause-looks : goal.returns-clause-looks
 returns-clause-looks g c =
     let same = world_law c.self.inside.state ∙ world_now (world_in (law c.self.inside.origin)) c.self.inside.history.items _ c.self.inside.state c.self.inside.keep c.self.inside.staged c.self.invariant in
-    let most = ap (λ (w : World). looks_of w.scene (outcome_of w c.args.entry).done) same
-    ∙ ap (λ (x : Course). looks_of (replay x.origin x.history).scene (outcome_of (replay x.origin x.history) c.args.entry).done) c.self.view_is in
+    let most = ap (λ (w : World). looks_at w c.args.entry) same
+    ∙ ap (λ (x : Course). looks_at (replay x.origin x.history) c.args.entry) c.self.view_is in
     let before = ap (λ (x : Course). x.looks) c.self.view_is in
     omega (arith, c.made_by.ensures.looks, most, before)
 
