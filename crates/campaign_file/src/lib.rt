@@ -15,6 +15,3 @@ mod seat;
 
 pub use campaign_json::{BadCampaign, FileFault, Rule};
 pub use root::read_campaign;
-
-#[cfg(test)]
-mod tests;

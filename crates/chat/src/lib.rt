@@ -15,6 +15,3 @@ pub use message::message_line;
 pub use reach::receivers;
 pub use seat_set::SeatSet;
 pub use to::To;
-
-#[cfg(test)]
-mod tests;

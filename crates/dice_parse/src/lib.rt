@@ -11,6 +11,3 @@ mod texts;
 pub use parts::{Group, Part, Tail, Term};
 pub use readers::die;
 pub use texts::{Dice, DiceFault, one_reading, read_dice};
-
-#[cfg(test)]
-mod tests;

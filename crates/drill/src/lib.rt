@@ -11,8 +11,6 @@ mod draws;
 mod script;
 mod seat_books;
 mod tags;
-#[cfg(test)]
-mod tests;
 
 ghost use Rattle.std.specs.Prelude.{◌≡◌, ◌≤◌, Ok, IfOk};
 ghost use Rattle.campaign_file.specs.Campaign.{campaign_of};

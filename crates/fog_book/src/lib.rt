@@ -6,8 +6,6 @@
 mod book;
 mod exposure;
 mod paint;
-#[cfg(test)]
-mod tests;
 
 pub use book::FogBook;
 pub use exposure::Exposure;

@@ -10,6 +10,3 @@ mod values;
 
 pub use lines::compact_line;
 pub use values::{ReadFault, read_value};
-
-#[cfg(test)]
-mod tests;

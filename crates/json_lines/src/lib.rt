@@ -4,6 +4,3 @@
 mod objects;
 
 pub use objects::{Plain, object_line};
-
-#[cfg(test)]
-mod tests;

@@ -28,8 +28,6 @@ pub use works::{Spawner, Work};
 mod adapters;
 mod call_spawners;
 mod desks;
-#[cfg(test)]
-mod door_tests;
 mod doors;
 mod fault_plans;
 mod faults;
@@ -46,6 +44,4 @@ mod sinks;
 mod sources;
 mod tcp_doors;
 mod tcp_ends;
-#[cfg(test)]
-mod tests;
 mod works;

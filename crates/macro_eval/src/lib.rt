@@ -29,6 +29,3 @@ pub use outcome::{Intents, Outcome};
 pub use readable::Readable;
 pub use runs::run;
 pub use stop::{FaultKind, MacroStop};
-
-#[cfg(test)]
-mod tests;

@@ -19,6 +19,3 @@ pub use macro_grammar::{Function, Operator, one_reading};
 pub use macros::Macro;
 pub use nodes::{Address, Arguments, Branch, Node, Options, Piece};
 pub use texts::{MacroParseFault, read_macro};
-
-#[cfg(test)]
-mod tests;

@@ -22,6 +22,3 @@ pub use seat_no::SeatNo;
 pub use tags::{BadTag, Tag};
 pub use texts::{LineText, Text, Texts};
 pub use token_id::TokenId;
-
-#[cfg(test)]
-mod tests;

@@ -10,8 +10,6 @@ mod machine_seat;
 mod own_entry;
 mod printing;
 mod same;
-#[cfg(test)]
-mod tests;
 
 pub use item::TraceItem;
 pub use machine::{Machine, Opening};

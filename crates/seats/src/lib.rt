@@ -15,6 +15,3 @@ pub use book_fault::BookFault;
 pub use seat_book::{SeatBook, most_tags};
 pub use seat_state::{JoinRefusal, SeatState};
 pub use tag_fault::TagFault;
-
-#[cfg(test)]
-mod tests;

@@ -1,15 +1,13 @@
-//! Sessions over memory, one after another, and by threads, side by side.
+//! Sessions over memory by threads, side by side. What is sent over connections is tested by `examples/test_serve.py`.
 ghost use Rattle.std.specs.Prelude.{◌≡◌, ◌<◌, ◌+◌, IfOk};
 ghost use Rattle.turn_lock.specs.Pass.{IsPassOf, IsUsherOf};
 ghost use Rattle.campaign_law.specs.Law.{IsOpening};
 
 mod cut_off;
-mod floods;
-mod guests;
-mod long_lines;
 mod side_by_side;
 
 use crate::Table;
+use crate::pace::Pace;
 use campaign_core::Campaign;
 use sight_sweep::SweepEye;
 use std::alloc::Global;
@@ -29,25 +27,16 @@ fn opened(alloc: Global, text: &[u8]) -> Result<Table, Fail>
     }
 }
 
-// A hall over the campaign of a text, its usher and its first pass.
-fn hall_of(alloc: Global, text: &[u8]) -> Result<(Hall<Table>, Usher<Table>, Pass<Table>), Fail>
-    ensures opening { IfOk result (λ made. IsOpening made.0.origin) }
-    ensures usher { IfOk result (λ made. IsUsherOf made.0 made.1 × (made.1.count ≡ 1)) }
-    ensures pass { IfOk result (λ made. IsPassOf made.0 made.2 × (made.2.number ≡ 0)) }
-{
-    match Hall::open(alloc, opened(alloc, text)?) {
-        Ok(made) => Ok(made),
-        Err(_) => Err(Fail::from("memory")),
-    }
-}
-
-// One over these seats.
+// A hall over these seats, its usher and its first pass.
 fn opened_hall(alloc: Global) -> Result<(Hall<Table>, Usher<Table>, Pass<Table>), Fail>
     ensures opening { IfOk result (λ made. IsOpening made.0.origin) }
     ensures usher { IfOk result (λ made. IsUsherOf made.0 made.1 × (made.1.count ≡ 1)) }
     ensures pass { IfOk result (λ made. IsPassOf made.0 made.2 × (made.2.number ≡ 0)) }
 {
-    hall_of(alloc, THREE_SEATS)
+    match Hall::open(alloc, opened(alloc, THREE_SEATS)?) {
+        Ok(made) => Ok(made),
+        Err(_) => Err(Fail::from("memory")),
+    }
 }
 
 // Two passes of one.
@@ -66,4 +55,13 @@ fn two_of(
         Ok(both) => Ok(both),
         Err(_) => Err(Fail::from("memory")),
     }
+}
+
+#[test]
+fn a_half_without_a_thread_is_not_waited_for(rt: HostRuntime) -> Result<(), Fail> {
+    let pace = Pace::new(2);
+    pace.wait(&rt);
+    pace.entered(3, 100_000);
+    pace.wait(&rt);
+    Ok(())
 }

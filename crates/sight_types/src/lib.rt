@@ -15,9 +15,6 @@ use std::marker::Model;
 use thiserror::Error;
 use type_table::{TypeFault, TypeTable};
 
-#[cfg(test)]
-mod tests;
-
 /// The greatest range and night range of a sight, in cells.
 pub const MOST_RANGE: u32 = 40;
 

@@ -6,12 +6,10 @@ pub(crate) mod campaigns;
 mod cuts;
 mod drills;
 mod faults;
-mod full_table;
 mod logs;
 mod serve_faults;
 mod serves;
 mod stops;
-mod told;
 
 use crate::tabletop;
 use line_io::{MemDesk, MemSink, MemSource};

@@ -16,6 +16,3 @@ pub use owners::Owners;
 pub use props::{PropFault, Props};
 pub use token::Token;
 pub use token_table::TokenTable;
-
-#[cfg(test)]
-mod tests;

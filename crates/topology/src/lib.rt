@@ -6,8 +6,6 @@
 
 mod eye;
 mod plain_eye;
-#[cfg(test)]
-mod tests;
 mod wall;
 mod walls;
 

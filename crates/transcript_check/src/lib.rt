@@ -7,8 +7,6 @@ mod comparing;
 mod entering;
 mod fault;
 mod lines;
-#[cfg(test)]
-mod tests;
 mod tracing;
 
 pub use checking::{Verdict, check_transcript};

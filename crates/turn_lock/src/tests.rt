@@ -93,19 +93,6 @@ fn a_turn_finds_what_the_other_pass_appended(rt: HostRuntime) -> Result<(), Fail
     Ok(())
 }
 
-#[test]
-fn a_pass_hears_of_the_turns_of_another(rt: HostRuntime) -> Result<(), Fail> {
-    let opened = Hall::open(rt.alloc(), Numbers::none(rt.alloc(), 0));
-    let (hall, mut usher, first) = opened.ok().ok_or("memory")?;
-    let (mut left, mut right) = hall.split(&mut usher, first).ok().ok_or("memory")?;
-    assert!(rt; hall.progress(&mut left) == 0);
-    hall.act(&rt, &mut right, &mut Append::of(5));
-    let made = hall.progress(&mut left);
-    let past = hall.wait_past(&rt, &mut left, 0);
-    assert!(rt; made == 1 && past == 1);
-    Ok(())
-}
-
 // Appends a hundred numbers, each in a turn of its own, and tells whether it appended them all.
 fn append_each<R: Wait>(
     rt: &R,

@@ -8,8 +8,6 @@ mod disc;
 mod fields;
 mod lamp;
 mod seen;
-#[cfg(test)]
-mod tests;
 
 pub use fields::Fields;
 pub use lamp::Lamp;

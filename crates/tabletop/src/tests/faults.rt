@@ -1,4 +1,4 @@
-//! Each read and each write of a run fails once, and the script ends at each byte.
+//! Each read and each write of a run fails once. Scripts that end at each byte are played by `examples/test_ends.py`.
 
 use super::campaigns::TWO_SEATS;
 use super::{Run, WORDS, plain_run, played};
@@ -58,27 +58,5 @@ fn each_write_fails_once(rt: HostRuntime) {
     // (all that a line of the script sends is one write)
     for (number, lines) in [(0, 0), (1, 2), (2, 4), (3, 6)] {
         write_fails(&rt, rt.alloc(), number, lines, &whole);
-    }
-}
-
-// The script ends at this byte: its whole lines are answered as ever, and what stands behind them as a line of its own.
-fn ends_at(rt: &impl Abort, alloc: Global, bytes: usize, whole: &str) {
-    let script = SCRIPT.get(..bytes).expect(rt, "a front");
-    let (lines, rest) = script.rsplit_once('\n').unwrap_or(("", script));
-    let (_, answered) = printed(rt, alloc, lines);
-    let answer = printed(rt, alloc, script);
-    let line = format!(in alloc; "{script}\n").expect(rt, "memory");
-    assert!(rt; is_front(&answered, whole) && answer.1.starts_with(answered.as_str()));
-    assert!(rt;
-        rest.is_empty() || answer == printed(rt, alloc, &line),
-        "{bytes}"
-    );
-}
-
-#[test]
-fn a_script_ends_at_each_byte(rt: HostRuntime) {
-    let (_, whole) = printed(&rt, rt.alloc(), SCRIPT);
-    for bytes in 0..=SCRIPT.len() {
-        ends_at(&rt, rt.alloc(), bytes, &whole);
     }
 }

@@ -50,14 +50,6 @@ fn new_log(rt: &impl Abort, alloc: Global) -> LineText {
     came.safe
 }
 
-#[test]
-fn a_new_log_has_the_campaign_and_a_closed_gate(rt: HostRuntime) {
-    let log = new_log(&rt, rt.alloc());
-    assert!(&rt; log.bytes().starts_with(b"TTLOG1") && log.bytes().ends_with(b"}\x00"));
-    assert_eq!(&rt; log.bytes().len(), THREE_SEATS.len() + 11);
-    assert_eq!(&rt; entries_in(&rt, rt.alloc(), log), 0);
-}
-
 // A Join with its Taken, and a Line with its Taken; each of the two sends two lines.
 const JOINS_AND_LOOKS: &str = r#"1 {"do":"hello","seat":1,"key":"a"}
 1 {"do":"look"}

@@ -1,7 +1,7 @@
 //! Runs of which an outside call fails.
 
 use super::campaigns::THREE_SEATS;
-use super::{PLAIN, Run, ends};
+use super::{PLAIN, Run};
 
 pub(super) static STOPS: [Run<'static>; 7] = [
     Run {
@@ -79,28 +79,3 @@ pub(super) static STOPS: [Run<'static>; 7] = [
         ..PLAIN
     },
 ];
-
-const CHECK: [&str; 2] = ["check", "table.json"];
-
-#[test]
-fn a_check_stops_at_a_fault(rt: HostRuntime) {
-    let unread = Run {
-        campaign: THREE_SEATS,
-        desk_fails: &[0],
-        ..PLAIN
-    };
-    ends(
-        &rt,
-        rt.alloc(),
-        &CHECK,
-        &unread,
-        4,
-        "tabletop: read fault\n",
-    );
-    let unwritten = Run {
-        campaign: THREE_SEATS,
-        out_fails: &[0],
-        ..PLAIN
-    };
-    ends(&rt, rt.alloc(), &CHECK, &unwritten, 5, "");
-}

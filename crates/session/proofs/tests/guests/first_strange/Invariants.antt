@@ -1,6 +1,0 @@
-use Rattle.turn_lock.specs.Pass.{IsPassOf}
-use Rattle.session.proofs.tests.guests.first_strange.Given as goal
-
--- both passes are still the hall's
-abbrev pub invariant-loop-guest : goal.invariant-loop-guest
-invariant-loop-guest g l = IsPassOf l.hall l.reader × IsPassOf l.hall l.writer
