@@ -8,6 +8,7 @@ use Rattle.cells.specs.Cells.{Cells, IsSize, cells_where}
 use Rattle.cells.specs.Runs.{runs_of}
 use Rattle.cells.specs.declared.cell.Run.{Run}
 use Rattle.fog_book.specs.Exposures.{cells_at, exposed_of}
+use Rattle.initiative.specs.Fights.{no_fight}
 use Rattle.maps.specs.Maps.{Grid}
 use Rattle.seats.specs.Book.{Book}
 use Rattle.serde_json.specs.Data.{Data, object, no_members}
@@ -73,9 +74,9 @@ module _ (format : Format) (w : World) (is : IsWritable format w) where
   abbrev shown : ℕ → ℕ → Grid → Cells
   shown n seat m = cond (nat_lt seat n) (is.cells seat m) (cells_where m.walls.extent (λ x y. false))
 
-  -- the scene without tokens, with what is exposed to the seats below a number
+  -- the scene without tokens and fight, with what is exposed to the seats below a number
   abbrev seated_to : ℕ → Scene
-  seated_to n = record s { tokens = []; fog = record { players = players; sets = laid players (shown n) s.maps } }
+  seated_to n = record s { tokens = []; fog = record { players = players; sets = laid players (shown n) s.maps }; fight = no_fight }
 
   distinct : (done : List Grid) (x : Grid) (left : List Grid) → done ++ x ∷ left ≡ s.maps → IsNew x.name done
   distinct done x left e = all_differ x.name done (lesser_keys tag_cmp (λ m. m.name) done x left s.maps e is.maps_ordered)
@@ -147,14 +148,14 @@ module _ (format : Format) (w : World) (is : IsWritable format w) where
       by : (b : Bool) → is_player players seat ≡ b → cond b (fog_of_player seat (seated_to seat) (seat_tree s x)) (no_fog (seated_to seat) (seat_tree s x)) ≡ Ok (seated_to (seat + 1))
       by true e =
           let low = a_player seat players e in
-          exposure.player_reads (record s { tokens = [] }) players seat low.0 high is.cells is.sized is.told distinct (tags_of s.maps is.maps) (seat_tree s x)
+          exposure.player_reads (record s { tokens = []; fight = no_fight }) players seat low.0 high is.cells is.sized is.told distinct (tags_of s.maps is.maps) (seat_tree s x)
           (tree ∙ ap (λ l. Some (object (named runs_tree (filter some_runs l)))) (player_runs seat low.0 high [] s.maps refl))
       by false e =
           let zero_is = no_player seat players high e in
           let none : get (codes "fog") (seat_tree s x) ≡ Some (object no_members) = tree ∙ ap (λ k. Some (fog_tree s k)) zero_is ∙ ap (λ l. Some (object (named runs_tree l))) (first_runs s.maps) in
           rw (field_reads (codes "fog") (kinds.members 0) (seat_tree s x) (object no_members) no_members none refl)
           (ap (λ k. Ok (seated_to k)) zero_is
-          ∙ ap (λ sets. Ok (record s { tokens = []; fog = record { players = players; sets = sets } })) first_shown
+          ∙ ap (λ sets. Ok (record s { tokens = []; fog = record { players = players; sets = sets }; fight = no_fight })) first_shown
           ∙ ap (λ k. Ok (seated_to (k + 1))) (sym zero_is))
 
   abbrev so_far : List Book → World
@@ -206,9 +207,9 @@ module _ (format : Format) (w : World) (is : IsWritable format w) where
   unfolding campaign_tree_in
   mapped_reads =
       maps_read format (record (bare players) { lights = s.lights; sights = s.sights }) players s.maps is.maps is.few_maps is.maps_ordered (campaign_tree_in format w) refl
-      ∙ ap (λ sets. Ok (record s { tokens = []; fog = record { players = players; sets = sets } })) none_shown
+      ∙ ap (λ sets. Ok (record s { tokens = []; fog = record { players = players; sets = sets }; fight = no_fight })) none_shown
 
-  -- what is written is read back: the same world, in which no line was counted, and all seats are Free
+  -- what is written is read back: the same world, in which no line was counted, all seats are Free, and there is no fight
   pub campaign_reads : campaign (campaign_tree_in format w) ≡ Ok (reopened w)
   unfolding campaign campaign_tree_in
   campaign_reads =
@@ -222,4 +223,4 @@ module _ (format : Format) (w : World) (is : IsWritable format w) where
         seats_read (campaign_tree_in format w) refl,
         tokens_read (map reopened_book w.books) (seated_to (length w.books)) s.tokens (tokens_still s.tokens is.tokens) is.tokens_ordered (campaign_tree_in format w) refl,
       )
-      (λ i. Ok (record { scene = record s { fog = record { players = players; sets = (ap (λ n. laid players (shown n) s.maps) all ∙ all_shown) i } }; books = map reopened_book w.books }))
+      (λ i. Ok (record { scene = record s { fog = record { players = players; sets = (ap (λ n. laid players (shown n) s.maps) all ∙ all_shown) i }; fight = no_fight }; books = map reopened_book w.books }))

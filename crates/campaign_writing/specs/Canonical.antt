@@ -1,6 +1,7 @@
 -- The canonical campaign text of a world.
 use Rattle.std.specs.Prelude.{ℕ, List, map, codes}
 use Rattle.hex.specs.Hex.{encode_lower}
+use Rattle.initiative.specs.Fights.{no_fight}
 use Rattle.seats.specs.Book.{Book}
 use Rattle.seats.specs.declared.seat_state.SeatState.TheVariants.{Free}
 use Rattle.serde_json.specs.Data.{Data, Members, string, object, no_members, member}
@@ -68,7 +69,7 @@ campaign_tree w = campaign_tree_in Second w
 abbrev pub canonical_in : Format → World → List ℕ
 canonical_in format w = compact_text (campaign_tree_in format w)
 
--- the campaign text of the world. Lines and the states of seats don't stand in it
+-- the campaign text of the world. Lines, the states of seats and the fight don't stand in it
 unfoldable pub canonical : World → List ℕ
 canonical w = canonical_in Second w
 
@@ -80,6 +81,6 @@ first_canonical w = canonical_in First w
 abbrev pub reopened_book : Book → Book
 reopened_book book = record book { lines = 0; state = Free }
 
--- the world that the text opens with: no line was counted, and all seats are Free
+-- the world that the text opens with: no line was counted, all seats are Free, and there is no fight
 abbrev pub reopened : World → World
-reopened w = record w { books = map reopened_book w.books }
+reopened w = record { scene = record w.scene { fight = no_fight }; books = map reopened_book w.books }

@@ -82,8 +82,8 @@ fn text_in(alloc: Global, format: Format, world: &World) -> Result<LineText, Mem
 
 /// The canonical campaign text of a world, of the second format, in one line without its end. `Memory` is want of memory.
 ///
-/// It is read back as the same world, in which no line was counted and all seats are Free, where keys, macros, names and
-/// sizes are those that the campaign text takes, as they are in each world that was read.
+/// It is read back as the same world, in which no line was counted, all seats are Free, and there is no fight, where keys,
+/// macros, names and sizes are those that the campaign text takes, as they are in each world that was read.
 #[tactic(auto, unfolding(crate::specs::Canonical::canonical))]
 pub fn write_campaign(alloc: Global, world: &World) -> Result<LineText, Memory>
     ensures text { IfOk result (λ line. line ≡ canonical world.now) }

@@ -17,15 +17,16 @@ use Rattle.tokens.specs.Tokens.{has_token, in_order}
 use Rattle.tokens.specs.Properties.{is_full_for}
 use Rattle.tokens.specs.Owners.{with_owner}
 use Rattle.type_table.specs.Types.{type_of}
-use Rattle.command_json.specs.declared.command.Command.TheVariants.{Setprop, Light, Make}
+use Rattle.command_json.specs.declared.command.Command.TheVariants.{Setprop, Light, Make, Init, Uninit}
 use Rattle.world.specs.Scene.{Scene}
 use Rattle.world.specs.Rules.{is_known, is_player, are_players, belongs, fits, fits_on}
 use Rattle.world.proofs.TokenRules.{players_with}
 use Rattle.player_view.specs.View.{is_gm, has_map}
-use Rattle.player_view.specs.Asked.{Known, asked_of, mine_of, known_of}
+use Rattle.player_view.specs.Asked.{Mine, Known, asked_of, mine_of, known_of}
+use Rattle.command_rules.specs.declared.refusal.Refusal.{Refusal}
 use Rattle.command_rules.specs.declared.refusal.Refusal.TheVariants.{OffMap, TagUsed, TagsSpent, NotExposed, PlayersOnly, UnknownLight}
 use Rattle.command_rules.specs.Places.{fits_at, cell_at}
-use Rattle.command_rules.specs.Rules.{setprop_rule, type_rule, light_rule, cell_rule, make_on, rule_of}
+use Rattle.command_rules.specs.Rules.{setprop_rule, type_rule, light_rule, cell_rule, make_on, init_rule, uninit_rule, rule_of}
 use Rattle.command_effects.specs.Effects.{own_token}
 use Rattle.command_effects.specs.Allowed.{IsAllowed, MaySet, MayStand}
 use Rattle.command_rules.proofs.OneMap.{one_map}
@@ -70,6 +71,23 @@ may_light_by seats s seat id light ordered (Some t) found h = (ap is_some (one_t
 pub may_light : (s : Scene) (seat : ℕ) (id : TokenId) (light : Option (List ℕ)) → in_order s.tokens ≡ true → IsAllowed s seat (Light id light) → (has_token id s.tokens ≡ true) × (is_known s.lights light ≡ true)
 unfolding asked_of rule_of
 may_light s seat id light ordered allowed = may_light_by allowed.seats s seat id light ordered (own_token s seat id) refl allowed.rule
+
+-- ---- the fight
+
+-- a rule that is broken without a token
+there_by : (rule : Option Mine → Option Refusal) (s : Scene) (seat : ℕ) (id : TokenId) → in_order s.tokens ≡ true → (rule None ≡ None → ⊥) → (o : Option Token) → own_token s seat id ≡ o → rule (option_map mine_of o) ≡ None → has_token id s.tokens ≡ true
+there_by rule s seat id ordered broken None found h = absurd (broken h)
+there_by rule s seat id ordered broken (Some t) found h = ap is_some (one_token s seat id t ordered found)
+
+pub may_init : (s : Scene) (seat : ℕ) (id : TokenId) (value : ℤ) → in_order s.tokens ≡ true → IsAllowed s seat (Init id value) → has_token id s.tokens ≡ true
+unfolding asked_of rule_of
+may_init s seat id value ordered allowed = there_by (init_rule seat) s seat id ordered (λ no. cc) (own_token s seat id) refl allowed.rule
+
+pub may_uninit : (s : Scene) (seat : ℕ) (id : TokenId) → in_order s.tokens ≡ true → IsAllowed s seat (Uninit id) → has_token id s.tokens ≡ true
+unfolding asked_of rule_of
+may_uninit s seat id ordered allowed =
+    let asked = asked_of allowed.seats s seat in
+    there_by (uninit_rule seat (asked.listed id)) s seat id ordered (λ no. cc) (own_token s seat id) refl allowed.rule
 
 -- ---- making
 

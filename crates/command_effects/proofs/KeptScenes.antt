@@ -13,6 +13,7 @@ use Rattle.cells.specs.declared.cell.Cell.{Cell}
 use Rattle.fog_book.specs.Exposures.{with_each_seen, with_map as with_fog_of_map}
 use Rattle.fog_book.specs.Rects.{with_rect}
 use Rattle.fog_book.proofs.Adding.{adds_after}
+use Rattle.initiative.specs.Fights.{Rounds, no_fight, passed, with_entry, without_entry}
 use Rattle.maps.specs.Maps.{Grid, new_map, with_map, has_map, with_mode, shown_if as map_shown_if, trail_if, with_letters, walled}
 use Rattle.maps.specs.MapFaults.{map_fault}
 use Rattle.maps.specs.declared.map_table.MapFault.{MapFault}
@@ -24,11 +25,11 @@ use Rattle.type_table.specs.Types.{with_type}
 use Rattle.topology.specs.Order.{wall_between}
 use Rattle.topology.specs.WallLists.{with_wall, without_wall}
 use Rattle.tokens.specs.declared.token.Token.{Token as Made}
-use Rattle.tokens.specs.Tokens.{has_token, token_of, placed, without, with_light, with_prop, owned_by, on_layer, shown_if, with_sight}
+use Rattle.tokens.specs.Tokens.{has_token, token_of, placed, with_light, with_prop, owned_by, on_layer, shown_if, with_sight}
 use Rattle.tokens.proofs.TokenLemmas.{in_order-put, in_order-changed, in_order-without}
 use Rattle.command_json.specs.declared.command.Command.{Command}
-use Rattle.command_json.specs.declared.command.Command.TheVariants.{Macro, Move, Setprop, Light, Make, Remove, Map, Mode, Show, Trail, Terrain, Wall, Unwall, Lighttype, Sighttype, Token, Own, Layer, Visible, Sight, Place, Secret, Expose, Hide}
-use Rattle.world.specs.Scene.{Scene, with_token, with_grid, with_new_map}
+use Rattle.command_json.specs.declared.command.Command.TheVariants.{Macro, Move, Setprop, Light, Make, Remove, Map, Mode, Show, Trail, Terrain, Wall, Unwall, Lighttype, Sighttype, Token, Own, Layer, Visible, Sight, Place, Secret, Expose, Hide, Init, Uninit, Turn, Endfight}
+use Rattle.world.specs.Scene.{Scene, removed, with_token, with_grid, with_new_map}
 use Rattle.world.specs.Rules.{belongs, fits_on, size_of}
 use Rattle.world.proofs.Makers.{with_prop_keeps_id}
 use Rattle.world.proofs.SceneRules.{IsScene-put, IsScene-without, IsScene-changed, IsScene-placed, IsScene-grid, IsScene-map_added, IsScene-with_light, IsScene-with_sight, IsScene-with_change, IsScene-with_each_seen, keeps-layer, keeps-visible, keeps-prop, keeps-owner, keeps-sight, keeps-light, keeps-rect, walls_keep_size}
@@ -69,9 +70,9 @@ made_kept s t new fitting is = record {
   sights = is.sights;
 }
 
-removed_kept : (s : Scene) (id : TokenId) → HasTables s → HasTables (record s { tokens = without id s.tokens })
-removed_kept s id is = record {
-  fitting = IsScene-without s id is.fitting;
+removed_kept : (s : Scene) (id : TokenId) → HasTables s → HasTables (removed id s)
+removed_kept s id is = let fitting = IsScene-without s id is.fitting in record {
+  fitting = record { tokens = fitting.tokens; fog = fitting.fog };
   maps = is.maps;
   tokens = in_order-without id s.tokens is.tokens;
   lights = is.lights;
@@ -182,6 +183,17 @@ settled_kept s is =
       sights = is.sights;
     })
 
+-- ---- the fight
+
+fight_kept : (s : Scene) (fight : Rounds) → HasTables s → HasTables (record s { fight = fight })
+fight_kept s fight is = record {
+  fitting = record { tokens = is.fitting.tokens; fog = is.fitting.fog };
+  maps = is.maps;
+  tokens = is.tokens;
+  lights = is.lights;
+  sights = is.sights;
+}
+
 -- ---- what macros set
 
 intents_kept : (intents : List Intent) (s : Scene) → HasTables s → HasTables (with_intents intents s)
@@ -230,4 +242,8 @@ scene_kept steps intents seat s (Place token map place) low allowed new is = pla
 scene_kept steps intents seat s (Secret token name value) low allowed new is = changed_kept s (with_prop SecretClass name value) (with_prop_keeps_id SecretClass name value) (keeps-prop s SecretClass name value) token is
 scene_kept steps intents seat s (Expose player map rect) low allowed new is = rect_kept s player map rect true is
 scene_kept steps intents seat s (Hide player map rect) low allowed new is = rect_kept s player map rect false is
+scene_kept steps intents seat s (Init token value) low allowed new is = fight_kept s (with_entry token value s.fight) is
+scene_kept steps intents seat s (Uninit token) low allowed new is = fight_kept s (without_entry token s.fight) is
+scene_kept steps intents seat s Turn low allowed new is = fight_kept s (passed s.fight) is
+scene_kept steps intents seat s Endfight low allowed new is = fight_kept s no_fight is
 scene_kept steps intents seat s c low allowed new is = is

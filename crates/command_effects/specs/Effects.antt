@@ -6,14 +6,15 @@ use Rattle.cells.specs.declared.cell.Cell.{Cell}
 use Rattle.lattice.specs.Coordinates.{Coordinates, square_centre_of}
 use Rattle.maps.specs.Maps.{Grid, map_of}
 use Rattle.tokens.specs.declared.token.Token.{Token}
-use Rattle.tokens.specs.Tokens.{has_id, placed, without, with_light, with_prop}
+use Rattle.tokens.specs.Tokens.{has_id, placed, with_light, with_prop}
 use Rattle.topology.specs.WallLists.{WallLists}
 use Rattle.topology.specs.Paths.{first_block}
 use Rattle.macro_eval.specs.declared.intent.Intent.{Intent}
-use Rattle.world.specs.Scene.{Scene, with_token}
+use Rattle.initiative.specs.Fights.{with_entry, without_entry}
+use Rattle.world.specs.Scene.{Scene, removed, with_token}
 use Rattle.player_view.specs.View.{is_gm, acts_on}
 use Rattle.command_json.specs.declared.command.Command.{Command}
-use Rattle.command_json.specs.declared.command.Command.TheVariants.{Macro, Move, Setprop, Light, Make, Remove}
+use Rattle.command_json.specs.declared.command.Command.TheVariants.{Macro, Move, Setprop, Light, Make, Remove, Init, Uninit}
 use Rattle.command_rules.specs.Places.{cell_at}
 use Rattle.command_effects.specs.Making.{players_token, with_new}
 use Rattle.command_effects.specs.MacroEffects.{with_intents}
@@ -72,5 +73,7 @@ scene_by steps intents seat s (Some (Move token path)) = after_steps steps token
 scene_by steps intents seat s (Some (Setprop token class name value)) = with_token token (with_prop class name value) s
 scene_by steps intents seat s (Some (Light token light)) = with_token token (with_light light) s
 scene_by steps intents seat s (Some (Make tag map cell name)) = with_new (players_token seat tag map cell name) s
-scene_by steps intents seat s (Some (Remove token)) = record s { tokens = without token s.tokens }
+scene_by steps intents seat s (Some (Remove token)) = removed token s
+scene_by steps intents seat s (Some (Init token value)) = record s { fight = with_entry token value s.fight }
+scene_by steps intents seat s (Some (Uninit token)) = record s { fight = without_entry token s.fight }
 scene_by steps intents seat s (Some c) = gm_scene_by seat s c

@@ -3,13 +3,14 @@ use Rattle.std.specs.Prelude.{ℕ, Bool, true, false, List, ℤ}
 use Rattle.names.specs.declared.kinds.PropClass.TheVariants.{Secret as SecretClass}
 use Rattle.fog_book.specs.Exposures.{with_change}
 use Rattle.fog_book.specs.Rects.{with_rect}
+use Rattle.initiative.specs.Fights.{no_fight, passed}
 use Rattle.maps.specs.Maps.{with_mode, shown_if as map_shown_if, trail_if, with_letters, with_wall_of, without_wall_of}
 use Rattle.sight_types.specs.declared.Sight.{Sight as SightType}
 use Rattle.type_table.specs.Types.{with_type}
 use Rattle.tokens.specs.Tokens.{placed, on_layer, shown_if, owned_by, with_sight, with_prop}
 use Rattle.world.specs.Scene.{Scene, with_token, with_grid, with_new_map}
 use Rattle.command_json.specs.declared.command.Command.{Command}
-use Rattle.command_json.specs.declared.command.Command.TheVariants.{Map, Mode, Show, Trail, Terrain, Wall, Unwall, Lighttype, Sighttype, Token, Own, Layer, Visible, Sight, Place, Secret, Expose, Hide}
+use Rattle.command_json.specs.declared.command.Command.TheVariants.{Map, Mode, Show, Trail, Terrain, Wall, Unwall, Lighttype, Sighttype, Token, Own, Layer, Visible, Sight, Place, Secret, Expose, Hide, Turn, Endfight}
 use Rattle.command_rules.specs.Places.{Numbers, coordinate, cell_at, rect_at, point_at}
 use Rattle.command_effects.specs.Making.{new_token, with_new}
 
@@ -44,4 +45,6 @@ gm_scene_by seat s (Place token map cell) = with_token token (placed map (cell_a
 gm_scene_by seat s (Secret token name value) = with_token token (with_prop SecretClass name value) s
 gm_scene_by seat s (Expose player map rect) = with_fog player map rect true s
 gm_scene_by seat s (Hide player map rect) = with_fog player map rect false s
+gm_scene_by seat s Turn = record s { fight = passed s.fight }
+gm_scene_by seat s Endfight = record s { fight = no_fight }
 gm_scene_by seat s c = s

@@ -3,9 +3,10 @@ ghost use Rattle.std.specs.Prelude.{◌≡◌, ◌≤◌, ◌∷◌, ◌++◌, [
 ghost use Rattle.std.specs.List.{list_all};
 ghost use Rattle.maps.specs.Maps.{in_order as maps_in_order};
 ghost use Rattle.tokens.specs.Properties.{value_limit};
-ghost use Rattle.tokens.specs.Tokens.{has_token, in_order, with_light as with_light_lem, with_prop as with_prop_lem, without as without_lem};
+ghost use Rattle.tokens.specs.Tokens.{has_token, in_order, with_light as with_light_lem, with_prop as with_prop_lem};
 ghost use Rattle.world.specs.Rules.{fits, is_known, is_player, IsScene};
-ghost use Rattle.world.specs.Scene.{with_token};
+ghost use Rattle.initiative.specs.Fights.{with_entry as with_entry_lem, without_entry as without_entry_lem};
+ghost use Rattle.world.specs.Scene.{removed, with_token};
 ghost use Rattle.command_rules.specs.Places.{fits_at as fits_at_lem, cell_at as cell_at_lem};
 ghost use Rattle.command_effects.specs.Making.{players_token, with_new as with_new_lem};
 ghost use Rattle.command_effects.specs.Effects.{eye_at as eye_at_lem, eyes_along as eyes_along_lem, free_steps as free_steps_lem, steps_with as steps_with_lem, steps_by as steps_by_lem, own_token, cell_after as cell_after_lem, after_steps as after_steps_lem, scene_by as scene_by_lem};
@@ -184,10 +185,30 @@ fn with_light(scene: &Scene, id: &TokenId, light: &Option<Tag>) -> Result<Scene,
 }
 
 fn without(scene: &Scene, id: &TokenId) -> Result<Scene, Memory>
-    ensures { IfOk result (λ s. s ≡ record scene.now { tokens = without_lem id.now scene.now.tokens }) }
+    ensures { IfOk result (λ s. s ≡ removed id.now scene.now) }
 {
     let mut after = scene.copy()?;
     let _gone = after.remove(*id);
+    Ok(after)
+}
+
+/// The scene once the token has an entry of that value in the fight.
+fn with_entry(scene: &Scene, id: &TokenId, value: &i16) -> Result<Scene, Memory>
+    requires { has_token id.now scene.now.tokens ≡ true }
+    ensures { IfOk result (λ s. s ≡ record scene.now { fight = with_entry_lem id.now value.now scene.now.fight }) }
+{
+    let mut after = scene.copy()?;
+    after.fight_set(*id, *value)?;
+    Ok(after)
+}
+
+/// The scene once the token's entry is out of the fight.
+fn without_entry(scene: &Scene, id: &TokenId) -> Result<Scene, Memory>
+    requires { has_token id.now scene.now.tokens ≡ true }
+    ensures { IfOk result (λ s. s ≡ record scene.now { fight = without_entry_lem id.now scene.now.fight }) }
+{
+    let mut after = scene.copy()?;
+    let _gone = after.fight_drop(*id);
     Ok(after)
 }
 
@@ -284,6 +305,8 @@ pub fn scene_by(
             name,
         } => Ok(Some(with_players_token(alloc, scene, seat, tag, map, *cell, name)?)),
         Command::Remove { token } => Ok(Some(without(scene, token)?)),
+        Command::Init { token, value } => Ok(Some(with_entry(scene, token, value)?)),
+        Command::Uninit { token } => Ok(Some(without_entry(scene, token)?)),
         _ => gm_scene_by(alloc, scene, seat, command),
     }
 }

@@ -1,6 +1,7 @@
 //! What an accepted command of the game master does to the scene.
 ghost use Rattle.std.specs.Prelude.{◌≡◌, IfOk, IfSome, None, true, false, unwrap_or};
 ghost use Rattle.names.specs.Letters.{is_letter};
+ghost use Rattle.initiative.specs.Fights.{no_fight, passed};
 ghost use Rattle.maps.specs.Maps.{has_map, map_of, shown_if as map_shown_if, trail_if, with_letters as with_letters_lem, with_mode as with_mode_lem, with_wall_of, without_wall_of};
 ghost use Rattle.maps.specs.MapFaults.{map_fault};
 ghost use Rattle.lights.specs.Lights.{light_fault};
@@ -324,6 +325,25 @@ fn hidden(
     Ok(after)
 }
 
+// ---- the fight
+
+/// The scene once the turn passed on.
+fn with_next_turn(scene: &Scene) -> Result<Scene, Memory>
+    ensures { IfOk result (λ s. s ≡ record scene.now { fight = passed scene.now.fight }) }
+{
+    let mut after = scene.copy()?;
+    let _passed = after.fight_next();
+    Ok(after)
+}
+
+fn without_fight(scene: &Scene) -> Result<Scene, Memory>
+    ensures { IfOk result (λ s. s ≡ record scene.now { fight = no_fight }) }
+{
+    let mut after = scene.copy()?;
+    after.fight_clear();
+    Ok(after)
+}
+
 // ---- all commands
 
 /// The scene after an accepted command of the game master, whose seat this is; none, where the command leaves it as it
@@ -391,6 +411,8 @@ pub(crate) fn gm_scene_by(
             map,
             rect,
         } => Ok(Some(hidden(scene, *player, map, *rect)?)),
+        Command::Turn => Ok(Some(with_next_turn(scene)?)),
+        Command::Endfight => Ok(Some(without_fight(scene)?)),
         _ => Ok(None),
     }
 }

@@ -20,10 +20,13 @@ use world::Scene;
 /// The way of a token on a map that has a trail: the cells to which its steps led, all but the last.
 #[derive(Drop)]
 pub struct Way {
+    /// The token that moves.
     pub id: TokenId,
+    /// The map on which it moves.
     pub map: Tag,
+    /// The cells to which its steps led, in their order, all but the last.
     pub cells: Vec<Cell>,
-    /// Where it ends.
+    /// The cell where it ends.
     pub last: Cell,
 }
 

@@ -33,10 +33,10 @@ use Rattle.command_json.specs.declared.verbs.GmVerb.{GmVerb}
 use Rattle.command_json.specs.declared.verbs.GmVerb.TheVariants as G
 use Rattle.command_json.specs.Verbs.{verbs, gm_verbs, keys_of, gm_keys_of}
 use Rattle.command_json.specs.Faults.{Fails}
-use Rattle.command_json.specs.EverySeat.{hello_in, bye_in, look_in, say_in, roll_in, macro_in, setmacro_in, move_in, setprop_in, light_in, make_in, remove_in, fields_in}
-use Rattle.command_json.specs.GameMaster.{map_in, mode_in, show_in, trail_in, terrain_in, wall_in, unwall_in, lighttype_in, sighttype_in, token_in, own_in, layer_in, visible_in, sight_in, place_in, secret_in, expose_in, hide_in, dump_in, gm_fields_in}
+use Rattle.command_json.specs.EverySeat.{hello_in, bye_in, look_in, say_in, roll_in, macro_in, setmacro_in, move_in, setprop_in, light_in, make_in, remove_in, init_in, uninit_in, fields_in}
+use Rattle.command_json.specs.GameMaster.{map_in, mode_in, show_in, trail_in, terrain_in, wall_in, unwall_in, lighttype_in, sighttype_in, token_in, own_in, layer_in, visible_in, sight_in, place_in, secret_in, expose_in, hide_in, turn_in, endfight_in, dump_in, gm_fields_in}
 use Rattle.command_json.specs.Commands.{by_gm_verb, by_verb, command_in, of_value, command_of, keys_in, IsBadKeyOf, NamesBadKey}
-use Rattle.command_json.specs.Fields.{args_from, texts_from, place_from, places_from, path_from, to_from, number_from, rect_from, letter_of, letter_from, least_place, most_place, least_radius, most_radius}
+use Rattle.command_json.specs.Fields.{args_from, texts_from, place_from, places_from, path_from, to_from, number_from, rect_from, letter_of, letter_from, least_place, most_place, least_radius, most_radius, least_value, most_value}
 use Rattle.command_json.specs.Limits.{IsWithin, IsNumber, IsText, IsBetween, IsCoordinate, IsPlace, IsPath, IsRect, AreArgs, IsLetter, IsCommand}
 
 -- a command keeps its limits, and a fault isn't want of memory
@@ -331,6 +331,14 @@ remove_keeps : (d : Data) → HasRisingKeys d → Keeps (keys_of V.Remove) d (re
 unfolding remove_in
 remove_keeps d rise = step (codes "token") refl (field_in id_from (codes "token") d) _ (λ token _. last rise (C.Remove token) tt)
 
+init_keeps : (d : Data) → HasRisingKeys d → Keeps (keys_of V.Init) d (init_in d)
+unfolding init_in
+init_keeps d rise = step (codes "token") refl (field_in id_from (codes "token") d) _ (λ token _. step (codes "value") refl (field_in (integer_from least_value most_value) (codes "value") d) _ (λ value is_value. last rise (C.Init token value) (of_field (IsBetween least_value most_value) (integer_from least_value most_value) (integer_keeps least_value most_value) (codes "value") d value is_value)))
+
+uninit_keeps : (d : Data) → HasRisingKeys d → Keeps (keys_of V.Uninit) d (uninit_in d)
+unfolding uninit_in
+uninit_keeps d rise = step (codes "token") refl (field_in id_from (codes "token") d) _ (λ token _. last rise (C.Uninit token) tt)
+
 fields_keep : (d : Data) → HasRisingKeys d → (verb : Verb) → Keeps (keys_of verb) d (fields_in d verb)
 unfolding fields_in
 fields_keep d rise V.Hello = hello_keeps d rise
@@ -345,6 +353,8 @@ fields_keep d rise V.Setprop = setprop_keeps d rise
 fields_keep d rise V.Light = light_keeps d rise
 fields_keep d rise V.Make = make_keeps d rise
 fields_keep d rise V.Remove = remove_keeps d rise
+fields_keep d rise V.Init = init_keeps d rise
+fields_keep d rise V.Uninit = uninit_keeps d rise
 
 map_keeps : (d : Data) → HasRisingKeys d → Keeps (gm_keys_of G.Map) d (map_in d)
 unfolding map_in
@@ -418,6 +428,14 @@ hide_keeps : (d : Data) → HasRisingKeys d → Keeps (gm_keys_of G.Hide) d (hid
 unfolding hide_in
 hide_keeps d rise = step (codes "seat") refl (field_in (whole_from 0 32) (codes "seat") d) _ (λ seat _. step (codes "map") refl (field_in tag_from (codes "map") d) _ (λ map _. step (codes "rect") refl (field_in rect_from (codes "rect") d) _ (λ rect is_rect. last rise (C.Hide seat map rect) (of_field IsRect rect_from rect_keeps (codes "rect") d rect is_rect))))
 
+turn_keeps : (d : Data) → HasRisingKeys d → Keeps (gm_keys_of G.Turn) d (turn_in d)
+unfolding turn_in
+turn_keeps d rise = last rise C.Turn tt
+
+endfight_keeps : (d : Data) → HasRisingKeys d → Keeps (gm_keys_of G.Endfight) d (endfight_in d)
+unfolding endfight_in
+endfight_keeps d rise = last rise C.Endfight tt
+
 dump_keeps : (d : Data) → HasRisingKeys d → Keeps (gm_keys_of G.Dump) d (dump_in d)
 unfolding dump_in
 dump_keeps d rise = last rise C.Dump tt
@@ -442,6 +460,8 @@ gm_fields_keep d rise G.Place = place_keeps d rise
 gm_fields_keep d rise G.Secret = secret_keeps d rise
 gm_fields_keep d rise G.Expose = expose_keeps d rise
 gm_fields_keep d rise G.Hide = hide_keeps d rise
+gm_fields_keep d rise G.Turn = turn_keeps d rise
+gm_fields_keep d rise G.Endfight = endfight_keeps d rise
 gm_fields_keep d rise G.Dump = dump_keeps d rise
 
 -- ---- lines

@@ -1,7 +1,7 @@
 -- The commands that every seat may give: for each its fields, in their order.
 use Rattle.std.specs.Prelude.{[], Result, codes}
 use Rattle.serde_json.specs.Data.{Data}
-use Rattle.json_fields.specs.Kinds.{whole_from, text_from, tag_from, id_from, class_from, or_null}
+use Rattle.json_fields.specs.Kinds.{integer_from, whole_from, text_from, tag_from, id_from, class_from, or_null}
 use Rattle.json_fields.specs.Objects.{◌>>=◌}
 use Rattle.chat.specs.declared.to.To.TheVariants.{All}
 use Rattle.command_json.specs.declared.command.Command.{Command}
@@ -10,7 +10,7 @@ use Rattle.command_json.specs.declared.command.LineFault.{LineFault}
 use Rattle.command_json.specs.declared.verbs.Verb.{Verb}
 use Rattle.command_json.specs.declared.verbs.Verb.TheVariants as V
 use Rattle.command_json.specs.Verbs.{keys_of}
-use Rattle.command_json.specs.Fields.{field, field_else, args_from, place_from, path_from, to_from, only}
+use Rattle.command_json.specs.Fields.{field, field_else, args_from, least_value, most_value, place_from, path_from, to_from, only}
 
 unfoldable pub hello_in : Data → Result Command LineFault
 hello_in d = do
@@ -82,6 +82,17 @@ remove_in d = do
   token ← field (codes "token") id_from d
   only (keys_of V.Remove) d (C.Remove token)
 
+unfoldable pub init_in : Data → Result Command LineFault
+init_in d = do
+  token ← field (codes "token") id_from d
+  value ← field (codes "value") (integer_from least_value most_value) d
+  only (keys_of V.Init) d (C.Init token value)
+
+unfoldable pub uninit_in : Data → Result Command LineFault
+uninit_in d = do
+  token ← field (codes "token") id_from d
+  only (keys_of V.Uninit) d (C.Uninit token)
+
 -- the fields of the command that the word names
 unfoldable pub fields_in : Data → Verb → Result Command LineFault
 fields_in d V.Hello = hello_in d
@@ -96,3 +107,5 @@ fields_in d V.Setprop = setprop_in d
 fields_in d V.Light = light_in d
 fields_in d V.Make = make_in d
 fields_in d V.Remove = remove_in d
+fields_in d V.Init = init_in d
+fields_in d V.Uninit = uninit_in d

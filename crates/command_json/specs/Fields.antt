@@ -53,6 +53,13 @@ least_radius = negsuc 999
 abbrev pub most_radius : ℤ
 most_radius = pos 1000
 
+-- the least and the most value of an entry in the fight
+abbrev pub least_value : ℤ
+least_value = negsuc 999
+
+abbrev pub most_value : ℤ
+most_value = pos 1000
+
 -- x and y of a cell or a point
 abbrev pub place_from : Data → Option (ℤ × ℤ)
 place_from = pair_from least_place most_place

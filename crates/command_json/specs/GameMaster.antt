@@ -138,6 +138,12 @@ hide_in d = do
   rect ← field (codes "rect") rect_from d
   only (gm_keys_of V.Hide) d (C.Hide seat map rect)
 
+unfoldable pub turn_in : Data → Result Command LineFault
+turn_in d = only (gm_keys_of V.Turn) d C.Turn
+
+unfoldable pub endfight_in : Data → Result Command LineFault
+endfight_in d = only (gm_keys_of V.Endfight) d C.Endfight
+
 unfoldable pub dump_in : Data → Result Command LineFault
 dump_in d = only (gm_keys_of V.Dump) d C.Dump
 
@@ -161,4 +167,6 @@ gm_fields_in d V.Place = place_in d
 gm_fields_in d V.Secret = secret_in d
 gm_fields_in d V.Expose = expose_in d
 gm_fields_in d V.Hide = hide_in d
+gm_fields_in d V.Turn = turn_in d
+gm_fields_in d V.Endfight = endfight_in d
 gm_fields_in d V.Dump = dump_in d

@@ -3,7 +3,7 @@ use Rattle.std.specs.Prelude.{◌≡◌, ◌≢◌, ◌≤◌, ◌≤ℤ◌, ℕ
 use Rattle.std.specs.List.{AllByRecursion}
 use Rattle.names.specs.Letters.{is_letter}
 use Rattle.names.specs.declared.kinds.PropClass.TheVariants.{Secret as SecretClass}
-use Rattle.command_json.specs.Fields.{least_place, most_place, least_radius, most_radius}
+use Rattle.command_json.specs.Fields.{least_place, most_place, least_radius, most_radius, least_value, most_value}
 use Rattle.command_json.specs.declared.command.Command.{Command}
 use Rattle.command_json.specs.declared.command.Command.TheVariants as C
 
@@ -77,4 +77,5 @@ IsCommand (C.Place token map cell) = IsPlace cell
 IsCommand (C.Secret token name value) = IsText 0 200 value
 IsCommand (C.Expose seat map rect) = IsRect rect
 IsCommand (C.Hide seat map rect) = IsRect rect
+IsCommand (C.Init token value) = IsBetween least_value most_value value
 IsCommand c = Unit {0}

@@ -1,7 +1,7 @@
 -- The words that name commands.
 use Rattle.std.specs.Prelude.{ℕ, List, [], ◌∷◌, codes}
 use Rattle.command_json.specs.declared.command.Command.{Command}
-use Rattle.command_json.specs.declared.command.Command.TheVariants.{Hello, Bye, Look, Say, Roll, Macro, Setmacro, Move, Setprop, Light, Make, Remove, Map, Mode, Show, Trail, Terrain, Wall, Unwall, Lighttype, Sighttype, Token, Own, Layer, Visible, Sight, Place, Secret, Expose, Hide, Dump}
+use Rattle.command_json.specs.declared.command.Command.TheVariants.{Hello, Bye, Look, Say, Roll, Macro, Setmacro, Move, Setprop, Light, Make, Remove, Map, Mode, Show, Trail, Terrain, Wall, Unwall, Lighttype, Sighttype, Token, Own, Layer, Visible, Sight, Place, Secret, Expose, Hide, Init, Uninit, Turn, Endfight, Dump}
 use Rattle.command_json.specs.declared.verbs.Verb.{Verb}
 use Rattle.command_json.specs.declared.verbs.Verb.TheVariants as V
 use Rattle.command_json.specs.declared.verbs.GmVerb.{GmVerb}
@@ -21,7 +21,9 @@ verbs =
     (codes "setprop", V.Setprop) ∷
     (codes "light", V.Light) ∷
     (codes "make", V.Make) ∷
-    (codes "remove", V.Remove) ∷ []
+    (codes "remove", V.Remove) ∷
+    (codes "init", V.Init) ∷
+    (codes "uninit", V.Uninit) ∷ []
 
 -- the commands that the game master alone may give
 abbrev pub gm_verbs : List (List ℕ × GmVerb)
@@ -44,6 +46,8 @@ gm_verbs =
     (codes "secret", G.Secret) ∷
     (codes "expose", G.Expose) ∷
     (codes "hide", G.Hide) ∷
+    (codes "turn", G.Turn) ∷
+    (codes "endfight", G.Endfight) ∷
     (codes "dump", G.Dump) ∷ []
 
 -- ---- the name of a command, which the reply to it has where it is accepted
@@ -78,6 +82,10 @@ name_of (Place token map cell) = codes "place"
 name_of (Secret token name value) = codes "secret"
 name_of (Expose seat map rect) = codes "expose"
 name_of (Hide seat map rect) = codes "hide"
+name_of (Init token value) = codes "init"
+name_of (Uninit token) = codes "uninit"
+name_of Turn = codes "turn"
+name_of Endfight = codes "endfight"
 name_of Dump = codes "dump"
 name_of (Move token path) = codes "move"
 
@@ -96,6 +104,8 @@ keys_of V.Setprop = codes "token" ∷ codes "class" ∷ codes "name" ∷ codes "
 keys_of V.Light = codes "token" ∷ codes "light" ∷ []
 keys_of V.Make = codes "tag" ∷ codes "map" ∷ codes "cell" ∷ codes "name" ∷ []
 keys_of V.Remove = codes "token" ∷ []
+keys_of V.Init = codes "token" ∷ codes "value" ∷ []
+keys_of V.Uninit = codes "token" ∷ []
 
 abbrev pub gm_keys_of : GmVerb → List (List ℕ)
 gm_keys_of G.Map = codes "name" ∷ codes "w" ∷ codes "h" ∷ []
@@ -116,4 +126,6 @@ gm_keys_of G.Place = codes "token" ∷ codes "map" ∷ codes "cell" ∷ []
 gm_keys_of G.Secret = codes "token" ∷ codes "name" ∷ codes "value" ∷ []
 gm_keys_of G.Expose = codes "seat" ∷ codes "map" ∷ codes "rect" ∷ []
 gm_keys_of G.Hide = codes "seat" ∷ codes "map" ∷ codes "rect" ∷ []
+gm_keys_of G.Turn = []
+gm_keys_of G.Endfight = []
 gm_keys_of G.Dump = []

@@ -2,13 +2,18 @@
 ghost use Rattle.serde_json.specs.View.{view};
 ghost use Rattle.json_fields.specs.Objects.{Gives};
 ghost use Rattle.command_json.specs.Faults.{Fails};
-ghost use Rattle.command_json.specs.EverySeat.{hello_in, bye_in, look_in, say_in, roll_in, macro_in, setmacro_in, move_in, setprop_in, light_in, make_in, remove_in, fields_in};
+ghost use Rattle.command_json.specs.EverySeat.{hello_in, bye_in, look_in, say_in, roll_in, macro_in, setmacro_in, move_in, setprop_in, light_in, make_in, remove_in, init_in, uninit_in, fields_in};
 
 use crate::command::{Command, LineFault};
 use crate::fields;
 use crate::verbs::Verb;
 use serde_json::Value;
 use std::alloc::Global;
+
+/// The least and the most value of an entry in the fight.
+const LEAST_VALUE: i16 = -1000;
+
+const MOST_VALUE: i16 = 1000;
 
 #[tactic(auto, unfolding(crate::specs::EverySeat::hello_in))]
 fn hello_of(alloc: Global, object: &Value) -> Result<Command, LineFault>
@@ -173,6 +178,28 @@ fn remove_of(alloc: Global, object: &Value) -> Result<Command, LineFault>
     fields::only(alloc, object, &["do", "token"], Command::Remove { token })
 }
 
+#[tactic(auto, unfolding(crate::specs::EverySeat::init_in))]
+fn init_of(alloc: Global, object: &Value) -> Result<Command, LineFault>
+    ensures { Gives Fails (λ c. c) result (init_in (view object.now)) }
+{
+    let token = fields::id(alloc, object, "token")?;
+    let value = fields::small(alloc, object, "value", LEAST_VALUE, MOST_VALUE)?;
+    fields::only(
+        alloc,
+        object,
+        &["do", "token", "value"],
+        Command::Init { token, value },
+    )
+}
+
+#[tactic(auto, unfolding(crate::specs::EverySeat::uninit_in))]
+fn uninit_of(alloc: Global, object: &Value) -> Result<Command, LineFault>
+    ensures { Gives Fails (λ c. c) result (uninit_in (view object.now)) }
+{
+    let token = fields::id(alloc, object, "token")?;
+    fields::only(alloc, object, &["do", "token"], Command::Uninit { token })
+}
+
 /// The command that the word names, with its fields.
 #[tactic(auto, unfolding(crate::specs::EverySeat::fields_in))]
 pub(crate) fn read_fields(alloc: Global, object: &Value, verb: Verb) -> Result<Command, LineFault>
@@ -191,5 +218,7 @@ pub(crate) fn read_fields(alloc: Global, object: &Value, verb: Verb) -> Result<C
         Verb::Light => light_of(alloc, object),
         Verb::Make => make_of(alloc, object),
         Verb::Remove => remove_of(alloc, object),
+        Verb::Init => init_of(alloc, object),
+        Verb::Uninit => uninit_of(alloc, object),
     }
 }

@@ -75,6 +75,22 @@ pub(crate) fn integer(
     }
 }
 
+/// A whole number from `least` to `most`, of 16 bits.
+pub(crate) fn small(
+    alloc: Global,
+    value: &Value,
+    key: &str,
+    least: i16,
+    most: i16,
+) -> Result<i16, LineFault>
+    ensures { Gives Fails (λ n. n) result (field_lem key.now (integer_from least most) (view value.now)) }
+{
+    match fields::integer(value, key, i64::from(least), i64::from(most)) {
+        Some(number) => Ok(number as i16),
+        None => Err(bad_field(alloc, key)),
+    }
+}
+
 /// A whole number from `least` to `most`, or `default` where the key is missing.
 pub(crate) fn integer_or(
     alloc: Global,

@@ -2,7 +2,7 @@
 ghost use Rattle.serde_json.specs.View.{view};
 ghost use Rattle.json_fields.specs.Objects.{Gives};
 ghost use Rattle.command_json.specs.Faults.{Fails};
-ghost use Rattle.command_json.specs.GameMaster.{map_in, mode_in, show_in, trail_in, terrain_in, wall_in, unwall_in, lighttype_in, sighttype_in, token_in, own_in, layer_in, visible_in, sight_in, place_in, secret_in, expose_in, hide_in, dump_in, gm_fields_in};
+ghost use Rattle.command_json.specs.GameMaster.{map_in, mode_in, show_in, trail_in, terrain_in, wall_in, unwall_in, lighttype_in, sighttype_in, token_in, own_in, layer_in, visible_in, sight_in, place_in, secret_in, expose_in, hide_in, turn_in, endfight_in, dump_in, gm_fields_in};
 
 use crate::command::{Command, LineFault};
 use crate::fields;
@@ -297,6 +297,20 @@ fn hide_of(alloc: Global, object: &Value) -> Result<Command, LineFault>
     )
 }
 
+#[tactic(auto, unfolding(crate::specs::GameMaster::turn_in))]
+fn turn_of(alloc: Global, object: &Value) -> Result<Command, LineFault>
+    ensures { Gives Fails (λ c. c) result (turn_in (view object.now)) }
+{
+    fields::only(alloc, object, &["do"], Command::Turn)
+}
+
+#[tactic(auto, unfolding(crate::specs::GameMaster::endfight_in))]
+fn endfight_of(alloc: Global, object: &Value) -> Result<Command, LineFault>
+    ensures { Gives Fails (λ c. c) result (endfight_in (view object.now)) }
+{
+    fields::only(alloc, object, &["do"], Command::Endfight)
+}
+
 #[tactic(auto, unfolding(crate::specs::GameMaster::dump_in))]
 fn dump_of(alloc: Global, object: &Value) -> Result<Command, LineFault>
     ensures { Gives Fails (λ c. c) result (dump_in (view object.now)) }
@@ -332,6 +346,8 @@ pub(crate) fn read_gm_fields(
         GmVerb::Secret => secret_of(alloc, object),
         GmVerb::Expose => expose_of(alloc, object),
         GmVerb::Hide => hide_of(alloc, object),
+        GmVerb::Turn => turn_of(alloc, object),
+        GmVerb::Endfight => endfight_of(alloc, object),
         GmVerb::Dump => dump_of(alloc, object),
     }
 }

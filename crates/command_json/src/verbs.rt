@@ -23,6 +23,8 @@ pub(crate) enum Verb {
     Light,
     Make,
     Remove,
+    Init,
+    Uninit,
 }
 
 /// A command that the game master alone may give.
@@ -46,6 +48,8 @@ pub(crate) enum GmVerb {
     Secret,
     Expose,
     Hide,
+    Turn,
+    Endfight,
     Dump,
 }
 
@@ -65,6 +69,8 @@ pub(crate) fn read_verb(value: &Value) -> Option<Verb>
         ("light", Verb::Light),
         ("make", Verb::Make),
         ("remove", Verb::Remove),
+        ("init", Verb::Init),
+        ("uninit", Verb::Uninit),
     ];
     word(value, "do", &table)
 }
@@ -91,6 +97,8 @@ pub(crate) fn read_gm_verb(value: &Value) -> Option<GmVerb>
         ("secret", GmVerb::Secret),
         ("expose", GmVerb::Expose),
         ("hide", GmVerb::Hide),
+        ("turn", GmVerb::Turn),
+        ("endfight", GmVerb::Endfight),
         ("dump", GmVerb::Dump),
     ];
     word(value, "do", &table)
@@ -132,6 +140,10 @@ impl Command {
             Command::Secret { .. } => "secret",
             Command::Expose { .. } => "expose",
             Command::Hide { .. } => "hide",
+            Command::Init { .. } => "init",
+            Command::Uninit { .. } => "uninit",
+            Command::Turn => "turn",
+            Command::Endfight => "endfight",
             Command::Dump => "dump",
         }
     }

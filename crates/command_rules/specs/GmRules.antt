@@ -1,5 +1,5 @@
 -- The first broken rule of a game master's command, over the whole scene.
-use Rattle.std.specs.Prelude.{ℕ, ◌==◌, ◌&&◌, Bool, if◌then◌else◌, List, Option, Some, None, option_map, ℤ, nat_le}
+use Rattle.std.specs.Prelude.{ℕ, ◌==◌, ◌&&◌, Bool, if◌then◌else◌, List, length, Option, Some, None, option_map, ℤ, nat_le}
 use Rattle.lights.specs.Lights.{light_fault}
 use Rattle.lights.specs.declared.LightFault.{LightFault}
 use Rattle.lights.specs.declared.LightFault.TheVariants as light_faults
@@ -21,11 +21,11 @@ use Rattle.topology.specs.WallFaults.{wall_fault}
 use Rattle.topology.specs.declared.walls.WallFault.{WallFault}
 use Rattle.topology.specs.declared.walls.WallFault.TheVariants as wall_faults
 use Rattle.command_json.specs.declared.command.Command.{Command}
-use Rattle.command_json.specs.declared.command.Command.TheVariants.{Map, Mode, Show, Trail, Terrain, Wall, Unwall, Lighttype, Sighttype, Token as TokenCommand, Own, Layer, Visible, Sight, Place, Secret, Expose, Hide, Dump}
+use Rattle.command_json.specs.declared.command.Command.TheVariants.{Map, Mode, Show, Trail, Terrain, Wall, Unwall, Lighttype, Sighttype, Token as TokenCommand, Own, Layer, Visible, Sight, Place, Secret, Expose, Hide, Turn, Endfight, Dump}
 use Rattle.world.specs.Scene.{Scene}
 use Rattle.world.specs.Rules.{is_known}
 use Rattle.command_rules.specs.declared.refusal.Refusal.{Refusal}
-use Rattle.command_rules.specs.declared.refusal.Refusal.TheVariants.{BadCommand, OffMap, NoSuchSeat, PropertyLimit, MapExists, MapLimit, NoSuchMap, WallLimit, DegenerateWall, WallThere, NoSuchWall, TypeLimit, BadRadius, BadRange, IdUsed, TokenLimit, NoSuchToken, UnknownSight, NotAPlayer}
+use Rattle.command_rules.specs.declared.refusal.Refusal.TheVariants.{BadCommand, OffMap, NoSuchSeat, PropertyLimit, MapExists, MapLimit, NoSuchMap, WallLimit, DegenerateWall, WallThere, NoSuchWall, TypeLimit, BadRadius, BadRange, IdUsed, TokenLimit, NoSuchToken, UnknownSight, NotAPlayer, EmptyList}
 use Rattle.command_rules.specs.Places.{Numbers, coordinate, fits_at, rect_fits, point_fits, point_at}
 
 -- ---- faults of tables as refusals: want of memory is none
@@ -130,5 +130,7 @@ gm_rule s tags (Place token map cell) = token_rule (λ t. map_rule (square_rule 
 gm_rule s tags (Secret token name value) = token_rule (λ t. room_rule t.secret name) (token_of token s.tokens)
 gm_rule s tags (Expose seat map rect) = then_rule (player_rule s.fog.players seat) (map_rule (rect_rule rect) (map_of map s.maps))
 gm_rule s tags (Hide seat map rect) = then_rule (player_rule s.fog.players seat) (map_rule (rect_rule rect) (map_of map s.maps))
+gm_rule s tags Turn = if length s.fight.list == 0 then Some EmptyList else None
+gm_rule s tags Endfight = None
 gm_rule s tags Dump = None
 gm_rule s tags c = Some BadCommand

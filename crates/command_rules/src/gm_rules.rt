@@ -1,12 +1,12 @@
 //! The first broken rule of a game master's command, over the whole scene.
-ghost use Rattle.std.specs.Prelude.{◌≡◌, None, option_map};
+ghost use Rattle.std.specs.Prelude.{◌≡◌, ◌==◌, if◌then◌else◌, None, Some, length, option_map};
 ghost use Rattle.lights.specs.Lights.{light_fault};
 ghost use Rattle.sight_types.specs.Sights.{sight_fault};
 ghost use Rattle.maps.specs.Maps.{Grid, map_of};
 ghost use Rattle.maps.specs.MapFaults.{map_fault};
 ghost use Rattle.tokens.specs.Tokens.{token_of};
 ghost use Rattle.world.specs.Rules.{is_known as is_known_lem};
-ghost use Rattle.command_rules.specs.declared.refusal.Refusal.TheVariants.{OffMap, UnknownSight};
+ghost use Rattle.command_rules.specs.declared.refusal.Refusal.TheVariants.{EmptyList, OffMap, UnknownSight};
 ghost use Rattle.command_rules.specs.Places.{coordinate as coordinate_lem};
 ghost use Rattle.command_rules.specs.GmRules.{of_map_fault as of_map_fault_lem, of_wall_fault as of_wall_fault_lem, of_light_fault as of_light_fault_lem, of_sight_fault as of_sight_fault_lem, map_rule, token_rule, then_rule, unless, tag_rule as tag_rule_lem, room_rule as room_rule_lem, player_rule as player_rule_lem, rect_rule as rect_rule_lem, square_rule as square_rule_lem, ends_fit as ends_fit_lem, wall_rule as wall_rule_lem, unwall_rule as unwall_rule_lem, new_token_rule as new_token_rule_lem, gm_rule as gm_rule_lem};
 
@@ -342,6 +342,19 @@ fn fog_rule(scene: &Scene, seat: SeatNo, map: Tag, rect: (i32, i32, i32, i32)) -
     }
 }
 
+// ---- the fight
+
+/// There has to be an entry in the fight.
+fn turn_rule(scene: &Scene) -> Option<Refusal>
+    ensures { result ≡ (if length scene.now.fight.list == 0 then Some EmptyList else None) }
+{
+    if scene.fight().len() == 0 {
+        Some(Refusal::EmptyList)
+    } else {
+        None
+    }
+}
+
 // ---- all commands
 
 /// The first broken rule of a command of the game master, whose seat this is and who has this book. A command that isn't the
@@ -381,6 +394,8 @@ pub fn gm_rule(scene: &Scene, seat: SeatNo, book: &SeatBook, command: &Command) 
         Command::Secret { token, name, .. } => secret_rule(scene, *token, *name),
         Command::Expose { seat, map, rect } => fog_rule(scene, *seat, *map, *rect),
         Command::Hide { seat, map, rect } => fog_rule(scene, *seat, *map, *rect),
+        Command::Turn => turn_rule(scene),
+        Command::Endfight => None,
         Command::Dump => None,
         _ => Some(Refusal::BadCommand),
     }

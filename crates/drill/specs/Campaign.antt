@@ -15,6 +15,7 @@ use Rattle.tokens.specs.declared.token.Token.{Token}
 use Rattle.tokens.specs.Owners.{with_owner}
 use Rattle.tokens.specs.Tokens.{put}
 use Rattle.fog_book.specs.Exposures.{Fog, blank_sets}
+use Rattle.initiative.specs.Fights.{no_fight}
 use Rattle.seats.specs.Book.{Book, fresh_book}
 use Rattle.sight_types.specs.declared.Sight.{Sight}
 use Rattle.world.specs.World.{World}
@@ -109,7 +110,7 @@ drill_sights = (codes "dark", record { range = 30; night = 12; mult = 4 }) ∷ (
 abbrev pub drill_fog : Fog
 drill_fog = record { players = 4; sets = blank_sets 4 (codes "drill") whole_size }
 
--- the world with these walls and tokens
+-- the world with these walls and tokens, and no fight
 unfoldable pub world_with : List Wall → List Token → World
 world_with walls tokens = record {
   scene = record {
@@ -118,6 +119,7 @@ world_with walls tokens = record {
     lights = drill_lights;
     sights = drill_sights;
     fog = drill_fog;
+    fight = no_fight;
   };
   books = map book_at (range_with_len 0 5);
 }

@@ -180,6 +180,16 @@ impl Fight {
         }
     }
 
+    /// The entries in their order: the greatest value first, and of equal values the least id first.
+    ///
+    /// To go over all of them takes one walk, which places given to `at` don't.
+    pub fn entries(&self) -> &BTreeSet<Entry>
+        ensures value { result.now.keys ≡ self.now.list }
+        ensures valid { IsFight self.now }
+    {
+        &self.entries
+    }
+
     /// Whether the token has an entry.
     pub fn has(&self, id: TokenId) -> bool
         ensures { result ≡ is_listed id self.now.list }

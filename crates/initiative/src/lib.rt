@@ -9,6 +9,3 @@ mod fight;
 
 pub use entry::Entry;
 pub use fight::{Fight, MOST_ROUND};
-
-#[cfg(test)]
-mod tests;

@@ -1,3 +1,4 @@
+pub mod FightLemmas
 pub mod Alike
 pub mod Tells
 pub mod ListLemmas

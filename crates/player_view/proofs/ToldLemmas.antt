@@ -11,23 +11,28 @@ use Rattle.names.specs.declared.token_id.TokenId.{TokenId}
 use Rattle.names.specs.TokenId.{id_cmp, id_eq}
 use Rattle.names.proofs.SameIds.{id_eq-Decides}
 use Rattle.cells.specs.Cells.{has}
+use Rattle.initiative.specs.declared.entry.Entry.{Entry}
 use Rattle.maps.specs.Maps.{Grid, map_of}
 use Rattle.tokens.specs.declared.token.Token.{Token}
 use Rattle.tokens.specs.Tokens.{token_of}
 use Rattle.views.specs.declared.view.MapView.{MapView}
 use Rattle.views.specs.declared.view.TokenView.{TokenView}
+use Rattle.views.specs.Same.{same_entry}
 use Rattle.views.specs.declared.view.View.{View}
+use Rattle.views.proofs.SameLemmas.{same_entry-tells}
 use Rattle.views.proofs.InOrder.{each_found, at-find}
 use Rattle.views.proofs.Orders.{id_total, id_ties_turned}
 use Rattle.vision.proofs.SeenLemmas.{Decides-any}
 use Rattle.world.specs.Scene.{Scene}
+use Rattle.player_view.specs.Fights.{entry_text, fight_in, list_in, stands_in}
 use Rattle.player_view.specs.Relations.{IsShownMap, IsVisible, IsShown, Owns}
 use Rattle.player_view.specs.Sight.{is_shown_map, owns, visible}
 use Rattle.player_view.specs.Shown.{is_shown}
 use Rattle.player_view.specs.Tables.{HasTables}
-use Rattle.player_view.specs.Told.{IsTold, HasSight, HasOwned}
-use Rattle.player_view.specs.View.{is_gm, has_map, has_token, all_cells, seen_by, map_view, token_view, owned_part, gm_part, view_of}
+use Rattle.player_view.specs.Told.{IsTold, IsShownEntry, HasSight, HasOwned}
+use Rattle.player_view.specs.View.{is_gm, has_map, has_token, all_cells, seen_by, map_view, token_view, owned_part, gm_part, tokens_of, view_of}
 use Rattle.player_view.proofs.Alike.{not_gm}
+use Rattle.player_view.proofs.FightLemmas.{entry_in, is_entry, is_entry-tells, listed}
 use Rattle.player_view.proofs.LetterOrder.{any_kept}
 use Rattle.player_view.proofs.Tells.{shown_tells, has_visible_tells, map_tells, owns_tells}
 use Rattle.player_view.proofs.ViewIs.{each_map_there, map_in_view}
@@ -63,6 +68,17 @@ module _ (s : Scene) (q : ℕ) (are : HasTables s) (gm : is_gm q ≡ false) wher
       (Decides-any (λ v. id_eq v.id id) (λ v. v.id ≡ id) (λ v. id_eq-Decides v.id id) (map (token_view s q) (filter (has_token s q) s.tokens)))
       (Decides-any (λ t. has_token s q t && id_eq t.id id) (λ t. (t.id ≡ id) × IsShown s q t)
       (λ t. Decides-like _ (λ h. (h.1, h.0)) (λ h. (h.1, h.0)) (Decides-and _ _ (token_tells t) (id_eq-Decides t.id id))) s.tokens)
+
+  stands_tells : (id : TokenId) → Decides (stands_in (is_gm q) (tokens_of s q) id) (Any (λ t. (t.id ≡ id) × IsShown s q t) s.tokens)
+  stands_tells id =
+      Decides-like _ (tokens_tell id).0 (tokens_tell id).1
+      (Decides-at _ _ (ap (λ b. b || list_any (λ t. id_eq t.id id) (tokens_of s q)) gm) (Decides-any (λ v. id_eq v.id id) (λ v. v.id ≡ id) (λ v. id_eq-Decides v.id id) (tokens_of s q)))
+
+  entries_tell : (e : Entry) → Any (λ x. x ≡ entry_text e) (list_in (fight_in (is_gm q) (tokens_of s q) s.fight)) ↔ IsShownEntry s q e
+  entries_tell e =
+      same_fact _ _ (ap (list_any (λ x. same_entry x (entry_text e))) (listed (is_gm q) (tokens_of s q) s.fight) ∙ entry_in (is_gm q) (tokens_of s q) e s.fight.list)
+      (Decides-any (λ x. same_entry x (entry_text e)) (λ x. x ≡ entry_text e) (λ x. same_entry-tells x (entry_text e)) (list_in (fight_in (is_gm q) (tokens_of s q) s.fight)))
+      (Decides-and _ _ (Decides-any (is_entry e) (λ f. f ≡ e) (is_entry-tells e) s.fight.list) (stands_tells e.id))
 
   shown_kept : (o : Option Grid) → is_some (option_map (map_view s q) (kept (has_map q) o)) ≡ is_shown_map o
   shown_kept None = refl
@@ -110,6 +126,7 @@ told s q are player =
           (All-filter (has_map q) (λ m. HasSight s q (map_view s q m)) s.maps (λ k d h. seen_at s q are gm (get_or s.maps k d) (each_map_there s are k d h)));
       owned = All-map (HasOwned s q) (token_view s q) (filter (has_token s q) s.tokens)
           (All-filter (has_token s q) (λ t. HasOwned s q (token_view s q t)) s.tokens (λ k d h. owned_at s q are gm (get_or s.tokens k d) (each_token_there s are k d h)));
+      fight = entries_tell s q are gm;
       no_whole = All-map (λ (t : TokenView). t.whole ≡ None) (token_view s q) (filter (has_token s q) s.tokens)
           (λ k d h. ap (λ b. cond b (Some (gm_part (get_or (filter (has_token s q) s.tokens) k d))) None) gm);
       no_flag = All-map (λ (m : MapView). m.shown ≡ None) (map_view s q) (filter (has_map q) s.maps)

@@ -10,11 +10,13 @@ use Rattle.tokens.specs.declared.token.Token.{Token}
 use Rattle.tokens.specs.Tokens.{has_id}
 use Rattle.tokens.specs.Properties.{Property}
 use Rattle.names.specs.TokenId.{id_eq}
+use Rattle.initiative.specs.Fights.{is_listed}
 use Rattle.views.specs.declared.view.View.{View}
 use Rattle.views.specs.declared.view.MapView.{MapView}
 use Rattle.views.specs.declared.view.TokenView.{TokenView}
 use Rattle.readable.specs.Table.{Table}
 pub use Rattle.player_view.specs.Readables.{props_in}
+pub use Rattle.player_view.specs.Fights.{list_in}
 use Rattle.player_view.specs.Readables.{readable_of, readable_by_view}
 use Rattle.player_view.specs.View.{is_gm, acts_on, has_map, exposed_to}
 use Rattle.world.specs.Scene.{Scene}
@@ -38,6 +40,8 @@ pub record Asked : Type 0 where
   pub seats : ℕ
   -- the token of that id that the seat may act on
   pub mine : TokenId → Option Mine
+  -- whether the token of that id, where the seat may act on it, has an entry in the fight
+  pub listed : TokenId → Bool
   -- the map of that name that the seat is shown
   pub known : List ℕ → Option Known
   -- whether there is a light type of that name
@@ -59,6 +63,7 @@ unfoldable pub asked_of : ℕ → Scene → ℕ → Asked
 asked_of seats s q = record {
   seats = seats;
   mine = λ id. option_map mine_of (find (λ t. has_id id t && acts_on s q t) s.tokens);
+  listed = λ id. list_any (λ t. has_id id t && acts_on s q t) s.tokens && is_listed id s.fight.list;
   known = λ name. option_map (known_of s q) (find (λ m. has_map q m && has_name name m) s.maps);
   has_light = λ name. list_any (λ light. bytes_eq name light.0) s.lights;
   readable = readable_of seats s q;
@@ -77,6 +82,7 @@ unfoldable pub asked_of_view : ℕ → View → Asked
 asked_of_view seats v = record {
   seats = seats;
   mine = λ id. option_map mine_in (find (λ t. id_eq t.id id && is_some t.owned) v.tokens);
+  listed = λ id. list_any (λ t. id_eq t.id id && is_some t.owned) v.tokens && list_any (λ e. id_eq e.0 id) (list_in v.fight);
   known = λ name. option_map known_in (find (λ m. bytes_eq m.name name) v.maps);
   has_light = λ name. list_any (λ light. bytes_eq name light.0) v.lights;
   readable = readable_by_view seats v;

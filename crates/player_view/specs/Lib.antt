@@ -2,6 +2,7 @@ pub mod Sight
 pub mod Seen
 pub mod Shown
 pub mod Relations
+pub mod Fights
 pub mod View
 pub mod Lettered
 pub mod Asked

@@ -17,13 +17,13 @@ use Rattle.views.specs.declared.view.MapView.{MapView}
 use Rattle.views.specs.declared.view.View.{View}
 use Rattle.views.specs.Keys.{Named, Letter, cell_cmp, name_of, cell_of, map_name, change_name, token_id}
 use Rattle.std.specs.Option.{option_eq, option_or}
-use Rattle.views.specs.Same.{same_bool, same_mode, same_letter, same_light, same_bytes, same_map, same_token, same_view}
+use Rattle.views.specs.Same.{same_bool, same_mode, same_letter, same_light, same_bytes, same_fight, same_map, same_token, same_view}
 use Rattle.views.specs.Order.{at, in_order}
 use Rattle.view_change.specs.Keyed.{put_all, applied, gone_from, is_among, puts_from}
 use Rattle.views.specs.Views.{at_name, letter_at, is_on_map, IsMapView, IsView, FollowsView}
 use Rattle.view_change.specs.Change.{minus, shown_change, map_change, map_with, difference, change_of, apply_change}
 use Rattle.views.specs.Lettered.{has_letter}
-use Rattle.views.proofs.SameLemmas.{Tells, option_eq-tells, same_bool-tells, same_mode-tells, same_letter-tells, same_light-tells, same_bytes-tells, same_map-tells, same_token-tells, same_view-tells}
+use Rattle.views.proofs.SameLemmas.{Tells, option_eq-tells, same_bool-tells, same_mode-tells, same_letter-tells, same_light-tells, same_bytes-tells, same_fight-tells, same_map-tells, same_token-tells, same_view-tells}
 use Rattle.views.proofs.Orders.{tag_total, id_total, cell_total}
 use Rattle.views.proofs.Orders.{tag_anti, tag_ties, id_anti, id_ties, cell_anti}
 use Rattle.views.proofs.Orders.{eq_is}
@@ -43,8 +43,8 @@ lt_is m n e = grind (arith, nat_tests)
 
 -- ---- the parts of a map
 
-mode-gives : {A : Type 0} (same : A → A → Bool) → Tells same → (x y : A) → unwrap_or (cond (same x y) None (Some y)) x ≡ y
-mode-gives same tells x y = here (same x y) (tells x y)
+part-gives : {A : Type 0} (same : A → A → Bool) → Tells same → (x y : A) → unwrap_or (cond (same x y) None (Some y)) x ≡ y
+part-gives same tells x y = here (same x y) (tells x y)
   where
     here : (b : Bool) → Decides b (x ≡ y) → unwrap_or (cond b None (Some y)) x ≡ y
     here true d = d.0 refl
@@ -160,7 +160,7 @@ module _ (gm : Bool) (a b : MapView) (fa : IsMapView gm a) (fb : IsMapView gm b)
   map_with-change name = λ i. record {
     name = name i;
     size = size i;
-    mode = mode-gives same_mode same_mode-tells a.mode b.mode i;
+    mode = part-gives same_mode same_mode-tells a.mode b.mode i;
     shown = shown_change-gives a.shown b.shown (fa.shown ∙ sym fb.shown) i;
     seen = sets-give a.size a.seen b.seen fa.seen_size (fb.seen_size ∙ sym size) fb.seen i;
     exposed = exposed-gives i;
@@ -205,6 +205,7 @@ gives_after a b fa fb f = λ i. record {
       (same_sizes q a b f x y ex ey name) name) i;
   tokens = applied-puts id_cmp token_id id_total id_anti same_token same_token-tells (is_among id_eq (gone_from id_eq token_id a.tokens b.tokens)) a.tokens b.tokens (T_of _ fa.tokens) (T_of _ fb.tokens)
       (λ q s. is_among-gone_from id_cmp token_id id_total id_anti id_eq id_ties q a.tokens b.tokens s) i;
+  fight = part-gives (option_eq same_fight) (option_eq-tells same_fight same_fight-tells) a.fight b.fight i;
 }
 
 -- there is no change exactly between equal views

@@ -9,15 +9,16 @@ ghost use Rattle.view_change.specs.Keyed.{has_key, gone_from, news as news_list,
 ghost use Rattle.views.specs.Same.{same_light, same_bytes, same_letter, same_map as same_map_test, same_token as same_token_test};
 ghost use Rattle.views.specs.Views.{at_name, KeepLetters, KeepsLetters};
 ghost use Rattle.view_change.specs.Views.{fits_test, HaveOneSize, FitsAmong};
-ghost use Rattle.view_change.specs.Change.{minus as minus_cells, mode_change as mode_change_of, shown_change as shown_change_of, map_change as map_change_of, difference as difference_of, change_of as change_between};
+ghost use Rattle.view_change.specs.Change.{minus as minus_cells, mode_change as mode_change_of, shown_change as shown_change_of, map_change as map_change_of, difference as difference_of, change_of as change_between, fight_change};
 
 use crate::news::news;
 use cells::CellSet;
 use names::{Memory, Mode, Tag, TokenId};
 use std::alloc::Global;
 use views::{
-    Change, Letters, LightTexts, MapChange, MapChanges, MapView, MapViews, SightTexts, Tags,
-    TokenIds, TokenView, TokenViews, View, same_map_by, same_mode, same_shown, same_view_by,
+    Change, FightView, Letters, LightTexts, MapChange, MapChanges, MapView, MapViews, SightTexts,
+    Tags, TokenIds, TokenView, TokenViews, View, copy_fight, same_fight, same_map_by, same_mode,
+    same_shown, same_view_by,
 };
 
 fn new_lights(alloc: Global, before: &LightTexts, after: &LightTexts) -> Result<LightTexts, Memory>
@@ -149,6 +150,18 @@ fn new_shown(before: Option<bool>, after: Option<bool>) -> Option<bool>
     }
 }
 
+fn new_fight(
+    before: &Option<FightView>,
+    after: &Option<FightView>,
+) -> Result<Option<Option<FightView>>, Memory>
+    ensures { IfOk result (λ fight. fight ≡ fight_change before.now after.now) }
+{
+    if same_fight(before, after) {
+        return Ok(None);
+    }
+    Ok(Some(copy_fight(after)?))
+}
+
 fn map_change(
     alloc: Global,
     before: &MapView,
@@ -248,6 +261,7 @@ fn difference(
 {
     Ok(Change {
         changed: changed_maps(alloc, before.maps.items(), after.maps.items(), by_exposed)?,
+        fight: new_fight(&before.fight, &after.fight)?,
         gone: gone_tokens(alloc, &before.tokens, &after.tokens)?,
         lights: new_lights(alloc, &before.lights, &after.lights)?,
         maps: new_maps(alloc, &before.maps, &after.maps)?,

@@ -9,13 +9,14 @@ use Rattle.views.specs.declared.view.MapView.{MapView}
 use Rattle.views.specs.declared.view.TokenView.{TokenView}
 use Rattle.views.specs.declared.view.OwnedPart.{OwnedPart}
 use Rattle.views.specs.declared.view.GmPart.{GmPart}
+use Rattle.views.specs.declared.view.FightView.{FightView}
 use Rattle.views.specs.declared.view.View.{View}
 use Rattle.views.specs.declared.change.Change.{Change}
 use Rattle.views.specs.declared.change.MapChange.{MapChange}
 use Rattle.views.specs.Keys.{Named}
 use Rattle.json_lines.specs.Tokens.{value_tokens}
 use Rattle.json_lines.proofs.Behind.{IsBehind, Stand, none, one_more, no_more, whole_object}
-use Rattle.view_lines.specs.Lines.{with_member, whole, list_data, wholes_data, text_or_null, put_list, put_some, named_data, radius_data, lights_data, sights_data, put_types, props_data, cell_data, runs_data, terrain_data, mode_data, map_data, put_owned, put_whole, token_members, token_data, maps_data, tokens_data, lettered, map_change_data, change_data, view_data}
+use Rattle.view_lines.specs.Lines.{with_member, whole, list_data, wholes_data, text_or_null, put_list, put_some, named_data, radius_data, lights_data, sights_data, put_types, props_data, cell_data, runs_data, terrain_data, mode_data, map_data, put_owned, put_whole, token_members, token_data, maps_data, tokens_data, lettered, map_change_data, change_data, view_data, entry_data, id_or_null, fight_data, fight_or_null}
 use Rattle.view_lines.specs.Tokens.{list_tokens, some_tokens, types_tokens}
 
 module _ (name next : List ℕ) (ms : Members) (before : List Token → List Token) (h : IsBehind next name) (s : Stand name ms before) where
@@ -121,16 +122,32 @@ map_change_tokens c =
     (string_data c.name))
     boolean c.shown)
 
+-- ---- fights
+
+pub fight_tokens : (f : FightView) → value_tokens (fight_data f)
+    ≡ begin_object ∷ key (codes "list") ∷ (value_tokens (list_data (map entry_data f.list))
+    ++ key (codes "round") ∷ number (decimal f.round) ∷ key (codes "turn") ∷ (value_tokens (id_or_null f.turn) ++ end_object ∷ []))
+unfolding fight_data
+fight_tokens f =
+    whole_object (codes "u") _ _
+    (member_more (codes "turn") (codes "u") _ _ refl
+    (member_more (codes "round") (codes "turn") _ _ refl
+    (member_more (codes "list") (codes "round") _ _ refl (none (codes "list"))
+    (list_data (map entry_data f.list)))
+    (whole f.round))
+    (id_or_null f.turn))
+
 -- ---- changes and views
 
 pub change_tokens : (c : Change) → value_tokens (change_data c)
     ≡ begin_object ∷ (list_tokens (codes "changed") (map map_change_data c.changed)
+    ++ (some_tokens (codes "fight") fight_or_null c.fight
     ++ (list_tokens (codes "gone") (map (λ id. string_data (id_text id)) c.gone)
     ++ (types_tokens (codes "lights") radius_data c.lights
     ++ (list_tokens (codes "maps") (maps_data c.maps)
     ++ (types_tokens (codes "sights") wholes_data c.sights
     ++ (list_tokens (codes "tokens") (tokens_data c.tokens)
-    ++ (list_tokens (codes "unmapped") (map string_data c.unmapped) ++ end_object ∷ [])))))))
+    ++ (list_tokens (codes "unmapped") (map string_data c.unmapped) ++ end_object ∷ []))))))))
 unfolding change_data
 change_tokens c =
     whole_object (codes "v") _ _
@@ -140,8 +157,10 @@ change_tokens c =
     (list_more (codes "maps") (codes "sights") _ _ refl
     (types_more (codes "lights") (codes "maps") _ _ refl
     (list_more (codes "gone") (codes "lights") _ _ refl
-    (list_more (codes "changed") (codes "gone") _ _ refl (none (codes "changed"))
+    (some_more (codes "fight") (codes "gone") _ _ refl
+    (list_more (codes "changed") (codes "fight") _ _ refl (none (codes "changed"))
     (map map_change_data c.changed))
+    fight_or_null c.fight)
     (map (λ id. string_data (id_text id)) c.gone))
     radius_data c.lights)
     (maps_data c.maps))
@@ -150,17 +169,20 @@ change_tokens c =
     (map string_data c.unmapped))
 
 pub view_tokens : (v : View) → value_tokens (view_data v)
-    ≡ begin_object ∷ key (codes "lights") ∷ (value_tokens (lights_data v.lights)
+    ≡ begin_object ∷ (some_tokens (codes "fight") fight_data v.fight
+    ++ key (codes "lights") ∷ (value_tokens (lights_data v.lights)
     ++ key (codes "maps") ∷ (value_tokens (list_data (maps_data v.maps))
     ++ key (codes "sights") ∷ (value_tokens (sights_data v.sights)
-    ++ key (codes "tokens") ∷ (value_tokens (list_data (tokens_data v.tokens)) ++ end_object ∷ []))))
+    ++ key (codes "tokens") ∷ (value_tokens (list_data (tokens_data v.tokens)) ++ end_object ∷ [])))))
 unfolding view_data
 view_tokens v =
     whole_object (codes "u") _ _
     (member_more (codes "tokens") (codes "u") _ _ refl
     (member_more (codes "sights") (codes "tokens") _ _ refl
     (member_more (codes "maps") (codes "sights") _ _ refl
-    (member_more (codes "lights") (codes "maps") _ _ refl (none (codes "lights"))
+    (member_more (codes "lights") (codes "maps") _ _ refl
+    (some_more (codes "fight") (codes "lights") _ _ refl (none (codes "fight"))
+    fight_data v.fight)
     (lights_data v.lights))
     (list_data (maps_data v.maps)))
     (sights_data v.sights))

@@ -12,11 +12,13 @@ use Rattle.cells.specs.declared.cell.Cell.{Cell}
 use Rattle.cells.specs.declared.cell.Run.{Run}
 use Rattle.names.specs.Words.{mode_word, layer_word}
 use Rattle.names.specs.TokenId.{id_text}
+use Rattle.names.specs.declared.token_id.TokenId.{TokenId}
 use Rattle.names.specs.declared.kinds.Mode.{Mode}
 use Rattle.views.specs.declared.view.MapView.{MapView}
 use Rattle.views.specs.declared.view.TokenView.{TokenView}
 use Rattle.views.specs.declared.view.OwnedPart.{OwnedPart}
 use Rattle.views.specs.declared.view.GmPart.{GmPart}
+use Rattle.views.specs.declared.view.FightView.{FightView}
 use Rattle.views.specs.declared.view.View.{View}
 use Rattle.views.specs.declared.change.Change.{Change}
 use Rattle.views.specs.declared.change.MapChange.{MapChange}
@@ -160,6 +162,25 @@ maps_data maps = map map_data maps
 abbrev pub tokens_data : List TokenView → List Data
 tokens_data tokens = map token_data tokens
 
+-- ---- the fight
+
+abbrev pub entry_data : TokenId × ℤ → Data
+entry_data e = list_data (string (id_text e.0) ∷ number (of_integer e.1) ∷ [])
+
+abbrev pub id_or_null : Option TokenId → Data
+id_or_null None = null
+id_or_null (Some id) = string (id_text id)
+
+unfoldable pub fight_data : FightView → Data
+fight_data f = object
+    (with_member (codes "turn") (id_or_null f.turn)
+    (with_member (codes "round") (whole f.round)
+    (with_member (codes "list") (list_data (map entry_data f.list)) no_members)))
+
+abbrev pub fight_or_null : Option FightView → Data
+fight_or_null None = null
+fight_or_null (Some f) = fight_data f
+
 -- ---- the full line
 
 unfoldable pub view_data : View → Data
@@ -167,7 +188,8 @@ view_data v = object
     (with_member (codes "tokens") (list_data (tokens_data v.tokens))
     (with_member (codes "sights") (sights_data v.sights)
     (with_member (codes "maps") (list_data (maps_data v.maps))
-    (with_member (codes "lights") (lights_data v.lights) no_members))))
+    (with_member (codes "lights") (lights_data v.lights)
+    (put_some (codes "fight") fight_data v.fight no_members)))))
 
 abbrev pub full_tree : View → Data
 full_tree v = object (member (codes "full") (view_data v) no_members)
@@ -199,7 +221,8 @@ change_data c = object
     (put_list (codes "maps") (maps_data c.maps)
     (put_types (codes "lights") radius_data c.lights
     (put_list (codes "gone") (map (λ id. string (id_text id)) c.gone)
-    (put_list (codes "changed") (map map_change_data c.changed) no_members)))))))
+    (put_some (codes "fight") fight_or_null c.fight
+    (put_list (codes "changed") (map map_change_data c.changed) no_members))))))))
 
 abbrev pub change_tree : Change → Data
 change_tree c = object (member (codes "change") (change_data c) no_members)

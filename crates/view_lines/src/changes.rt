@@ -4,6 +4,7 @@ ghost use Rattle.json_lines.specs.Added.{Adds};
 ghost use Rattle.view_lines.specs.Lines.{mode_data, terrain_data, lettered as lettered_cells, map_change_data, change_data};
 ghost use Rattle.view_lines.specs.Tokens.{list_tokens, some_tokens};
 
+use crate::fights::put_new_fight;
 use crate::ground::put_terrain_list;
 use crate::parts::{Part, put_list_member};
 use crate::runs::put_run_list;
@@ -67,6 +68,7 @@ impl Part for Change {
     fn put(&self, writer: &mut Writer, alloc: Global) -> Result<(), AllocError> {
         writer.begin_object()?;
         put_list_member(writer, alloc, "changed", self.changed.items())?;
+        put_new_fight(writer, alloc, &self.fight)?;
         put_list_member(writer, alloc, "gone", self.gone.items())?;
         put_types_member(writer, alloc, "lights", self.lights.items())?;
         put_list_member(writer, alloc, "maps", self.maps.items())?;

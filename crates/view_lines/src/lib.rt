@@ -3,6 +3,7 @@
 #![tactic(auto)]
 
 mod changes;
+mod fights;
 mod ground;
 mod lines;
 mod map_views;

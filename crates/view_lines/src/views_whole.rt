@@ -1,6 +1,7 @@
 //! Whole views.
 ghost use Rattle.view_lines.specs.Lines.{view_data};
 
+use crate::fights::put_fight;
 use crate::parts::{Part, put_list};
 use crate::types::put_types;
 use json::Writer;
@@ -12,6 +13,7 @@ impl Part for View {
 
     fn put(&self, writer: &mut Writer, alloc: Global) -> Result<(), AllocError> {
         writer.begin_object()?;
+        put_fight(writer, alloc, &self.fight)?;
         writer.key("lights")?;
         put_types(writer, alloc, self.lights.items())?;
         writer.key("maps")?;

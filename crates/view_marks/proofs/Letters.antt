@@ -10,7 +10,7 @@ use Rattle.topology.specs.declared.wall.Wall.{Wall as OneWall}
 use Rattle.topology.specs.Order.{wall_between}
 use Rattle.topology.specs.WallLists.{with_wall, without_wall}
 use Rattle.maps.specs.Maps.{changed, shown_if, trail_if, walled, with_mode}
-use Rattle.command_json.specs.declared.command.Command.TheVariants.{Macro, Move, Setprop, Light, Make, Remove, Mode, Show, Trail, Wall, Unwall, Lighttype, Sighttype, Token, Own, Layer, Visible, Sight, Place, Secret, Expose, Hide}
+use Rattle.command_json.specs.declared.command.Command.TheVariants.{Macro, Move, Setprop, Light, Make, Remove, Mode, Show, Trail, Wall, Unwall, Lighttype, Sighttype, Token, Own, Layer, Visible, Sight, Place, Secret, Expose, Hide, Init, Uninit, Turn, Endfight}
 use Rattle.world.specs.Scene.{Scene}
 use Rattle.command_rules.specs.Places.{point_at}
 use Rattle.command_effects.specs.GmEffects.{gm_scene_by}
@@ -78,5 +78,9 @@ leaves_letters steps intents seat s (Some (Place token map cell)) is = same_maps
 leaves_letters steps intents seat s (Some (Secret token name value)) is = same_maps s.maps s.maps refl
 leaves_letters steps intents seat s (Some (Expose player map rect)) is = same_maps s.maps s.maps refl
 leaves_letters steps intents seat s (Some (Hide player map rect)) is = same_maps s.maps s.maps refl
+leaves_letters steps intents seat s (Some (Init token value)) is = same_maps s.maps s.maps refl
+leaves_letters steps intents seat s (Some (Uninit token)) is = same_maps s.maps s.maps refl
+leaves_letters steps intents seat s (Some Turn) is = same_maps s.maps s.maps refl
+leaves_letters steps intents seat s (Some Endfight) is = same_maps s.maps s.maps refl
 leaves_letters steps intents seat s None is = (let no : false ≡ true = is in cc)
 leaves_letters steps intents seat s (Some c) is = (let no : false ≡ true = is in cc)

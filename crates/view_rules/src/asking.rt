@@ -35,5 +35,6 @@ pub fn no_view(alloc: Global) -> View
         tokens: TokenViews {
             list: Vec::new(alloc),
         },
+        fight: None,
     }
 }

@@ -12,9 +12,10 @@ use Rattle.names.specs.declared.kinds.Mode.{Mode}
 use Rattle.names.specs.declared.kinds.Mode.TheVariants.{Off, Day, Night}
 use Rattle.names.specs.declared.kinds.Layer.{Layer}
 use Rattle.names.specs.declared.kinds.Layer.TheVariants.{Token, Hidden, Object, Background}
+use Rattle.names.specs.TokenId.{id_eq}
 use Rattle.names.proofs.SameIds.{id_eq-Decides}
 use Rattle.std.specs.Option.{option_eq}
-use Rattle.views.specs.Same.{same_bool, mode_number, same_mode, layer_number, same_layer, same_extent, same_cell, same_letter, same_light, same_bytes, same_props, same_map, same_owned, same_whole, same_token, same_view}
+use Rattle.views.specs.Same.{same_bool, mode_number, same_mode, layer_number, same_layer, same_extent, same_cell, same_letter, same_light, same_bytes, same_props, same_map, same_owned, same_whole, same_token, same_entry, same_fight, same_view}
 
 -- a test that tells equality
 abbrev pub Tells : {A : Type 0} → (A → A → Bool) → Type 0
@@ -110,10 +111,18 @@ same_token-tells a b = Decides-like _
     (Decides-and _ _ (id_eq-Decides a.id b.id) (Decides-and _ _ (bytes_eq-Decides a.name b.name) (Decides-and _ _ (bytes_eq-Decides a.map b.map) (Decides-and _ _ (same_cell-tells a.cell b.cell) (Decides-and _ _ (Decides-eqb a.size b.size)
     (Decides-and _ _ (same_layer-tells a.layer b.layer) (Decides-and _ _ (same_props-tells a.props b.props) (Decides-and _ _ (option_eq-tells same_owned same_owned-tells a.owned b.owned) (option_eq-tells same_whole same_whole-tells a.whole b.whole)))))))))
 
+pub same_entry-tells : Tells same_entry
+same_entry-tells a b = pair-tells id_eq int_eq id_eq-Decides Decides-int_eq a b
+
+pub same_fight-tells : Tells same_fight
+same_fight-tells a b = Decides-like _ (λ p. λ i. record { list = p.0 i; round = p.1.0 i; turn = p.1.1 i }) (λ e. (ap (λ z. z.list) e, (ap (λ z. z.round) e, ap (λ z. z.turn) e)))
+    (Decides-and _ _ (pointwise-tells same_entry same_entry-tells a.list b.list) (Decides-and _ _ (Decides-eqb a.round b.round) (option_eq-tells id_eq id_eq-Decides a.turn b.turn)))
+
 pub same_view-tells : Tells same_view
 unfolding same_view
 same_view-tells a b = Decides-like _
-    (λ p. λ i. record { gm = p.0 i; lights = p.1.0 i; sights = p.1.1.0 i; maps = p.1.1.1.0 i; tokens = p.1.1.1.1 i })
-    (λ e. (ap (λ z. z.gm) e, (ap (λ z. z.lights) e, (ap (λ z. z.sights) e, (ap (λ z. z.maps) e, ap (λ z. z.tokens) e)))))
+    (λ p. λ i. record { gm = p.0 i; lights = p.1.0 i; sights = p.1.1.0 i; maps = p.1.1.1.0 i; tokens = p.1.1.1.1.0 i; fight = p.1.1.1.1.1 i })
+    (λ e. (ap (λ z. z.gm) e, (ap (λ z. z.lights) e, (ap (λ z. z.sights) e, (ap (λ z. z.maps) e, (ap (λ z. z.tokens) e, ap (λ z. z.fight) e))))))
     (Decides-and _ _ (same_bool-tells a.gm b.gm) (Decides-and _ _ (pointwise-tells same_light same_light-tells a.lights b.lights) (Decides-and _ _ (pointwise-tells same_bytes same_bytes-tells a.sights b.sights)
-    (Decides-and _ _ (pointwise-tells same_map same_map-tells a.maps b.maps) (pointwise-tells same_token same_token-tells a.tokens b.tokens)))))
+    (Decides-and _ _ (pointwise-tells same_map same_map-tells a.maps b.maps) (Decides-and _ _ (pointwise-tells same_token same_token-tells a.tokens b.tokens)
+    (option_eq-tells same_fight same_fight-tells a.fight b.fight))))))

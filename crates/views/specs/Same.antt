@@ -11,11 +11,13 @@ use Rattle.names.specs.declared.kinds.Mode.TheVariants.{Off, Day, Night}
 use Rattle.names.specs.declared.kinds.Layer.{Layer}
 use Rattle.names.specs.declared.kinds.Layer.TheVariants.{Token, Hidden, Object, Background}
 use Rattle.names.specs.TokenId.{id_eq}
+use Rattle.names.specs.declared.token_id.TokenId.{TokenId}
 use Rattle.views.specs.Keys.{Named, Letter}
 use Rattle.views.specs.declared.view.MapView.{MapView}
 use Rattle.views.specs.declared.view.TokenView.{TokenView}
 use Rattle.views.specs.declared.view.OwnedPart.{OwnedPart}
 use Rattle.views.specs.declared.view.GmPart.{GmPart}
+use Rattle.views.specs.declared.view.FightView.{FightView}
 use Rattle.views.specs.declared.view.View.{View}
 
 abbrev pub same_bool : Bool → Bool → Bool
@@ -73,7 +75,13 @@ same_token a b =
     id_eq a.id b.id && (bytes_eq a.name b.name && (bytes_eq a.map b.map && (same_cell a.cell b.cell && ((a.size == b.size)
     && (same_layer a.layer b.layer && (same_props a.props b.props && (option_eq same_owned a.owned b.owned && option_eq same_whole a.whole b.whole)))))))
 
+abbrev pub same_entry : TokenId × ℤ → TokenId × ℤ → Bool
+same_entry a b = id_eq a.0 b.0 && int_eq a.1 b.1
+
+abbrev pub same_fight : FightView → FightView → Bool
+same_fight a b = pointwise same_entry a.list b.list && ((a.round == b.round) && option_eq id_eq a.turn b.turn)
+
 unfoldable pub same_view : View → View → Bool
 same_view a b =
     same_bool a.gm b.gm && (pointwise same_light a.lights b.lights && (pointwise same_bytes a.sights b.sights
-    && (pointwise same_map a.maps b.maps && pointwise same_token a.tokens b.tokens)))
+    && (pointwise same_map a.maps b.maps && (pointwise same_token a.tokens b.tokens && option_eq same_fight a.fight b.fight))))

@@ -2,6 +2,7 @@
 use crate::lists::{
     Letters, LightTexts, MapChanges, MapViews, SightTexts, Tags, TokenIds, TokenViews,
 };
+use crate::view::FightView;
 use cells::CellSet;
 use names::{Mode, Tag};
 
@@ -10,6 +11,8 @@ use names::{Mode, Tag};
 pub struct Change {
     /// How the maps differ that are in both views, in byte order of names.
     pub changed: MapChanges,
+    /// The part of the fight, or that there is none, where that differs.
+    pub fight: Option<Option<FightView>>,
     /// The ids of tokens that are in the view before alone, in order.
     pub gone: TokenIds,
     /// The light types that are new or differ, in byte order of names.

@@ -1,8 +1,8 @@
 //! Copies of views and their parts. Each is the same once more, or `Memory` for want of memory.
 ghost use Rattle.std.specs.Prelude.{◌≡◌, IfOk};
 
-use crate::lists::{LightTexts, MapViews, PropTexts, SeatNos, SightTexts, TokenViews};
-use crate::view::{GmPart, MapView, OwnedPart, TokenView, View};
+use crate::lists::{FightList, LightTexts, MapViews, PropTexts, SeatNos, SightTexts, TokenViews};
+use crate::view::{FightView, GmPart, MapView, OwnedPart, TokenView, View};
 use names::Memory;
 
 impl LightTexts {
@@ -36,6 +36,18 @@ impl SeatNos {
     {
         match Vec::from_slice(*self.list.allocator(), self.items()) {
             Ok(list) => Ok(SeatNos { list }),
+            Err(_) => Err(Memory),
+        }
+    }
+}
+
+impl FightList {
+    /// The same list once more.
+    pub fn copy(&self) -> Result<FightList, Memory>
+        ensures { IfOk result (λ copy. copy ≡ self.now) }
+    {
+        match Vec::from_slice(*self.list.allocator(), self.items()) {
+            Ok(list) => Ok(FightList { list }),
             Err(_) => Err(Memory),
         }
     }
@@ -168,6 +180,29 @@ impl TokenViews {
     }
 }
 
+impl FightView {
+    /// The same part once more.
+    pub fn copy(&self) -> Result<FightView, Memory>
+        ensures { IfOk result (λ copy. copy ≡ self.now) }
+    {
+        Ok(FightView {
+            list: self.list.copy()?,
+            round: self.round,
+            turn: self.turn,
+        })
+    }
+}
+
+/// The same part of a fight once more, or that there is none.
+pub fn copy_fight(part: &Option<FightView>) -> Result<Option<FightView>, Memory>
+    ensures { IfOk result (λ copy. copy ≡ part.now) }
+{
+    match part {
+        None => Ok(None),
+        Some(part) => Ok(Some(part.copy()?)),
+    }
+}
+
 impl View {
     /// The same view once more.
     pub fn copy(&self) -> Result<View, Memory>
@@ -179,6 +214,7 @@ impl View {
             sights: self.sights.copy()?,
             maps: self.maps.copy()?,
             tokens: self.tokens.copy()?,
+            fight: copy_fight(&self.fight)?,
         })
     }
 }

@@ -12,10 +12,13 @@ mod same;
 mod view;
 
 pub use change::{Change, MapChange};
+pub use copies::copy_fight;
 pub use lettered_cells::lettered;
 pub use lists::{
-    Letters, LightTexts, MapChanges, MapViews, PropTexts, SeatNos, SightTexts, Tags, TokenIds,
-    TokenViews,
+    FightList, Letters, LightTexts, MapChanges, MapViews, PropTexts, SeatNos, SightTexts, Tags,
+    TokenIds, TokenViews,
 };
-pub use same::{same_map, same_map_by, same_mode, same_shown, same_token, same_view, same_view_by};
-pub use view::{GmPart, MapView, OwnedPart, TokenView, View};
+pub use same::{
+    same_fight, same_map, same_map_by, same_mode, same_shown, same_token, same_view, same_view_by,
+};
+pub use view::{FightView, GmPart, MapView, OwnedPart, TokenView, View};

@@ -192,6 +192,30 @@ impl TokenIds {
     }
 }
 
+/// Entries of a fight: the tokens' ids with their values.
+#[derive(Drop)]
+pub struct FightList {
+    pub list: Vec<(TokenId, i16)>,
+}
+
+impl Model for FightList {
+    ghost use Rattle.std.specs.Prelude.{List, ℤ};
+    ghost use Rattle.names.specs.declared.token_id.TokenId.{TokenId};
+
+    ghost Value = { List (TokenId × ℤ) };
+
+    ghost view = { λ l. l.list.items };
+}
+
+impl FightList {
+    /// The items, in order.
+    pub fn items(&self) -> &[(TokenId, i16)]
+        ensures { result.now ≡ self.now }
+    {
+        self.list.as_slice()
+    }
+}
+
 /// Maps as a seat sees them.
 #[derive(Drop)]
 pub struct MapViews {

@@ -4,13 +4,14 @@ ghost use Rattle.std.specs.Option.{option_eq};
 ghost use Rattle.std.specs.Str.{bytes_eq};
 ghost use Rattle.std.specs.Cmp.Lexicographic.{pointwise};
 ghost use Rattle.cells.specs.Cells.{cells_eq};
+ghost use Rattle.names.specs.TokenId.{id_eq};
 ghost use Rattle.views.specs.Same as same;
 ghost use Rattle.views.specs.Views.{KeepLetters, KeepsLetters};
 
-use crate::lists::{Letters, LightTexts, SightTexts};
-use crate::view::{GmPart, MapView, OwnedPart, TokenView, View};
+use crate::lists::{FightList, Letters, LightTexts, SightTexts};
+use crate::view::{FightView, GmPart, MapView, OwnedPart, TokenView, View};
 use cells::CellSet;
-use names::{Layer, Mode, Tag, Text};
+use names::{Layer, Mode, Tag, Text, TokenId};
 
 /// Whether the two modes are equal.
 pub fn same_mode(a: Mode, b: Mode) -> bool
@@ -97,6 +98,46 @@ fn same_sights(a: &SightTexts, b: &SightTexts) -> bool
     ensures { result ≡ pointwise same.same_bytes a.now b.now }
 {
     a.items() == b.items()
+}
+
+fn same_list(a: &FightList, b: &FightList) -> bool
+    ensures { result ≡ pointwise same.same_entry a.now b.now }
+{
+    a.items() == b.items()
+}
+
+fn same_turn(a: Option<TokenId>, b: Option<TokenId>) -> bool
+    ensures { result ≡ option_eq id_eq a b }
+{
+    match (a, b) {
+        (None, None) => true,
+        (Some(a), Some(b)) => a == b,
+        _ => false,
+    }
+}
+
+fn same_fight_part(a: &FightView, b: &FightView) -> bool
+    ensures { result ≡ same.same_fight a.now b.now }
+{
+    same_list(&a.list, &b.list) && a.round == b.round && same_turn(a.turn, b.turn)
+}
+
+fn same_part(a: &Option<FightView>, b: &Option<FightView>) -> bool
+    ensures { result ≡ option_eq same.same_fight a.now b.now }
+{
+    match (a, b) {
+        (None, None) => true,
+        (Some(a), Some(b)) => same_fight_part(a, b),
+        _ => false,
+    }
+}
+
+/// Whether the two are equal: what a view says of a fight.
+pub fn same_fight(a: &Option<FightView>, b: &Option<FightView>) -> bool
+    ensures test { result ≡ option_eq same.same_fight a.now b.now }
+    ensures tells { IsTrue result ↔ (a.now ≡ b.now) }
+{
+    same_part(a, b)
 }
 
 fn same_letters(a: &Letters, b: &Letters) -> bool
@@ -244,6 +285,7 @@ fn same_view_parts(a: &View, b: &View, by_exposed: bool) -> bool
     a.gm == b.gm
         && same_lights(&a.lights, &b.lights)
         && same_sights(&a.sights, &b.sights)
+        && same_part(&a.fight, &b.fight)
         // A token that moved differs soon, and maps with many letters take long.
         && same_tokens(a.tokens.items(), b.tokens.items())
         && same_maps(a.maps.items(), b.maps.items(), by_exposed)

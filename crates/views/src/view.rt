@@ -1,5 +1,7 @@
 //! What one seat sees.
-use crate::lists::{Letters, LightTexts, MapViews, PropTexts, SeatNos, SightTexts, TokenViews};
+use crate::lists::{
+    FightList, Letters, LightTexts, MapViews, PropTexts, SeatNos, SightTexts, TokenViews,
+};
 use cells::{Cell, CellSet, Size};
 use names::{Layer, Mode, Tag, Text, TokenId};
 
@@ -16,6 +18,19 @@ pub struct View {
     pub maps: MapViews,
     /// The tokens, in order of ids.
     pub tokens: TokenViews,
+    /// The seat's part of the fight, where there is an entry in its list.
+    pub fight: Option<FightView>,
+}
+
+/// What a seat sees of a fight.
+#[derive(Drop)]
+pub struct FightView {
+    /// The entries of the tokens that stand in the view: the greatest value first, and of equal values the least id first.
+    pub list: FightList,
+    /// The round, 0 before the first turn, at most 999,999,999.
+    pub round: u32,
+    /// The last of these entries at or before the one that has the turn, or none.
+    pub turn: Option<TokenId>,
 }
 
 /// What a seat sees of a map.

@@ -7,8 +7,8 @@ use Rattle.names.specs.declared.kinds.PropClass.TheVariants.{Public, Own, Secret
 use Rattle.names.specs.declared.token_id.TokenId.{TokenId}
 use Rattle.seats.specs.Book.{Book, tag_used}
 use Rattle.tokens.specs.declared.token.Token.{Token}
-use Rattle.tokens.specs.Tokens.{changed, put, with_prop, without}
-use Rattle.world.specs.Scene.{Scene, with_token}
+use Rattle.tokens.specs.Tokens.{changed, put, with_prop}
+use Rattle.world.specs.Scene.{Scene, removed, with_token}
 use Rattle.world.specs.World.{World, IsWorld, is_used, are_used, used_by, changed_at}
 use Rattle.world.proofs.TokenRules.{all_pass, all_put, all_without, all_changed}
 
@@ -54,11 +54,11 @@ pub IsWorld-put : (scene : Scene) (books : List Book) (token : Token) → is_use
     → IsWorld (record { scene = record scene { tokens = put token scene.tokens }; books = books })
 IsWorld-put scene books token used is = with_tokens (record { scene = scene; books = books }) (put token scene.tokens) (all_put (λ t. is_used books t.id) token scene.tokens used is.tags) is
 
-pub IsWorld-without : (scene next : Scene) (books : List Book) (id : TokenId) → next ≡ record scene { tokens = without id scene.tokens } → IsWorld (record { scene = scene; books = books })
+pub IsWorld-without : (scene next : Scene) (books : List Book) (id : TokenId) → next ≡ removed id scene → IsWorld (record { scene = scene; books = books })
     → IsWorld (record { scene = next; books = books })
 IsWorld-without scene next books id e is =
-    as_written (record scene { tokens = without id scene.tokens }) next books e
-    (with_tokens (record { scene = scene; books = books }) (without id scene.tokens) (all_without (λ t. is_used books t.id) id scene.tokens is.tags) is)
+    as_written (removed id scene) next books e
+    (record { least = is.least; most = is.most; numbered = is.numbered; players = is.players; tags = all_without (λ t. is_used books t.id) id scene.tokens is.tags })
 
 -- a token that keeps its id
 pub IsWorld-with_token : (f : Token → Token) → ((t : Token) → (f t).id ≡ t.id) → (scene : Scene) (books : List Book) (id : TokenId) → IsWorld (record { scene = scene; books = books })

@@ -4,6 +4,7 @@ ghost use Rattle.cells.specs.Cells.{IsToldByCells};
 ghost use Rattle.std.specs.List.{AllZip};
 ghost use Rattle.fog_book.specs.Exposures.{AddsMap, ChangesOnly, HaveOneSize, joined, with_change, with_each_seen};
 ghost use Rattle.fog_book.specs.Rects.{with_rect};
+ghost use Rattle.initiative.specs.Fights.{is_listed, no_fight, passed, with_entry, without_entry};
 ghost use Rattle.lights.specs.Lights.{IsFaultOf as IsLightFaultOf, light_fault};
 ghost use Rattle.names.specs.Letters.{is_letter};
 ghost use Rattle.maps.specs.Letters.{IsOn};
@@ -11,17 +12,18 @@ ghost use Rattle.maps.specs.Maps.{has_map, map_of, new_map, shown_if as map_show
 ghost use Rattle.maps.specs.MapFaults.{IsMapFaultOf, map_fault};
 ghost use Rattle.sight_types.specs.Sights.{IsFaultOf as IsSightFaultOf, sight_fault};
 ghost use Rattle.tokens.specs.Properties.{is_full_for, value_limit};
-ghost use Rattle.tokens.specs.Tokens.{has_token, on_layer, owned_by, placed, props_of, put, shown_if, token_of, with_light, with_prop, with_sight, without};
+ghost use Rattle.tokens.specs.Tokens.{has_token, on_layer, owned_by, placed, props_of, put, shown_if, token_of, with_light, with_prop, with_sight};
 ghost use Rattle.tokens.specs.declared.props.PropFault.TheVariants.{PropertyLimit};
 ghost use Rattle.topology.specs.Order.{wall_between};
 ghost use Rattle.topology.specs.WallFaults.{IsFaultOf as IsWallFaultOf, wall_fault};
 ghost use Rattle.topology.specs.WallLists.{has_wall, walls_of};
 ghost use Rattle.type_table.specs.Types.{with_type};
 ghost use Rattle.world.specs.Rules.{IsScene, belongs, fits_on, is_known, is_player, size_of};
-ghost use Rattle.world.specs.Scene.{bare, with_grid, with_new_map, with_token};
+ghost use Rattle.world.specs.Scene.{bare, removed, with_grid, with_new_map, with_token};
 
 use cells::{Cell, CellSet, Rect, Size};
 use fog_book::FogBook;
+use initiative::Fight;
 use lattice::Point;
 use lights::{LightFault, LightTable};
 use maps::{MapFault, MapTable};
@@ -32,7 +34,8 @@ use std::marker::Model;
 use tokens::{PropFault, Token, TokenTable};
 use topology::{NoSuchWall, WallFault};
 
-/// The maps of a campaign, the tokens on them, the types of lights and sights, and what is exposed to each player.
+/// The maps of a campaign, the tokens on them, the types of lights and sights, what is exposed to each player, and the
+/// list of the fight.
 ///
 /// The parts fit together: each token stands on a map that is there, its types are there and its owners are players of
 /// the campaign, and each player has a set of exposed cells for each map, of the map's size.
@@ -43,6 +46,7 @@ pub struct Scene {
     lights: LightTable,
     sights: SightTable,
     fog: FogBook,
+    fight: Fight,
 }
 
 impl Model for Scene {
@@ -51,9 +55,9 @@ impl Model for Scene {
 
     ghost Value = { Scene };
 
-    ghost view = { λ s. record { maps = s.maps; tokens = s.tokens; lights = s.lights; sights = s.sights; fog = s.fog } };
+    ghost view = { λ s. record { maps = s.maps; tokens = s.tokens; lights = s.lights; sights = s.sights; fog = s.fog; fight = s.fight } };
 
-    ghost invariant = { λ s. IsScene (record { maps = s.maps; tokens = s.tokens; lights = s.lights; sights = s.sights; fog = s.fog }) };
+    ghost invariant = { λ s. IsScene (record { maps = s.maps; tokens = s.tokens; lights = s.lights; sights = s.sights; fog = s.fog; fight = s.fight }) };
 }
 
 impl Scene {
@@ -97,7 +101,15 @@ impl Scene {
         &self.fog
     }
 
-    /// A scene with no map, token and type, for so many players, at most 32.
+    /// The list of the fight, whose turn it is, and the round.
+    pub fn fight(&self) -> &Fight
+        ensures value { result.now ≡ self.now.fight }
+        ensures fitting { IsScene self.now }
+    {
+        &self.fight
+    }
+
+    /// A scene with no map, token and type, for so many players, at most 32, and with no fight.
     pub fn open(alloc: Global, players: u8) -> Result<Scene, Memory>
         requires { players ≤ 32 }
         ensures { IfOk result (λ scene. scene ≡ bare players) }
@@ -108,6 +120,7 @@ impl Scene {
             lights: LightTable::new(alloc),
             sights: SightTable::new(alloc),
             fog: FogBook::open(alloc, players)?,
+            fight: Fight::new(alloc),
         })
     }
 
@@ -121,6 +134,7 @@ impl Scene {
             lights: self.lights.copy()?,
             sights: self.sights.copy()?,
             fog: self.fog.copy()?,
+            fight: self.fight.copy()?,
         })
     }
 
@@ -261,12 +275,17 @@ impl Scene {
         self.tokens.make(token)
     }
 
-    /// Takes out the token of that id, with its properties; `None` exactly where it isn't there. All else stays.
+    /// Takes out the token of that id, with its properties and its entry in the fight; `None` exactly where the token
+    /// isn't there. All else stays.
+    ///
+    /// If the token has the turn, the turn first passes on. No memory is taken.
     pub fn remove(&mut self, id: TokenId) -> Option<Token>
         ensures value { result ≡ token_of id self.old.tokens }
-        ensures rest { self.new ≡ record self.old { tokens = without id self.old.tokens } }
+        ensures rest { self.new ≡ removed id self.old }
     {
-        self.tokens.remove(id)
+        let own = &id;
+        self.fight.drop_entry(*own);
+        self.tokens.remove(*own)
     }
 
     /// Puts the token of that id, which is there, on a cell of a map that is there; its square is then on the map. All
@@ -342,6 +361,45 @@ impl Scene {
         ensures unchanged { OnErr result (self.new ≡ self.old) }
     {
         self.tokens.set_prop(id, class, name, value)
+    }
+
+    /// Gives the token of that id, which is there, an entry with that value in the fight, or changes its entry's value.
+    /// All else stays.
+    ///
+    /// After `Memory` the scene is as before.
+    pub fn fight_set(&mut self, id: TokenId, value: i16) -> Result<(), Memory>
+        requires { has_token id self.old.tokens ≡ true }
+        ensures ok { OnOk result (self.new ≡ record self.old { fight = with_entry id value self.old.fight }) }
+        ensures unchanged { OnErr result (self.new ≡ self.old) }
+    {
+        self.fight.set(id, value)
+    }
+
+    /// Takes the entry of the token of that id, which is there, out of the fight; false exactly where it has none. All
+    /// else stays.
+    ///
+    /// If the token has the turn, the turn first passes on. No memory is taken.
+    pub fn fight_drop(&mut self, id: TokenId) -> bool
+        requires { has_token id self.old.tokens ≡ true }
+        ensures there { result ≡ is_listed id self.old.fight.list }
+        ensures value { self.new ≡ record self.old { fight = without_entry id self.old.fight } }
+    {
+        self.fight.drop_entry(id)
+    }
+
+    /// Passes the turn on; false exactly where the fight's list is empty. All else stays. No memory is taken.
+    pub fn fight_next(&mut self) -> bool
+        ensures there { (result ≡ false) ↔ (length self.old.fight.list ≡ 0) }
+        ensures value { self.new ≡ record self.old { fight = passed self.old.fight } }
+    {
+        self.fight.next()
+    }
+
+    /// Ends the fight: no entry, no turn, round 0. All else stays. No memory is taken.
+    pub fn fight_clear(&mut self)
+        ensures { self.new ≡ record self.old { fight = no_fight } }
+    {
+        self.fight.clear();
     }
 
     /// Exposes the cells of a map, which is there, in the rectangle to a player. All else stays.

@@ -4,6 +4,7 @@ ghost use Rattle.std.specs.Borrow.{sem};
 ghost use Rattle.std.specs.Result.{result_err};
 ghost use Rattle.fog_book.specs.Exposures.{AddsMap, ChangesOnly, joined as cells_joined, with_change};
 ghost use Rattle.fog_book.specs.Rects.{with_rect};
+ghost use Rattle.initiative.specs.Fights.{is_listed, no_fight, passed, with_entry, without_entry};
 ghost use Rattle.lights.specs.Lights.{IsFaultOf as IsLightFaultOf, light_fault};
 ghost use Rattle.names.specs.Letters.{is_letter};
 ghost use Rattle.maps.specs.Letters.{IsOn};
@@ -13,7 +14,7 @@ ghost use Rattle.seats.specs.Book.{counted, freed, join_refusal, joined, left, m
 ghost use Rattle.seats.specs.declared.tag_fault.TagFault.TheVariants.{TagUsed, TagsSpent};
 ghost use Rattle.sight_types.specs.Sights.{IsFaultOf as IsSightFaultOf, sight_fault};
 ghost use Rattle.tokens.specs.Properties.{is_full_for, value_limit};
-ghost use Rattle.tokens.specs.Tokens.{has_token, on_layer, owned_by, placed, props_of, put, shown_if, token_of, with_light, with_prop, with_sight, without};
+ghost use Rattle.tokens.specs.Tokens.{has_token, on_layer, owned_by, placed, props_of, put, shown_if, token_of, with_light, with_prop, with_sight};
 ghost use Rattle.tokens.specs.declared.props.PropFault.TheVariants.{PropertyLimit};
 ghost use Rattle.topology.specs.Order.{wall_between};
 ghost use Rattle.topology.specs.WallFaults.{IsFaultOf as IsWallFaultOf, wall_fault};
@@ -21,12 +22,13 @@ ghost use Rattle.topology.specs.WallLists.{has_wall, walls_of};
 ghost use Rattle.type_table.specs.Types.{with_type};
 ghost use Rattle.world.specs.Lending.{LendsStream};
 ghost use Rattle.world.specs.Rules.{IsScene, belongs, fits_on, is_known, is_player, size_of};
-ghost use Rattle.world.specs.Scene.{with_grid, with_new_map, with_token};
+ghost use Rattle.world.specs.Scene.{removed, with_grid, with_new_map, with_token};
 ghost use Rattle.world.specs.World.{IsOpening, IsWorld, is_used, opened, with_book};
 
 use crate::scene::Scene;
 use cells::{Cell, CellSet, Rect, Size};
 use fog_book::FogBook;
+use initiative::Fight;
 use lattice::Point;
 use lights::{LightFault, LightTable};
 use maps::{MapFault, MapTable};
@@ -95,7 +97,7 @@ impl World {
         (self.scene, self.seats)
     }
 
-    /// The scene: maps, tokens, types, and what is exposed.
+    /// The scene: maps, tokens, types, what is exposed, and the fight.
     pub fn scene(&self) -> &Scene
         ensures value { result.now ≡ self.now.scene }
         ensures fitting { IsWorld self.now }
@@ -141,6 +143,14 @@ impl World {
         ensures fitting { IsScene self.now.scene }
     {
         self.scene.fog()
+    }
+
+    /// The list of the fight, whose turn it is, and the round.
+    pub fn fight(&self) -> &Fight
+        ensures value { result.now ≡ self.now.scene.fight }
+        ensures fitting { IsScene self.now.scene }
+    {
+        self.scene.fight()
     }
 
     /// How many seats there are, 1 to 33.
@@ -299,10 +309,13 @@ impl World {
         self.scene.make(token)
     }
 
-    /// Takes out the token of that id, with its properties; `None` exactly where it isn't there. All else stays.
+    /// Takes out the token of that id, with its properties and its entry in the fight; `None` exactly where the token
+    /// isn't there. All else stays.
+    ///
+    /// If the token has the turn, the turn first passes on. No memory is taken.
     pub fn remove(&mut self, id: TokenId) -> Option<Token>
         ensures value { result ≡ token_of id self.old.scene.tokens }
-        ensures rest { self.new ≡ record self.old { scene = record self.old.scene { tokens = without id self.old.scene.tokens } } }
+        ensures rest { self.new ≡ record self.old { scene = removed id self.old.scene } }
     {
         self.scene.remove(id)
     }
@@ -378,6 +391,45 @@ impl World {
         ensures unchanged { OnErr result (self.new ≡ self.old) }
     {
         self.scene.set_prop(id, class, name, value)
+    }
+
+    /// Gives the token of that id, which is there, an entry with that value in the fight, or changes its entry's value.
+    /// All else stays.
+    ///
+    /// After `Memory` the world is as before.
+    pub fn fight_set(&mut self, id: TokenId, value: i16) -> Result<(), Memory>
+        requires { has_token id self.old.scene.tokens ≡ true }
+        ensures ok { OnOk result (self.new ≡ record self.old { scene = record self.old.scene { fight = with_entry id value self.old.scene.fight } }) }
+        ensures unchanged { OnErr result (self.new ≡ self.old) }
+    {
+        self.scene.fight_set(id, value)
+    }
+
+    /// Takes the entry of the token of that id, which is there, out of the fight; false exactly where it has none. All
+    /// else stays.
+    ///
+    /// If the token has the turn, the turn first passes on. No memory is taken.
+    pub fn fight_drop(&mut self, id: TokenId) -> bool
+        requires { has_token id self.old.scene.tokens ≡ true }
+        ensures there { result ≡ is_listed id self.old.scene.fight.list }
+        ensures value { self.new ≡ record self.old { scene = record self.old.scene { fight = without_entry id self.old.scene.fight } } }
+    {
+        self.scene.fight_drop(id)
+    }
+
+    /// Passes the turn on; false exactly where the fight's list is empty. All else stays. No memory is taken.
+    pub fn fight_next(&mut self) -> bool
+        ensures there { (result ≡ false) ↔ (length self.old.scene.fight.list ≡ 0) }
+        ensures value { self.new ≡ record self.old { scene = record self.old.scene { fight = passed self.old.scene.fight } } }
+    {
+        self.scene.fight_next()
+    }
+
+    /// Ends the fight: no entry, no turn, round 0. All else stays. No memory is taken.
+    pub fn fight_clear(&mut self)
+        ensures { self.new ≡ record self.old { scene = record self.old.scene { fight = no_fight } } }
+    {
+        self.scene.fight_clear();
     }
 
     /// Exposes the cells of a map, which is there, in the rectangle to a player. All else stays.

@@ -3,7 +3,7 @@ use Rattle.command_json.specs.declared.command.Command.{Command}
 use Rattle.command_effects.specs.Allowed.{IsAllowed}
 use Rattle.command_effects.specs.Tags.{tag_made}
 use Rattle.command_effects.proofs.Moves.{may_move}
-use Rattle.command_effects.proofs.Allowed.{may_set, may_light, may_make, makes_as_player}
+use Rattle.command_effects.proofs.Allowed.{may_set, may_light, may_init, may_uninit, may_make, makes_as_player}
 use Rattle.command_effects.proofs.effects.scene_by.Goals as goal
 
 pub with_prop-requires-clause-room : goal.with_prop-requires-clause-room
@@ -14,6 +14,12 @@ with_light-requires-clause-there c = (may_light c.args.scene.now c.args.seat c.i
 
 pub with_light-requires-clause-known : goal.with_light-requires-clause-known
 with_light-requires-clause-known c = (may_light c.args.scene.now c.args.seat c.in-Light.token c.in-Light.light c.told-told.ensures.tokens (subst (λ (command : Command). IsAllowed c.args.scene.now c.args.seat command) c.in-Light.is c.requires.allowed)).1
+
+pub with_entry-requires : goal.with_entry-requires
+with_entry-requires c = may_init c.args.scene.now c.args.seat c.in-Init.token c.in-Init.value c.told-told.ensures.tokens (subst (λ (command : Command). IsAllowed c.args.scene.now c.args.seat command) c.in-Init.is c.requires.allowed)
+
+pub without_entry-requires : goal.without_entry-requires
+without_entry-requires c = may_uninit c.args.scene.now c.args.seat c.in-Uninit.token c.told-told.ensures.tokens (subst (λ (command : Command). IsAllowed c.args.scene.now c.args.seat command) c.in-Uninit.is c.requires.allowed)
 
 pub with_players_token-requires-clause-absent : goal.with_players_token-requires-clause-absent
 with_players_token-requires-clause-absent c = c.requires.new c.in-Make.tag (ap tag_made c.in-Make.is)

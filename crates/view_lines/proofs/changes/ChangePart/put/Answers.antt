@@ -13,7 +13,7 @@ pub returns : goal.returns
 returns c =
     let change = c.args.self.now in
     let changed : Adds c.begin_object.new.self c.put_list_member.new.writer (list_tokens (codes "changed") (map map_change_data change.changed)) = search rules in
-    let gone : Adds c.put_list_member.new.writer c.put_list_member-2.new.writer (list_tokens (codes "gone") (map (λ id. string (id_text id)) change.gone)) = search rules in
+    let gone : Adds c.put_new_fight.new.writer c.put_list_member-2.new.writer (list_tokens (codes "gone") (map (λ id. string (id_text id)) change.gone)) = search rules in
     let lights : Adds c.put_list_member-2.new.writer c.put_types_member.new.writer (types_tokens (codes "lights") radius_data change.lights) = search rules in
     let maps : Adds c.put_types_member.new.writer c.put_list_member-3.new.writer (list_tokens (codes "maps") (maps_data change.maps)) = search rules in
     let sights : Adds c.put_list_member-3.new.writer c.put_types_member-2.new.writer (types_tokens (codes "sights") wholes_data change.sights) = search rules in
@@ -26,6 +26,7 @@ returns c =
     (then_part maps
     (then_part lights
     (then_part gone
+    (then_part c.in_ok-put_new_fight.ensures
     (then_part changed
     (then_token c.in_ok-begin_object.ensures
-    (all_left (change_tokens change))))))))))
+    (all_left (change_tokens change)))))))))))

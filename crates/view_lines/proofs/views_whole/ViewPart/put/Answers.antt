@@ -22,5 +22,6 @@ returns c =
     (then_token c.in_ok-key-2.ensures
     (then_part lights
     (then_token c.in_ok-key.ensures
+    (then_part c.in_ok-put_fight.ensures
     (then_token c.in_ok-begin_object.ensures
-    (all_left (view_tokens seen)))))))))))
+    (all_left (view_tokens seen))))))))))))
