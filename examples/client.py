@@ -20,7 +20,7 @@ import os
 import sys
 from typing import Any, BinaryIO
 
-from tabletop_client.drawing import How, compose, legend, map_text, picture, square_of
+from tabletop_client.drawing import How, compose, fight_text, legend, map_text, picture, square_of
 from tabletop_client.editor import Editor
 from tabletop_client.protocol import BadInput, command_of, compact, message_words, refusal_words
 from tabletop_client.screen import Connection, Lines, Place, Screen, TextFront
@@ -31,8 +31,8 @@ from tabletop_client.walls import walls_text
 # What tests and other programs take from here.
 __all__ = [
     "BadInput", "Connection", "Editor", "Grid", "How", "Lines", "Place", "Screen", "Seat", "TextFront", "Token", "Unreadable", "View",
-    "command_of", "compact", "compose", "legend", "main", "map_text", "message_words", "picture", "printable", "refusal_words", "square_of",
-    "walls_text",
+    "command_of", "compact", "compose", "fight_text", "legend", "main", "map_text", "message_words", "picture", "printable", "refusal_words",
+    "square_of", "walls_text",
 ]  # fmt: skip
 
 NO_CURSES = "this system has no curses, so there is no full screen (on Windows `pip install windows-curses` gives it); it goes on as --text"

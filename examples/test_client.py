@@ -150,6 +150,25 @@ class ChangeLine(unittest.TestCase):
         table.type("types")
         self.assertEqual(table.notes[-1], '{"lights":{"candle":2,"torch":5},"sights":{"human":[10,0,2],"owl":[9,9,1]}}')
 
+    def test_a_fight_comes_changes_and_ends(self):
+        entries = [["0:orc", 15], ["1:ann", 7]]
+        table = Table().change(tokens=[ORC], fight={"list": entries, "round": 0, "turn": None})
+        self.assertEqual(client.fight_text(table.seat.view), ["fight, round 0", "    15 Orc 0:orc", "     7 Ann 1:ann"])
+        table.change(fight={"list": entries, "round": 1, "turn": "1:ann"})
+        self.assertEqual(client.fight_text(table.seat.view), ["fight, round 1", "    15 Orc 0:orc", ">    7 Ann 1:ann"])
+        self.assertEqual([row[13:] for row in table.screen()[1:5]], [*client.fight_text(table.seat.view), "O+ Orc 0:orc at 1,1; size 2"])
+        table.type("fight")
+        self.assertEqual(table.notes[-1], "fight, round 1\n    15 Orc 0:orc\n>    7 Ann 1:ann")
+        table.change(gone=["0:orc"], fight={"list": entries[1:], "round": 1, "turn": "1:ann"})
+        self.assertEqual(client.fight_text(table.seat.view), ["fight, round 1", ">    7 Ann 1:ann"])
+        table.change(fight=None).type("fight")
+        self.assertEqual((table.notes[-1], table.seat.ended), ("you are shown no fight", None))
+
+    def test_a_full_line_tells_whether_there_is_a_fight(self):
+        table = Table(1, {"full": {**VIEW, "fight": {"list": [["1:ann", 7]], "round": 3, "turn": None}}})
+        self.assertEqual(client.fight_text(table.seat.view), ["fight, round 3", "     7 Ann 1:ann"])
+        self.assertEqual(client.fight_text(table.take({"full": VIEW}).seat.view), [])
+
     def test_changes_lead_to_what_a_look_gives(self):
         views = {}
         for raw in (HERE / "evening" / "evening.out").read_bytes().splitlines():
@@ -293,6 +312,11 @@ class Typing(unittest.TestCase):
         ("setprop . own note a b", {"do": "setprop", "token": "1:ann", "class": "own", "name": "note", "value": "a b"}),
         ("make dog cave 2,1 Old dog", {"do": "make", "tag": "dog", "map": "cave", "cell": [2, 1], "name": "Old dog"}),
         ("remove 1:dog", {"do": "remove", "token": "1:dog"}),
+        ("init . 17", {"do": "init", "token": "1:ann", "value": 17}),
+        ("init 0:orc -2", {"do": "init", "token": "0:orc", "value": -2}),
+        ("uninit .", {"do": "uninit", "token": "1:ann"}),
+        ("turn", {"do": "turn"}),
+        ("endfight", {"do": "endfight"}),
         ("look", {"do": "look"}),
         ("map hall 4 2", {"do": "map", "name": "hall", "w": 4, "h": 2}),
         ("mode hall night", {"do": "mode", "map": "hall", "mode": "night"}),
@@ -615,7 +639,10 @@ class Ends(unittest.TestCase):
                       for ground in (b'[9,9,"."]', b'[0,0,"/"]', b'[0,0,"7"]', b'[0,0,"A"]', b'[0,0,"{"]')),
                     b'{"change":{"changed":[{"name":"cave","hidden":[[9,9,9]]}]}}',
                     *(json.dumps({"change": {"tokens": [{**ORC, **parts}]}}).encode()
-                      for parts in ({"cell": [9, 9]}, {"id": "orc"}, {"layer": "sky"}, {"props": [["hp", 7]]})), b'{"full":' * 2000):
+                      for parts in ({"cell": [9, 9]}, {"id": "orc"}, {"layer": "sky"}, {"props": [["hp", 7]]})),
+                    *(b'{"change":{"fight":{%s}}}' % fight
+                      for fight in (b'"list":[["0:orc",1]],"round":0,"turn":null', b'"list":[["1:ann",1]],"round":1,"turn":"0:orc"',
+                                    b'"list":[["1:ann","1"]],"round":0,"turn":null', b'"list":[],"turn":null')), b'{"full":' * 2000):
             table = Table()
             table.seat.take(raw)
             self.assertRegex(table.seat.ended or "", r"^the server sent a line that can't be read \(.+\): ", raw)
@@ -650,6 +677,13 @@ class Ends(unittest.TestCase):
         self.assertEqual((status, faults), (0, ""))
         shown = Table().notes + client.map_text(Table().seat.view, "cave")
         self.assertEqual(words.splitlines(), [*shown, "seat 1: hi", "you left the table"])
+
+    def test_without_a_terminal_it_prints_the_fight(self):
+        changes = [b'{"change":{"fight":%s}}\n' % fight for fight in (b'{"list":[["1:ann",7]],"round":1,"turn":"1:ann"}', b"null")]
+        answers = [JOINED, b'{"n":2,"ok":"say"}\n' + changes[0], b'{"n":3,"ok":"say"}\n' + changes[1], LEFT]
+        status, words, faults = self.run_client(answers, b"say a\nsay b", close=False)
+        self.assertEqual((status, faults), (0, ""))
+        self.assertEqual(words.splitlines()[-4:], ["== fight, round 1", ">    7 Ann 1:ann", "== the fight is shown no more", "you left the table"])
 
 
 if __name__ == "__main__":

@@ -125,6 +125,9 @@ class Runs(unittest.TestCase):
     def test_trails_and_darkness(self):
         self.check("trails.txt")
 
+    def test_fights(self):
+        self.check("fights.txt")
+
     def test_macros(self):
         self.check("macros.txt")
 

@@ -74,6 +74,16 @@ def legend(view: View, name: str) -> list[str]:
     return [f"{letter}{mark} {token.words()}" for token in view.on_map(name) for letter, mark, _ in [square_of(token)]]
 
 
+def fight_text(view: View) -> list[str]:
+    """The list of the fight, `>` before whoever has the turn; nothing where the seat is shown none."""
+    if view.fight is None:
+        return []
+    marks = {view.fight.turn: ">"}
+    entries = [(marks.get(token_id, " "), value, view.tokens[token_id]) for token_id, value in view.fight.entries]
+    rows = [f"{mark} {value:4} {printable(token.name)} {printable(token.id)}" for mark, value, token in entries]
+    return [f"fight, round {view.fight.round}", *rows]
+
+
 def map_text(view: View, name: str) -> list[str]:
     """A map and its tokens as text."""
     rows = ["".join(letter + mark for letter, mark, _ in row) for row in picture(view, name)]
@@ -101,11 +111,11 @@ def map_spans(seat: Seat, name: str, height: int, width: int, pan: Cell) -> list
 
 
 def legend_spans(seat: Seat, name: str, height: int, width: int) -> list[Span]:
-    """The tokens of the map beside it, where there is room."""
+    """The list of the fight and the tokens of the map beside it, where there is room."""
     beside = 2 * seat.view.maps[name].width + 5
     if width - beside <= 24:
         return []
-    lines = [line for words in legend(seat.view, name) for line in folded(words, width - beside - 1)]
+    lines = [line for words in [*fight_text(seat.view), *legend(seat.view, name)] for line in folded(words, width - beside - 1)]
     return [(1 + row, beside, line, How.PLAIN) for row, line in enumerate(lines[:height])]
 
 

@@ -27,6 +27,8 @@ REFUSALS = {  # where the name alone doesn't say it
     "SeatTaken": "somebody sits there",
     "Spent": "the seat has had all its lines in this run",
     "BadRadius": "a light reaches 1 to 20 cells, a darkness -20 to -1",
+    "NotListed": "the token isn't in the fight",
+    "EmptyList": "nobody is in the fight",
 }
 SILENT = {"look", "macro", "roll", "say"}  # what follows their replies shows that they were done
 
@@ -64,6 +66,8 @@ FORMS = {  # each command with its fields; one in brackets may be missing, one w
     "setprop": "token class name value..",
     "make": "tag map cell name..",
     "remove": "token",
+    "init": "token value",
+    "uninit": "token",
     "map": "name w h",
     "mode": "map mode",
     "show": "map on",
@@ -82,6 +86,8 @@ FORMS = {  # each command with its fields; one in brackets may be missing, one w
     "secret": "token name value..",
     "expose": "seat map rect",
     "hide": "seat map rect",
+    "turn": "",
+    "endfight": "",
 }
 PARAGRAPHS = (
     "While nothing is typed, arrow keys, the numeric pad and digits move the chosen token. TAB chooses the next token of the map, "
@@ -93,8 +99,10 @@ PARAGRAPHS = (
     "name or -; a radius below 0 makes a darkness; [to] is @self, @gm, @gmself, @all or @SEAT; the others in [] stand as size=2. A path is cells, 3,4 4,5, or steps by the "
     "digits of the numeric pad, 669. Args are words, or texts in double quotes. '@2 TEXT' says TEXT to seat 2, '!NAME args' runs a macro, "
     "dropmacro NAME removes it.",
-    "Without the server: choose ID (or a map, or -), tokens, types, draw; again sits down once more after a break. The GM's: save FILE, "
-    "and walls [map] [rect], which draws the walls.",
+    "A fight: 'init . 17' puts a token in its list, the greatest number first, and uninit takes it out. The GM's turn passes the turn on, and "
+    "endfight ends the fight.",
+    "Without the server: choose ID (or a map, or -), tokens, fight, types, draw; again sits down once more after a break. The GM's: save "
+    "FILE, and walls [map] [rect], which draws the walls.",
 )
 HELP = "\n".join(textwrap.fill(paragraph, 78) for paragraph in PARAGRAPHS)
 PAD = {"7": (-1, -1), "8": (0, -1), "9": (1, -1), "4": (-1, 0), "6": (1, 0), "1": (-1, 1), "2": (0, 1), "3": (1, 1)}
@@ -108,13 +116,13 @@ def wholes(word: str, many: int) -> list[int]:
     return numbers
 
 
-VALUES: dict[str, Callable[[str], Any]] = {  # the fields that aren't a text
-    **dict.fromkeys(("w", "h", "radius", "range", "night", "mult", "seat", "size"), int),
+VALUES: dict[str, Callable[[str], Any]] = {  # the fields that aren't a text, with the dots of those that have some
+    **dict.fromkeys(("w", "h", "radius", "range", "night", "mult", "seat", "size", "value"), int),
     **dict.fromkeys(("cell", "a", "b"), lambda word: wholes(word, 2)),
     **dict.fromkeys(("light", "sight"), lambda word: None if word == "-" else word),
     "rect": lambda word: wholes(word, 4),
     "on": lambda word: {"on": True, "off": False}[word],
-    "args": lambda text: [quoted or bare for quoted, bare in re.findall(r'"([^"]*)"|(\S+)', text)],
+    "args..": lambda text: [quoted or bare for quoted, bare in re.findall(r'"([^"]*)"|(\S+)', text)],
 }
 
 
@@ -163,7 +171,7 @@ class Typed:
         if field_name == "path..":
             self.fields[key], self.text = self.path(self.text.split()), ""
         elif field_name.endswith(".."):
-            self.fields[key], self.text = VALUES.get(key, str)(self.text), ""
+            self.fields[key], self.text = VALUES.get(field_name, str)(self.text), ""
         elif field_name.startswith("[") and key != "token":
             self.take_option(key, word, rest)
         elif not word:

@@ -13,7 +13,7 @@ import time
 from dataclasses import dataclass
 from typing import Any, Callable
 
-from .drawing import How, compose, fitting, folded, map_text, pane_height, typed_window
+from .drawing import How, compose, fight_text, fitting, folded, map_text, pane_height, typed_window
 from .editor import Editor
 from .protocol import PAD
 from .seat import Seat
@@ -22,6 +22,7 @@ from .view import Cell, printable
 MOMENT, IDLE = 0.05, 0.25  # seconds
 PATIENCE = 20.0  # seconds until a connection is given up
 MOST_NOTES = 2000
+FIGHT = "the fight"  # among the names of what is printed: no map is called so
 
 
 # ---- the connection
@@ -102,7 +103,7 @@ def typed_piece() -> bytes:
 
 
 class TextFront:
-    """Prints each map whose picture has changed, and reads what is typed from standard input, whose end is a bye. What is typed and
+    """Prints the fight and each map whose picture has changed, and reads what is typed from standard input, whose end is a bye. What is typed and
     what the server sends are waited for by a thread each, since not every system can wait for both at once."""
 
     def __init__(self) -> None:
@@ -115,6 +116,9 @@ class TextFront:
 
     def show(self, seat: Seat) -> None:
         pictures = {name: map_text(seat.view, name) for name in sorted(seat.view.maps)}
+        if seat.view.fight:
+            head, *rows = fight_text(seat.view)
+            pictures[FIGHT] = [f"== {head}", *rows]
         for name in sorted(set(self.printed) - set(pictures)):
             print(f"== {name} is shown no more")
         for name, lines in pictures.items():

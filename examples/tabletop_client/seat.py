@@ -10,6 +10,7 @@ import tempfile
 from collections import deque
 from typing import BinaryIO, Callable
 
+from .drawing import fight_text
 from .protocol import (GAME_MASTER, HELP, LINES_IN_A_RUN, LONGEST_LINE, SILENT, BadInput, command_of, compact, message_words, refusal_words,
                        split_word, wholes)  # fmt: skip
 from .view import Object, Token, Unreadable, View, part, printable
@@ -182,6 +183,7 @@ class Seat:
         does: dict[str, Callable[[], None]] = {
             "help": lambda: self.say(HELP),
             "tokens": lambda: self.say("\n".join(f"{token.map}: {token.words()}" for token in self.view.tokens.values())),
+            "fight": lambda: self.say("\n".join(fight_text(self.view)) or "you are shown no fight"),
             "types": lambda: self.say(compact({"lights": self.view.lights, "sights": self.view.sights})),
             "draw": self.draw,
             "choose": lambda: self.choose(rest.strip()),

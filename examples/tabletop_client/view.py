@@ -134,6 +134,24 @@ class Token:
 
 
 @dataclass
+class Fight:
+    """The seat's part of a fight: entries of an id and a value, in order, the round, and whose turn it is as far as that is shown."""
+
+    entries: list[tuple[str, int]]
+    round: int
+    turn: str | None
+
+    @classmethod
+    def read(cls, line: Object) -> Fight:
+        entries, turn = [(token_id, value) for token_id, value in part(line, "list", list)], line["turn"]
+        if not all(type(token_id) is str and type(value) is int for token_id, value in entries):
+            raise Unreadable("an entry of the fight isn't an id and a number")
+        if turn is not None and turn not in dict(entries):
+            raise Unreadable("the turn is that of no entry")
+        return cls(entries, part(line, "round", int), turn)
+
+
+@dataclass
 class View:
     """All that a seat is shown."""
 
@@ -141,11 +159,12 @@ class View:
     tokens: dict[str, Token] = field(default_factory=dict)
     lights: dict[str, int] = field(default_factory=dict)
     sights: dict[str, list[int]] = field(default_factory=dict)
+    fight: Fight | None = None
 
     @classmethod
     def read(cls, line: Object) -> View:
         view = cls()
-        view.apply({key: line[key] for key in ("lights", "maps", "sights", "tokens")})
+        view.apply({key: line[key] for key in ("lights", "maps", "sights", "tokens")} | {"fight": line.get("fight")})
         return view
 
     def apply(self, change: Object) -> None:
@@ -163,6 +182,10 @@ class View:
             self.tokens[token.id] = token
         self.lights.update(change.get("lights", {}))
         self.sights.update(change.get("sights", {}))
+        if "fight" in change:
+            self.fight = None if change["fight"] is None else Fight.read(change["fight"])
+        if self.fight and not all(token_id in self.tokens for token_id, _ in self.fight.entries):
+            raise Unreadable("an entry of the fight is that of no token")
 
     def on_map(self, name: str | None) -> list[Token]:
         return sorted((token for token in self.tokens.values() if token.map == name), key=Token.order)

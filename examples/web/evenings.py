@@ -143,6 +143,9 @@ class AtRandom:
                 {"do": "hide", **seat, **place, "rect": [0, 0, 14, 9]},
                 {"do": "lighttype", **light},
                 {"do": "map", "name": f"m{number % 4}", **size},
+                {"do": "turn"},
+                {"do": "turn"},
+                {"do": "endfight"},
             ]
         )
 
@@ -178,5 +181,8 @@ class AtRandom:
                 {"do": "roll", "dice": "2d6", **to},
                 {"do": "macro", "name": pick(["attack", "save"]), "args": ["14", "b", "c"], **to},
                 {"do": "make", **made},
+                {"do": "init", **token, "value": self.chance.randint(-3, 20)},
+                {"do": "init", **token, "value": self.chance.randint(-3, 20)},
+                {"do": "uninit", **token},
             ]
         )

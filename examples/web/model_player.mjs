@@ -20,7 +20,7 @@ function shownMap(grid) {
 function shown(view) {
   const maps = Object.fromEntries([...view.maps].map(([name, grid]) => [name, shownMap(grid)]));
   const tokens = Object.fromEntries([...view.tokens].map(([id, token]) => [id, tokenWords(token)]));
-  return { maps, tokens, lights: view.lights, sights: view.sights };
+  return { maps, tokens, lights: view.lights, sights: view.sights, fight: view.fight };
 }
 
 function wordsOf(event) {

@@ -36,7 +36,13 @@ def shown(view):
         for name, grid in view.maps.items()
     }
     tokens = {token.id: token.words() for token in view.tokens.values()}
-    return {"maps": maps, "tokens": tokens, "lights": dict(view.lights), "sights": dict(view.sights)}
+    fight = view.fight and {
+        "list": [list(entry) for entry in view.fight.entries],
+        "round": view.fight.round,
+        "turn": view.fight.turn,
+    }
+    types = {"lights": dict(view.lights), "sights": dict(view.sights)}
+    return {"maps": maps, "tokens": tokens, **types, "fight": fight}
 
 
 def words_of(note):
@@ -107,6 +113,23 @@ ODD = {
     "off the map": [*HELLO, '{"change":{"changed":[{"ground":[[0,1,"ab"]],"name":"m"}]}}'],
     "not JSON": [*HELLO, "{"],
     "no line": [*HELLO, '{"x":1}'],
+    "a fight": [
+        *HELLO,
+        f'{{"change":{{"fight":{{"list":[["1:a",-3]],"round":0,"turn":null}},"tokens":[{TOKEN}]}}}}',
+        '{"change":{"fight":{"list":[["1:a",-3]],"round":2,"turn":"1:a"}}}',
+        '{"change":{"fight":null}}',
+    ],
+    "an entry of no token": [*HELLO, '{"change":{"fight":{"list":[["1:a",7]],"round":0,"turn":null}}}'],
+    "an entry without a number": [
+        *HELLO,
+        f'{{"change":{{"fight":{{"list":[["1:a","7"]],"round":0,"turn":null}},"tokens":[{TOKEN}]}}}}',
+    ],
+    "a turn of no entry": [*HELLO, '{"change":{"fight":{"list":[],"round":1,"turn":"1:a"}}}'],
+    "a token that goes and leaves its entry": [
+        *HELLO,
+        f'{{"change":{{"fight":{{"list":[["1:a",-3]],"round":0,"turn":null}},"tokens":[{TOKEN}]}}}}',
+        '{"change":{"gone":["1:a"]}}',
+    ],
     "refused hello": ['{"n":0,"no":24,"refused":"BadKey"}'],
     "the last line": [*HELLO, '{"n":16384,"ok":"say"}'],
     "a change": [*HELLO, f'{{"change":{{"changed":[{CHANGED}],"lights":{{"l":3}}}}}}'],
@@ -158,7 +181,7 @@ class Model(unittest.TestCase):
 
     @needs_program
     def test_evenings_at_random(self):
-        kinds = {"dark", "gone", "hidden", "lit", "unmapped", "refused"}
+        kinds = {"dark", "fight", "gone", "hidden", "lit", "unmapped", "refused"}
         for number in range(MANY):
             with self.subTest(evening=number):
                 lines = [*AtRandom(number, 300).lines()]

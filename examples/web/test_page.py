@@ -260,6 +260,7 @@ class TwoBrowsers(unittest.TestCase):
         self.a_door_opens()
         self.a_hidden_token_is_shown()
         self.they_talk_and_roll()
+        self.they_fight()
         self.properties_and_macros()
         self.night_falls()
         self.both_leave()
@@ -347,6 +348,17 @@ class TwoBrowsers(unittest.TestCase):
         told = [json.loads(frame) for frame in mara.frames()]
         self.assertEqual([line["text"] for line in told if line.get("from") == 0], ["Roll for it!"])
         self.assertIn("1d20+4", "".join(gm.frames()))
+
+    def they_fight(self):
+        gm, mara = self.gm, self.mara
+        mara.find("#token input[type=number]").send_keys(cleared("14"))
+        mara.press("Enter", "#token")
+        wait_for(lambda: "14 Mara" in gm.find("#fight").text)
+        gm.press("Turn", "#fight")
+        wait_for(lambda: "round 1: Mara has the turn" in mara.log())
+        self.assertEqual(mara.find("#fight [aria-current=true]").text, "14 Mara")
+        gm.press("End fight", "#fight")
+        wait_for(lambda: not mara.find("#fight").is_displayed())
 
     def properties_and_macros(self):
         gm, mara = self.gm, self.mara

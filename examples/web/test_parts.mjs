@@ -124,8 +124,26 @@ const TOKEN = {
   own: [], sight: null, light: "l", owners: [1], secret: [], visible: true,
 }; // prettier-ignore
 
+test("who has got the turn is told once", () => {
+  const seat = new Seat(1);
+  const told = (fight) => {
+    const [{ turn }] = seat.take(JSON.stringify({ change: { fight } }));
+    return turn?.id ?? null;
+  };
+  seat.take(JSON.stringify({ full: { lights: {}, maps: [MAP], sights: {}, tokens: [TOKEN] } }));
+  const list = [["0:a", 4]];
+  assert.equal(told({ list, round: 0, turn: null }), null);
+  assert.equal(told({ list, round: 1, turn: "0:a" }), "0:a");
+  assert.equal(told({ list: [["0:a", 5]], round: 1, turn: "0:a" }), null);
+  assert.equal(told({ list, round: 2, turn: "0:a" }), "0:a");
+  assert.equal(told(null), null);
+  assert.equal(seat.ended, null);
+});
+
 test("what undoes a command", () => {
-  const view = View.read({ lights: {}, maps: [MAP], sights: {}, tokens: [TOKEN] });
+  const fight = { list: [["0:a", 4]], round: 0, turn: null };
+  const tokens = [TOKEN, { ...TOKEN, id: "0:b" }];
+  const view = View.read({ lights: {}, maps: [MAP], sights: {}, tokens, fight });
   const token = { token: "0:a" };
   const terrain = { do: "terrain", map: "m" };
   const pairs = [
@@ -134,6 +152,10 @@ test("what undoes a command", () => {
     [{ do: "own", ...token, seat: 1, on: true }, [{ do: "own", ...token, seat: 1, on: true }]],
     [{ do: "move", ...token, path: [[0, 0]] }, [{ do: "place", ...token, map: "m", cell: [1, 0] }]],
     [{ do: "setprop", ...token, class: "public", name: "y", value: "" }, null],
+    [{ do: "init", ...token, value: 9 }, [{ do: "init", ...token, value: 4 }]],
+    [{ do: "init", token: "0:b", value: 9 }, [{ do: "uninit", token: "0:b" }]],
+    [{ do: "uninit", ...token }, [{ do: "init", ...token, value: 4 }]],
+    [{ do: "turn" }, null],
     [{ do: "expose", seat: 1, map: "m", rect: [0, 0, 1, 1] }, null],
     [
       { ...terrain, rect: [0, 0, 2, 1], kind: "z" },

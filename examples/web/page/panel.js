@@ -1,5 +1,6 @@
 // The panel of the chosen token: what was sent of it, and what the seat may change.
 import { ask, button, byName, choice, el, labelled, numberField, quiet, row, tagOf } from "./dom.js";
+import { fightRow } from "./fight.js";
 import { TAG, printable } from "./protocol.js";
 import { mayAct, tokenWords } from "./view.js";
 
@@ -29,7 +30,8 @@ export class Panel {
     if (!seat || (this.panel.contains(at) && ["INPUT", "SELECT"].includes(at.tagName))) return;
     const [token, onMap] = [this.table.chosenToken(), seat.view.onMap(this.table.mapName())];
     const chips = onMap.map((other) => [other.id, tokenWords(other), mayAct(other)]);
-    const state = JSON.stringify([token, chips, seat.view.lights, seat.view.sights, this.table.mapName()]);
+    const { lights, sights, fight } = seat.view;
+    const state = JSON.stringify([token, chips, lights, sights, fight, this.table.mapName()]);
     if (state === this.shown) return;
     this.shown = state;
     this.panel.replaceChildren(this.chips(onMap, token), ...(token ? this.rows(token) : [nothingChosen()]));
@@ -53,7 +55,7 @@ export class Panel {
     if (token.size > 1) words.push(`size ${token.size}`);
     if (token.layer !== "token") words.push(`layer ${token.layer}`);
     const title = el("h2", {}, el("bdi", {}, printable(token.name)), " ", quiet(words.join(", ")));
-    const actions = mayAct(token) ? [this.actions(token)] : [];
+    const actions = mayAct(token) ? [this.actions(token), fightRow(this.table, token)] : [];
     const rows = [title, ...actions, ...(this.table.tools?.tokenRows(token) ?? [])];
     for (const [key, word, heading] of CLASSES)
       if (token[key]?.length) {

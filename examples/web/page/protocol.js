@@ -93,6 +93,8 @@ const REFUSALS = {
   UnknownSight: "there is no such type of sight",
   PlayersOnly: "the game master makes tokens with 'token'",
   NotAPlayer: "seat 0 is the game master's",
+  NotListed: "the token isn't in the fight",
+  EmptyList: "nobody is in the fight",
 };
 
 export function refusalWords(line) {

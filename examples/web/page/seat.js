@@ -12,7 +12,8 @@ const DUMP = /^\{"dump":(.*),"n":[0-9]+,"ok":"dump"\}$/s;
 
 /**
  * What happened, as a line of the server tells it. Beside `kind`:
- * joined; view: the tokens that came and those that are gone; message: from, to, text, words;
+ * joined; view: the tokens that came, those that are gone, and the one that has got the turn;
+ * message: from, to, text, words;
  * refused: name, words, sent; moved: moved, of, sent; dump: text, sent; ok: command, sent; ended: words.
  * @typedef {{kind: string}} Event
  */
@@ -83,13 +84,17 @@ export class Seat {
     throw new Unreadable("it is none of the protocol's lines");
   }
 
-  /** What a look tells: which tokens came into view, and which went. */
+  /** What a look tells: which tokens came into view, which went, and whose turn has begun. */
   #looked(change) {
+    const { fight } = this.view;
     const before = new Map(this.view.tokens);
     change();
+    const now = this.view.fight;
+    const isOther = now && (now.turn !== fight?.turn || now.round !== fight.round);
+    const turn = (isOther && this.view.tokens.get(now.turn)) || null;
     const came = [...this.view.tokens.values()].filter((token) => !before.has(token.id));
     const gone = [...before.values()].filter((token) => !this.view.tokens.has(token.id));
-    return [{ kind: "view", came, gone }];
+    return [{ kind: "view", came, gone, turn }];
   }
 
   #takeRefusal(line) {

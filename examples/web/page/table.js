@@ -2,6 +2,7 @@
 import { Board } from "./board.js";
 import { Connection } from "./connection.js";
 import { button, byName } from "./dom.js";
+import { Fight } from "./fight.js";
 import { clamped, straightPath, wayWords } from "./geometry.js";
 import { Hands } from "./hands.js";
 import { Heading } from "./heading.js";
@@ -35,6 +36,7 @@ export class Table {
     this.heading = new Heading(this);
     this.talk = new Talk(this);
     this.macros = new Macros(this);
+    this.fight = new Fight(this);
     this.panel = new Panel(this);
     this.hands = new Hands(this);
     this.keyboard = new Keyboard(this);
@@ -141,13 +143,15 @@ export class Table {
     this.board.canvas.focus();
   }
 
-  looked({ came, gone }) {
+  looked({ came, gone, turn }) {
     // The game master is shown all, and is told of what others did alone.
     const isTold = (token) => !this.isFresh && (!this.seat.isGm || !token.id.startsWith(`${GAME_MASTER}:`));
     const where = ({ cell, map }) => (this.seat.isGm ? `${cell}, ${map}` : `${cell}`);
     for (const token of came.filter(isTold))
       this.note(`${printable(token.name)} is seen at ${where(token)}`, "event");
     for (const token of gone.filter(isTold)) this.note(`${printable(token.name)} is seen no more`, "event");
+    if (turn && !this.isFresh)
+      this.note(`round ${this.seat.view.fight.round}: ${printable(turn.name)} has the turn`, "event");
     this.isFresh = false;
     this.refresh(true);
     this.walk.pump();
@@ -265,6 +269,7 @@ export class Table {
     this.preview();
     this.heading.show();
     this.talk.showAddresses();
+    this.fight.show();
     this.panel.show();
     this.tools?.show();
   }

@@ -27,11 +27,19 @@ export function inverse(command, view) {
     light: () => as("light"),
     visible: () => token && [{ ...command, on: token.visible }],
     own: () => token && [{ ...command, on: token.owners.includes(command.seat) }],
+    init: () => token && [entryOf(command, view)],
+    uninit: () => token && [entryOf(command, view)],
     secret: () => token && valueOf(command, token.secret),
     setprop: () => token && valueOf(command, command.class === "own" ? token.own : token.props),
   };
   const found = Object.hasOwn(how, command.do) ? how[command.do]() : null;
   return found && found.length <= MOST_LINES ? found : null;
+}
+
+/** The token's entry in the fight as it is, or that it has none. */
+function entryOf({ token }, view) {
+  const value = view.valueOf(token);
+  return value === null ? { do: "uninit", token } : { do: "init", token, value };
 }
 
 /** A property that wasn't there can't be taken away again. */

@@ -23,6 +23,10 @@ import { Unreadable, part, printable } from "./protocol.js";
  * @property {?string} [light]
  * @property {number[]} [owners]
  * @property {boolean} [visible]
+ *
+ * A seat's part of a fight: an id and a value for each entry, in order, the round, and whose turn it is, as far
+ * as that is shown.
+ * @typedef {{list: [string, number][], round: number, turn: ?string}} Fight
  */
 
 export const LAYERS = ["background", "object", "hidden", "token"]; // as drawn, the last on top
@@ -112,6 +116,15 @@ function tokenOf(line, maps) {
   return { ...line, cell: [x, y] };
 }
 
+/** @returns {Fight} */
+function fightOf(line) {
+  const { turn } = line;
+  const list = part(line, "list", "list");
+  if (!list.every(([, value]) => Number.isInteger(value))) throw new Unreadable("a value is no number");
+  if (turn !== null && !list.some(([id]) => id === turn)) throw new Unreadable("the turn is that of no entry");
+  return { list, round: part(line, "round", "int"), turn };
+}
+
 /** Takes a key out of a map, where it has to be. */
 function drop(map, key, what) {
   if (!map.delete(key)) throw new Unreadable(`a ${what} that goes wasn't shown before`);
@@ -125,6 +138,8 @@ export class View {
   tokens = new Map();
   lights = {}; // a radius for each name, of a darkness a negative one
   sights = {}; // [range, night, mult] for each name
+  /** @type {?Fight} */
+  fight = null;
 
   /** The view of a full line. */
   static read(line) {
@@ -134,6 +149,7 @@ export class View {
       sights: part(line, "sights", "object"),
       maps: part(line, "maps", "list"),
       tokens: part(line, "tokens", "list"),
+      fight: line.fight ?? null,
     });
     return view;
   }
@@ -151,6 +167,14 @@ export class View {
     for (const line of change.tokens ?? []) this.tokens.set(line.id, tokenOf(line, this.maps));
     this.lights = { ...this.lights, ...change.lights };
     this.sights = { ...this.sights, ...change.sights };
+    if ("fight" in change) this.fight = change.fight && fightOf(change.fight);
+    if (this.fight?.list.some(([id]) => !this.tokens.has(id)))
+      throw new Unreadable("an entry of the fight is that of no token");
+  }
+
+  /** The value of a token's entry in the fight; none where it has none. */
+  valueOf(id) {
+    return this.fight?.list.find(([own]) => own === id)?.[1] ?? null;
   }
 
   mapNames() {
