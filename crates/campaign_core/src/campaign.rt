@@ -97,9 +97,20 @@ impl<E: Eye> Model for Campaign<E> {
 
     ghost Value = { Course };
 
-    ghost view = { λ c. record { origin = world_in (law c.origin); history = c.history.items; staged = option_map entry_in c.staged; looks = E.looks_made c.eye } };
+    ghost view = { λ c. record {
+      origin = world_in (law c.origin);
+      history = c.history.items;
+      staged = option_map entry_in c.staged;
+      looks = E.looks_made c.eye;
+    } };
 
-    ghost invariant = { λ c. IsRunning (world_in (law c.origin)) c.history.items (record { places = vec_capacity c.history - vec_len c.history; cuts = c.cuts.items; cut_places = vec_capacity c.cuts - vec_len c.cuts; said = c.said.items }) c.state c.keep c.staged };
+    ghost invariant = { λ c. IsRunning (world_in (law c.origin)) c.history.items
+        (record {
+          places = vec_capacity c.history - vec_len c.history;
+          cuts = c.cuts.items;
+          cut_places = vec_capacity c.cuts - vec_len c.cuts;
+          said = c.said.items;
+        }) c.state c.keep c.staged };
 }
 
 /// The world that a campaign opened with. No value of it is made.

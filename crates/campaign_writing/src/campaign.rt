@@ -29,8 +29,10 @@ fn campaign_members(
     scene: &Scene,
     books: &[SeatBook],
 ) -> Result<Map<String, Value>, AllocError>
-    ensures tree { IfOk result (λ members. members_view members.entries ≡ campaign_members_lem format (record { scene = scene.now; books = books.now })) }
-    ensures kept { IsWorld (record { scene = scene.now; books = books.now }) → OnOk result (IsKept (record { scene = scene.now; books = books.now })) }
+    ensures tree { IfOk result (λ members. members_view members.entries
+        ≡ campaign_members_lem format (record { scene = scene.now; books = books.now })) }
+    ensures kept { IsWorld (record { scene = scene.now; books = books.now })
+        → OnOk result (IsKept (record { scene = scene.now; books = books.now })) }
 {
     let mut members = Map::new(alloc);
     put_member(&mut members, alloc, "format", Value::from(format.number()))?;
@@ -54,7 +56,8 @@ fn value_in(
     books: &[SeatBook],
 ) -> Result<Value, AllocError>
     ensures tree { IfOk result (λ v. view v ≡ campaign_tree_in format (record { scene = scene.now; books = books.now })) }
-    ensures kept { IsWorld (record { scene = scene.now; books = books.now }) → OnOk result (IsKept (record { scene = scene.now; books = books.now })) }
+    ensures kept { IsWorld (record { scene = scene.now; books = books.now })
+        → OnOk result (IsKept (record { scene = scene.now; books = books.now })) }
 {
     let members = campaign_members(alloc, format, scene, books)?;
     Ok(Value::Object(members))
@@ -64,7 +67,8 @@ fn value_in(
 #[tactic(auto, unfolding(crate::specs::Canonical::campaign_tree))]
 pub fn campaign_value(alloc: Global, scene: &Scene, books: &[SeatBook]) -> Result<Value, AllocError>
     ensures tree { IfOk result (λ v. view v ≡ campaign_tree (record { scene = scene.now; books = books.now })) }
-    ensures kept { IsWorld (record { scene = scene.now; books = books.now }) → OnOk result (IsKept (record { scene = scene.now; books = books.now })) }
+    ensures kept { IsWorld (record { scene = scene.now; books = books.now })
+        → OnOk result (IsKept (record { scene = scene.now; books = books.now })) }
 {
     value_in(alloc, Format::Second, scene, books)
 }
@@ -72,7 +76,8 @@ pub fn campaign_value(alloc: Global, scene: &Scene, books: &[SeatBook]) -> Resul
 /// The text of a world in a format, in one line without its end.
 fn text_in(alloc: Global, format: Format, world: &World) -> Result<LineText, Memory>
     ensures text { IfOk result (λ line. line ≡ canonical_in format world.now) }
-    ensures reads_back { IsWritten world.now → IsOfFormat format world.now → IfOk result (λ line. campaign_of line ≡ Ok (reopened world.now)) }
+    ensures reads_back { IsWritten world.now → IsOfFormat format world.now
+        → IfOk result (λ line. campaign_of line ≡ Ok (reopened world.now)) }
 {
     match value_in(alloc, format, world.scene(), world.seats()) {
         Ok(value) => compact_line(alloc, &value),

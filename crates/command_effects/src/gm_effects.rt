@@ -157,7 +157,8 @@ fn without_wall(
     b: (i32, i32),
 ) -> Result<Scene, Memory>
     requires ends { MayWall scene.now map.now a b }
-    requires there { IfSome (map_of map.now scene.now.maps) (λ m. has_wall (wall_between (point_at_lem a) (point_at_lem b)) (walls_of m.walls kind) ≡ true) }
+    requires there { IfSome (map_of map.now scene.now.maps) (λ m. has_wall (wall_between (point_at_lem a) (point_at_lem b))
+        (walls_of m.walls kind) ≡ true) }
     ensures { IfOk result (λ s. s ≡ with_grid map.now (without_wall_of kind (point_at_lem a) (point_at_lem b)) scene.now) }
 {
     let (a, b) = points_on(scene, map, a, b);
@@ -189,8 +190,11 @@ fn with_sight_type(
     night: &i32,
     mult: &i32,
 ) -> Result<Scene, Memory>
-    requires { sight_fault scene.now.sights name.now (coordinate_lem range.now) (coordinate_lem night.now) (coordinate_lem mult.now) ≡ None }
-    ensures { IfOk result (λ s. s ≡ record scene.now { sights = with_type name.now (sight_by range.now night.now mult.now) scene.now.sights }) }
+    requires { sight_fault scene.now.sights name.now (coordinate_lem range.now) (coordinate_lem night.now) (coordinate_lem mult.now)
+        ≡ None }
+    ensures { IfOk result (λ s. s ≡ record scene.now {
+      sights = with_type name.now (sight_by range.now night.now mult.now) scene.now.sights;
+    }) }
 {
     let mut after = scene.copy()?;
     match after.set_sight_type(

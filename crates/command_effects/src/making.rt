@@ -35,7 +35,21 @@ pub(crate) fn new_token(
     layer: Layer,
     owners: Owners,
 ) -> Result<Token, Memory>
-    ensures { IfOk result (λ t. t ≡ record { id = id; name = name.now; map = map; cell = cell; size = size; layer = layer; owners = owners; visible = true; sight = None; light = None; public = []; own = []; secret = [] }) }
+    ensures { IfOk result (λ t. t ≡ record {
+      id = id;
+      name = name.now;
+      map = map;
+      cell = cell;
+      size = size;
+      layer = layer;
+      owners = owners;
+      visible = true;
+      sight = None;
+      light = None;
+      public = [];
+      own = [];
+      secret = [];
+    }) }
 {
     Ok(Token {
         id,

@@ -180,7 +180,8 @@ fn light_type_rule(scene: &Scene, name: Tag, radius: i32) -> Option<Refusal>
 }
 
 fn sight_type_rule(scene: &Scene, name: Tag, range: i32, night: i32, mult: i32) -> Option<Refusal>
-    ensures { result ≡ option_map of_sight_fault_lem (sight_fault scene.now.sights name (coordinate_lem range) (coordinate_lem night) (coordinate_lem mult)) }
+    ensures { result ≡ option_map of_sight_fault_lem (sight_fault scene.now.sights name (coordinate_lem range) (coordinate_lem night)
+        (coordinate_lem mult)) }
 {
     let sights = scene.sights();
     match sights.broken_check(name, coordinate(range), coordinate(night), coordinate(mult)) {
@@ -303,7 +304,8 @@ fn place_on(scene: &Scene, map: Tag, side: u32, place: (i32, i32)) -> Option<Ref
 }
 
 fn place_rule(scene: &Scene, token: TokenId, map: Tag, place: (i32, i32)) -> Option<Refusal>
-    ensures { result ≡ token_rule (λ t. map_rule (square_rule_lem t.size place) (map_of map scene.now.maps)) (token_of token scene.now.tokens) }
+    ensures { result ≡ token_rule (λ t. map_rule (square_rule_lem t.size place) (map_of map scene.now.maps))
+        (token_of token scene.now.tokens) }
 {
     match scene.tokens().get(token) {
         Some(token) => place_on(scene, map, u32::from(token.size), place),

@@ -149,7 +149,8 @@ fn run_text(
     stream: SeatStream,
 ) -> Result<Called, Memory>
     requires { readable.now.seats ≤ 33 }
-    ensures { (name : List ℕ) → IfOk result (λ c. c ≡ by_pieces readable.now seat stream (record { name = name; args = args.now; to = to }) (pieces_of_text text.now)) }
+    ensures { (name : List ℕ) → IfOk result (λ c. c ≡ by_pieces readable.now seat stream
+        (record { name = name; args = args.now; to = to }) (pieces_of_text text.now)) }
 {
     match read_macro(alloc, text.text()) {
         Ok(read) => run_read(alloc, &read, readable, args, seat, to, stream),

@@ -88,7 +88,8 @@ fn is_whole(text: &[u8]) -> bool
 
 // The number that the text writes, where it is from the least to the most.
 fn whole_in(text: &str, least: u32, most: u32) -> Option<u32>
-    ensures { MatchOption result (is_in least most text.now ≡ false) (λ n. (is_in least most text.now ≡ true) × (n ≡ digits_value 10 text.now)) }
+    ensures { MatchOption result (is_in least most text.now ≡ false)
+        (λ n. (is_in least most text.now ≡ true) × (n ≡ digits_value 10 text.now)) }
 {
     if !is_whole(text.as_bytes()) {
         return None;

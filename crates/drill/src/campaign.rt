@@ -31,7 +31,8 @@ const OWNED: u32 = 8;
 fn set_types(world: &mut World) -> Result<(), Memory>
     requires lights { world.old.scene.lights ≡ [] }
     requires sights { world.old.scene.sights ≡ [] }
-    ensures { OnOk result (world.new ≡ record world.old { scene = record world.old.scene { lights = drill_lights; sights = drill_sights } }) }
+    ensures { OnOk result (world.new
+        ≡ record world.old { scene = record world.old.scene { lights = drill_lights; sights = drill_sights } }) }
 {
     if world.set_light_type(torch(), 8).is_err() {
         return Err(Memory);
@@ -118,7 +119,8 @@ fn draw_wall(draws: &mut Draws) -> (Point, Point)
 /// Adds a wall, which is skipped if it is there already.
 fn add_wall(world: &mut World, from: Point, to: Point) -> Result<(), Memory>
     requires { has_map (codes "drill") world.old.scene.maps ≡ true }
-    ensures { (walls : List Wall) → world.old ≡ world_with walls [] → OnOk result (world.new ≡ world_with (and_wall walls (wall_between from to)) []) }
+    ensures { (walls : List Wall) → world.old ≡ world_with walls []
+        → OnOk result (world.new ≡ world_with (and_wall walls (wall_between from to)) []) }
 {
     match world.add_wall(map_name(), WallKind::Vbl, from, to) {
         Ok(()) => Ok(()),

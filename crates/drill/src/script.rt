@@ -66,8 +66,6 @@ pub(crate) fn script(alloc: Global, course: Course, lines: u32) -> Result<LineTe
     requires most { lines ≤ 10000 }
     ensures { IfOk result (λ text. text ≡ drill_script course.number lines) }
 {
-    match script_bytes(alloc, course, lines) {
-        Ok(bytes) => Ok(LineText::new(bytes)),
-        Err(_) => Err(Memory),
-    }
+    let bytes = script_bytes(alloc, course, lines)?;
+    Ok(LineText::new(bytes))
 }

@@ -156,7 +156,7 @@ fn copied(sets: &Vec<Exposure>) -> Result<Vec<Exposure>, Memory>
     for set in sets {
         let cells = set.cells.copy()?;
         let (seat, map) = (set.seat, set.map);
-        push(&mut copy, Exposure { seat, map, cells })?;
+        copy.push(Exposure { seat, map, cells })?;
     }
     Ok(copy)
 }
@@ -172,7 +172,7 @@ fn blank_sets(alloc: Global, players: u8, map: Tag, size: Size) -> Result<Vec<Ex
             unreachable!();
         };
         let cells = CellSet::new(alloc, size)?;
-        push(&mut sets, Exposure { seat, map, cells })?;
+        sets.push(Exposure { seat, map, cells })?;
     }
     Ok(sets)
 }
@@ -188,20 +188,7 @@ fn insert_all(
     ensures unchanged { OnErr result (sets.new.items ≡ sets.old.items) }
 {
     let behind = sets.len() - place;
-    match sets.append(&mut fresh) {
-        Ok(()) => {
-            sets[place..].rotate_left(behind);
-            Ok(())
-        }
-        Err(_) => Err(Memory),
-    }
-}
-
-fn push(sets: &mut Vec<Exposure>, set: Exposure) -> Result<(), Memory>
-    ensures { OnOk result (sets.new.items ≡ sets.old.items ++ set ∷ []) }
-{
-    match sets.push(set) {
-        Ok(()) => Ok(()),
-        Err(_) => Err(Memory),
-    }
+    sets.append(&mut fresh)?;
+    sets[place..].rotate_left(behind);
+    Ok(())
 }

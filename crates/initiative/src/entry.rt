@@ -18,7 +18,8 @@ pub struct Entry {
 impl PartialOrd for Entry {
     ghost partial_cmp = { as_partial_cmp entry_cmp };
 
-    ghost laws = { partial_order_from_own_ties (partial_order_from_total {R = entry_cmp} (Prim.search (comparing, rules))) (Prim.search (comparing, rules)) };
+    ghost laws = { partial_order_from_own_ties (partial_order_from_total {R = entry_cmp} (Prim.search (comparing, rules)))
+        (Prim.search (comparing, rules)) };
 
     fn partial_cmp(&self, other: &Entry) -> Option<Ordering> {
         Some(self.cmp(other))

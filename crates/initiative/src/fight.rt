@@ -215,10 +215,7 @@ impl Fight {
 fn copy_of(entries: &BTreeSet<Entry>) -> Result<BTreeSet<Entry>, Memory>
     ensures { IfOk result (λ copy. copy.keys ≡ entries.now.keys) }
 {
-    match entries.clone() {
-        Ok(copy) => Ok(copy),
-        Err(_) => Err(Memory),
-    }
+    Ok(entries.clone()?)
 }
 
 // Puts the entry in, in place of the one that its token has.
@@ -227,10 +224,8 @@ fn put_in(entries: &mut BTreeSet<Entry>, entry: Entry) -> Result<(), Memory>
     ensures keys { OnOk result (entries.new.keys ≡ list_with entry entries.old.keys) }
 {
     take_out(entries, &entry.id);
-    match entries.insert(entry) {
-        Ok(_) => Ok(()),
-        Err(_) => Err(Memory),
-    }
+    entries.insert(entry)?;
+    Ok(())
 }
 
 fn take_out(entries: &mut BTreeSet<Entry>, id: &TokenId)

@@ -20,8 +20,6 @@ pub fn compact_line(alloc: Global, value: &Value) -> Result<LineText, Memory>
     ensures reads_back { IfOk result (λ line. depth (view value.now) ≤ 127
         → value_of line ≡ Some (view value.now)) }
 {
-    match value.to_vec(alloc) {
-        Ok(bytes) => Ok(LineText::new(bytes)),
-        Err(_) => Err(Memory),
-    }
+    let bytes = value.to_vec(alloc)?;
+    Ok(LineText::new(bytes))
 }

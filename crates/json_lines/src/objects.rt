@@ -30,14 +30,13 @@ pub fn object_line(alloc: Global, members: &[(&str, Plain<'_>)]) -> Result<LineT
     ensures text { IfOk result (λ line. line ≡ compact_text (object_data (map (λ member. (member.0.now, member.1)) members.now))) }
     ensures one_line { IfOk result (λ line. IsOneLine line) }
 {
-    match object_bytes(alloc, members) {
-        Ok(bytes) => Ok(LineText::new(bytes)),
-        Err(_) => Err(Memory),
-    }
+    let bytes = object_bytes(alloc, members)?;
+    Ok(LineText::new(bytes))
 }
 
 fn object_bytes(alloc: Global, members: &[(&str, Plain<'_>)]) -> Result<Vec<u8>, AllocError>
-    ensures { IfOk result (λ bytes. bytes.items ≡ print (value_tokens (object_data (map (λ member. (member.0.now, member.1)) members.now)))) }
+    ensures { IfOk result (λ bytes. bytes.items ≡ print (value_tokens
+        (object_data (map (λ member. (member.0.now, member.1)) members.now)))) }
 {
     let mut writer = Writer::new(Vec::with_capacity(alloc, LINE_ROOM)?);
     writer.begin_object()?;

@@ -47,7 +47,8 @@ impl<W: Work, T: Started<W>, S: Threads, F: Fn(W) -> Result<T, Failed>> Spawner<
 
     ghost work_of = { λ task. T.work_of task };
 
-    ghost fit = { λ s. (work : W) → W.ready work → F.pre s.start work × ((r : _) → F.post s.start work r → IfOk r (λ task. T.work_of task ≡ work)) };
+    ghost fit = { λ s. (work : W) → W.ready work → F.pre s.start work
+        × ((r : _) → F.post s.start work r → IfOk r (λ task. T.work_of task ≡ work)) };
 
     fn start(&mut self, work: W) -> Result<T, Failed> {
         match (self.start)(work) {

@@ -35,8 +35,10 @@ pub trait Door {
 
     /// Waits for the next connection. `None` is the end of the door.
     fn next(&mut self) -> Result<Option<(Self::In, Self::Out)>, Failed>
-        ensures some { IfOk result (λ next. IfSome next (λ ends. (coming self.old ≡ prepend_told (ends ∷ []) (coming self.new)) × (away self.new ≡ add_told 1 (away self.old)))) }
-        ensures none { IfOk result (λ next. IfNone next (IsNoneLeft (coming self.new) × (coming self.new ≡ coming self.old) × (away self.new ≡ away self.old))) }
+        ensures some { IfOk result (λ next. IfSome next (λ ends. (coming self.old ≡ prepend_told (ends ∷ []) (coming self.new))
+            × (away self.new ≡ add_told 1 (away self.old)))) }
+        ensures none { IfOk result (λ next. IfNone next (IsNoneLeft (coming self.new) × (coming self.new ≡ coming self.old)
+            × (away self.new ≡ away self.old))) }
         ensures err { OnErr result ((coming self.new ≡ coming self.old) × (away self.new ≡ away self.old)) }
         ensures ended { ended self.new ≡ ended self.old }
         ensures count { faults_of self.old ≤ faults_of self.new }

@@ -37,7 +37,12 @@ impl MemDoor {
     /// A door with these connections. A call that may fail does so exactly where its number, counted
     /// from 0 on, is in `fail`.
     pub fn new(_alloc: Global, ends: Vec<(MemSource, MemSink)>, fail: Vec<u64>) -> MemDoor
-        ensures { result ≡ record { coming = ends.items; ended = []; away = 0; plan = record { failing = fail.items; calls = 0; faults = 0 } } }
+        ensures { result ≡ record {
+          coming = ends.items;
+          ended = [];
+          away = 0;
+          plan = record { failing = fail.items; calls = 0; faults = 0 };
+        } }
     {
         let coming = ends.len();
         MemDoor {
@@ -86,8 +91,10 @@ impl Door for MemDoor {
     }
 
     fn next(&mut self) -> Result<Option<(MemSource, MemSink)>, Failed>
-        ensures some { IfOk result (λ next. IfSome next (λ ends. (self.old.coming ≡ ends ∷ self.new.coming) × (self.new.away ≡ self.old.away + 1))) }
-        ensures none { IfOk result (λ next. IfNone next ((self.new.coming ≡ []) × (self.new.coming ≡ self.old.coming) × (self.new.away ≡ self.old.away))) }
+        ensures some { IfOk result (λ next. IfSome next (λ ends. (self.old.coming ≡ ends ∷ self.new.coming)
+            × (self.new.away ≡ self.old.away + 1))) }
+        ensures none { IfOk result (λ next. IfNone next ((self.new.coming ≡ []) × (self.new.coming ≡ self.old.coming)
+            × (self.new.away ≡ self.old.away))) }
         ensures err { OnErr result ((self.new.coming ≡ self.old.coming) × (self.new.away ≡ self.old.away)) }
         ensures ended { self.new.ended ≡ self.old.ended }
         ensures count { self.old.plan.faults ≤ self.new.plan.faults }

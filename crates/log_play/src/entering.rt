@@ -36,11 +36,14 @@ pub(crate) fn enter_with_takens<O: Sink, E: Eye + Drop, K: Disk>(
     ensures campaign { GoesOn campaign.old campaign.new }
     ensures entered { OnOk result (entries_since campaign.old campaign.new ≡ with_takens (world_of campaign.old) entry) }
     ensures stopped { OnErr result (IsPrefix (entries_since campaign.old campaign.new) (with_takens (world_of campaign.old) entry)) }
-    ensures written { HasWritten (as_played (logged result)) (world_of campaign.old) (entries_since campaign.old campaign.new) (O.written out.old) (O.written out.new) }
+    ensures written { HasWritten (as_played (logged result)) (world_of campaign.old) (entries_since campaign.old campaign.new)
+        (O.written out.old) (O.written out.new) }
     ensures waits { OnOk result (NothingWaits (world_of campaign.new)) }
-    ensures log { K.tells → KeepsLog K.seen K.may_leave K.moment K.left_since (logged result) (entries_since campaign.old campaign.new) (with_takens (world_of campaign.old) entry) disk.old disk.new journal.old journal.new }
+    ensures log { K.tells → KeepsLog K.seen K.may_leave K.moment K.left_since (logged result)
+        (entries_since campaign.old campaign.new) (with_takens (world_of campaign.old) entry) disk.old disk.new journal.old journal.new }
     ensures stop { IfErr result (λ stop. IsCutShort (as_played stop)) }
-    ensures full { logged result ≡ Logged.Full → HasNoRoom journal.new (entries_since campaign.old campaign.new) (with_takens (world_of campaign.old) entry) }
+    ensures full { logged result ≡ Logged.Full → HasNoRoom journal.new (entries_since campaign.old campaign.new)
+        (with_takens (world_of campaign.old) entry) }
     ensures out_count { O.faults_of out.old ≤ O.faults_of out.new }
     ensures write_fault { logged result ≡ Logged.WriteFault → CountRose (O.faults_of out.old) (O.faults_of out.new) }
     ensures disk_count { K.faults_of disk.old ≤ K.faults_of disk.new }
@@ -70,8 +73,10 @@ fn enter<O: Sink, E: Eye + Drop, K: Disk>(
     ensures entered { OnOk result (entries_since campaign.old campaign.new ≡ entry ∷ []) }
     ensures stopped { OnErr result (IsPrefix (entries_since campaign.old campaign.new) (entry ∷ [])) }
     ensures due { IfOk result (λ due. due.items ≡ takens (world_of campaign.new)) }
-    ensures written { HasWritten (as_played (logged result)) (world_of campaign.old) (entries_since campaign.old campaign.new) (O.written out.old) (O.written out.new) }
-    ensures log { K.tells → KeepsLog K.seen K.may_leave K.moment K.left_since (logged result) (entries_since campaign.old campaign.new) (entry ∷ []) disk.old disk.new journal.old journal.new }
+    ensures written { HasWritten (as_played (logged result)) (world_of campaign.old) (entries_since campaign.old campaign.new)
+        (O.written out.old) (O.written out.new) }
+    ensures log { K.tells → KeepsLog K.seen K.may_leave K.moment K.left_since (logged result)
+        (entries_since campaign.old campaign.new) (entry ∷ []) disk.old disk.new journal.old journal.new }
     ensures stop { IfErr result (λ stop. IsCutShort (as_played stop)) }
     ensures full { logged result ≡ Logged.Full → HasNoRoom journal.new (entries_since campaign.old campaign.new) (entry ∷ []) }
     ensures out_count { O.faults_of out.old ≤ O.faults_of out.new }
@@ -106,7 +111,8 @@ pub fn log_all<E: Eye + Drop, K: Disk>(
     ensures campaign { GoesOn campaign.old campaign.new }
     ensures entered { OnOk result (entries_since campaign.old campaign.new ≡ entries.items) }
     ensures stopped { OnErr result (IsPrefix (entries_since campaign.old campaign.new) entries.items) }
-    ensures log { K.tells → KeepsLog K.seen K.may_leave K.moment K.left_since (logged result) (entries_since campaign.old campaign.new) entries.items disk.old disk.new journal.old journal.new }
+    ensures log { K.tells → KeepsLog K.seen K.may_leave K.moment K.left_since (logged result)
+        (entries_since campaign.old campaign.new) entries.items disk.old disk.new journal.old journal.new }
     ensures stop { IfErr result IsLogStop }
     ensures full { logged result ≡ Logged.Full → HasNoRoom journal.new (entries_since campaign.old campaign.new) entries.items }
     ensures disk_count { K.faults_of disk.old ≤ K.faults_of disk.new }
@@ -135,7 +141,8 @@ fn log_entry<E: Eye + Drop, K: Disk>(
     ensures history { OnOk result (campaign.new.history ≡ campaign.old.history ++ entry ∷ []) }
     ensures unchanged { OnErr result (campaign.new.history ≡ campaign.old.history) }
     ensures answer { IfOk result (λ a. a ≡ answer_after campaign.old entry) }
-    ensures log { K.tells → KeepsLog K.seen K.may_leave K.moment K.left_since (logged result) (entries_since campaign.old campaign.new) (entry ∷ []) disk.old disk.new journal.old journal.new }
+    ensures log { K.tells → KeepsLog K.seen K.may_leave K.moment K.left_since (logged result)
+        (entries_since campaign.old campaign.new) (entry ∷ []) disk.old disk.new journal.old journal.new }
     ensures stop { IfErr result IsLogStop }
     ensures full { logged result ≡ Logged.Full → 2 ^ 30 ≤ journal.new + 5 + length (entry_bytes entry) }
     ensures disk_count { K.faults_of disk.old ≤ K.faults_of disk.new }

@@ -49,16 +49,19 @@ pub fn play_logged<S: Source, O: Sink, E: Eye + Drop, K: Disk>(
     // A crash at any moment of the call leaves a log with the entries from before, and then the first of the script's.
     ensures any_moment { K.tells → (text : List ℕ) (before : List Entry) → HoldsLog K.seen K.may_leave disk.old journal.old text before
         → WhereTold (S.left script.old) (S.left script.new)
-        (λ all rest. LeavesOnly K.moment K.left_since disk.old disk.new (HasFront text before [] (script_of (world_of campaign.old) all).entries)) }
+        (λ all rest. LeavesOnly K.moment K.left_since disk.old disk.new
+        (HasFront text before [] (script_of (world_of campaign.old) all).entries)) }
 
     // When it returns, a crash leaves one that has every entry of the history, of which alone lines went out.
     ensures kept { K.tells → (text : List ℕ) (before : List Entry) → HoldsLog K.seen K.may_leave disk.old journal.old text before
         → WhereTold (S.left script.old) (S.left script.new)
-        (λ all rest. (file : List ℕ) → K.may_leave disk.new file → HasFront text before (entries_since campaign.old campaign.new) (script_of (world_of campaign.old) all).entries file) }
+        (λ all rest. (file : List ℕ) → K.may_leave disk.new file
+        → HasFront text before (entries_since campaign.old campaign.new) (script_of (world_of campaign.old) all).entries file) }
 
     // Unless the disk failed, it holds just these, and the journal is the disk's.
     ensures holds { K.tells → (text : List ℕ) (before : List Entry) → HoldsLog K.seen K.may_leave disk.old journal.old text before
-        → UnlessDiskFault result (HoldsLog K.seen K.may_leave disk.new journal.new text (before ++ entries_since campaign.old campaign.new)) }
+        → UnlessDiskFault result (HoldsLog K.seen K.may_leave disk.new journal.new text
+        (before ++ entries_since campaign.old campaign.new)) }
 
     ensures full { result ≡ Logged.Full → WhereTold (S.left script.old) (S.left script.new)
         (λ all rest. HasNoRoom journal.new (entries_since campaign.old campaign.new) (script_of (world_of campaign.old) all).entries) }
@@ -107,13 +110,16 @@ fn play_lines<S: Source, O: Sink, E: Eye + Drop, K: Disk>(
         (λ text rest. HasEntered (as_played result) (script_of (world_of campaign.old) text) (entries_since campaign.old campaign.new)) }
     ensures read { WhereTold (S.left script.old) (S.left script.new)
         (λ text rest. HasRead (as_played result) (world_of campaign.old) (entries_since campaign.old campaign.new) text rest) }
-    ensures written { HasWritten (as_played result) (world_of campaign.old) (entries_since campaign.old campaign.new) (O.written out.old) (O.written out.new) }
+    ensures written { HasWritten (as_played result) (world_of campaign.old) (entries_since campaign.old campaign.new)
+        (O.written out.old) (O.written out.new) }
     ensures waits { LeavesNothing (as_played result) (world_of campaign.new) }
     ensures log { K.tells → (text : List ℕ) (before : List Entry) → HoldsLog K.seen K.may_leave disk.old journal.old text before
         → WhereTold (S.left script.old) (S.left script.new)
-        (λ all rest. Keeps K.seen K.may_leave K.moment K.left_since result text before (entries_since campaign.old campaign.new) (script_of (world_of campaign.old) all).entries disk.old disk.new journal.new) }
+        (λ all rest. Keeps K.seen K.may_leave K.moment K.left_since result text before (entries_since campaign.old campaign.new)
+        (script_of (world_of campaign.old) all).entries disk.old disk.new journal.new) }
     ensures holds { K.tells → (text : List ℕ) (before : List Entry) → HoldsLog K.seen K.may_leave disk.old journal.old text before
-        → UnlessDiskFault result (HoldsLog K.seen K.may_leave disk.new journal.new text (before ++ entries_since campaign.old campaign.new)) }
+        → UnlessDiskFault result (HoldsLog K.seen K.may_leave disk.new journal.new text
+        (before ++ entries_since campaign.old campaign.new)) }
     ensures full { result ≡ Logged.Full → WhereTold (S.left script.old) (S.left script.new)
         (λ all rest. HasNoRoom journal.new (entries_since campaign.old campaign.new) (script_of (world_of campaign.old) all).entries) }
     ensures disk_count { K.faults_of disk.old ≤ K.faults_of disk.new }
@@ -157,13 +163,18 @@ fn play_line<O: Sink, E: Eye + Drop, K: Disk>(
     requires short { length line ≤ 4112 }
 
     ensures campaign { GoesOn campaign.old campaign.new }
-    ensures entered { HasEntered (as_played (logged result)) (script_from (world_of campaign.old) number (line ∷ [])) (entries_since campaign.old campaign.new) }
-    ensures written { HasWritten (as_played (logged result)) (world_of campaign.old) (entries_since campaign.old campaign.new) (O.written out.old) (O.written out.new) }
+    ensures entered { HasEntered (as_played (logged result)) (script_from (world_of campaign.old) number (line ∷ []))
+        (entries_since campaign.old campaign.new) }
+    ensures written { HasWritten (as_played (logged result)) (world_of campaign.old) (entries_since campaign.old campaign.new)
+        (O.written out.old) (O.written out.new) }
     ensures waits { LeavesNothing (as_played (logged result)) (world_of campaign.new) }
     ensures few { OnOk result (number ≤ LINE_LIMIT) }
-    ensures log { K.tells → KeepsLog K.seen K.may_leave K.moment K.left_since (logged result) (entries_since campaign.old campaign.new) (script_from (world_of campaign.old) number (line ∷ [])).entries disk.old disk.new journal.old journal.new }
+    ensures log { K.tells → KeepsLog K.seen K.may_leave K.moment K.left_since (logged result)
+        (entries_since campaign.old campaign.new) (script_from (world_of campaign.old) number
+        (line ∷ [])).entries disk.old disk.new journal.old journal.new }
     ensures stop { IfErr result (λ stop. IsLineStop (as_played stop)) }
-    ensures full { logged result ≡ Logged.Full → HasNoRoom journal.new (entries_since campaign.old campaign.new) (script_from (world_of campaign.old) number (line ∷ [])).entries }
+    ensures full { logged result ≡ Logged.Full → HasNoRoom journal.new (entries_since campaign.old campaign.new)
+        (script_from (world_of campaign.old) number (line ∷ [])).entries }
     ensures out_count { O.faults_of out.old ≤ O.faults_of out.new }
     ensures write_fault { logged result ≡ Logged.WriteFault → CountRose (O.faults_of out.old) (O.faults_of out.new) }
     ensures disk_count { K.faults_of disk.old ≤ K.faults_of disk.new }

@@ -105,7 +105,8 @@ impl Setting<'_> {
 
     /// An argument of the macro.
     fn argument(&self, at: u32, value: &Value) -> Result<Value, MacroStop>
-        ensures { (h : Held) → Answers (number_lem at value.now (λ k. argued_lem at (argument_of_lem self.now.args.now k) (running h))) result h }
+        ensures { (h : Held) → Answers (number_lem at value.now
+            (λ k. argued_lem at (argument_of_lem self.now.args.now k) (running h))) result h }
     {
         let number = number(at, value)?;
         let Ok(place) = usize::try_from(number) else {

@@ -53,7 +53,9 @@ impl Setting<'_> {
         requires second { SecondStands self.now.nodes.now second }
         requires fits { NodesFit self.now.nodes.now }
         requires seats { self.now.readable.now.seats ≤ 33 }
-        ensures { Answers (follow (options_of (given self.now) (options_at self.now.nodes.now options.now) (running state.old)) (λ chosen s. follow (body_of (given self.now) (tree_at self.now.nodes.now first) (second_at self.now.nodes.now second) chosen.1 s) (λ t s. Ok (record { to = chosen.0; text = t }, s)))) result state.new }
+        ensures { Answers (follow (options_of (given self.now) (options_at self.now.nodes.now options.now) (running state.old))
+            (λ chosen s. follow (body_of (given self.now) (tree_at self.now.nodes.now first)
+            (second_at self.now.nodes.now second) chosen.1 s) (λ t s. Ok (record { to = chosen.0; text = t }, s)))) result state.new }
     {
         let (to, way) = self.options(options, state)?;
         let text = self.body(first, second, way, state)?;
@@ -90,7 +92,8 @@ impl Setting<'_> {
         requires stands { PieceStands self.now.nodes.now piece.now }
         requires fits { NodesFit self.now.nodes.now }
         requires seats { self.now.readable.now.seats ≤ 33 }
-        ensures value { Answers (piece_by (given self.now) long (piece_at self.now.nodes.now piece.now) (running state.old)) result state.new }
+        ensures value { Answers (piece_by (given self.now) long (piece_at self.now.nodes.now piece.now)
+            (running state.old)) result state.new }
         ensures short { IfOk result (λ m. long + length m.text ≤ 16000) }
     {
         let said = self.said(piece, state)?;

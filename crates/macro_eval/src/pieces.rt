@@ -87,7 +87,8 @@ impl Setting<'_> {
         requires stands { Stands self.now.nodes.now seat }
         requires fits { NodesFit self.now.nodes.now }
         requires seats { self.now.readable.now.seats ≤ 33 }
-        ensures { Answers (follow (value_of (given self.now) (tree_at self.now.nodes.now seat) (running state.old)) (λ v s. number_lem at v (λ z. whispered_lem (given self.now) at z s))) result state.new }
+        ensures { Answers (follow (value_of (given self.now) (tree_at self.now.nodes.now seat) (running state.old))
+            (λ v s. number_lem at v (λ z. whispered_lem (given self.now) at z s))) result state.new }
     {
         let value = self.value(seat, state)?;
         self.whispered(at, &value)
@@ -126,7 +127,8 @@ impl Setting<'_> {
     fn chosen(&self, condition: usize, state: &mut State) -> Result<Way, MacroStop>
         requires stands { Stands self.now.nodes.now condition }
         requires fits { NodesFit self.now.nodes.now }
-        ensures { Answers (follow (value_of (given self.now) (tree_at self.now.nodes.now condition) (running state.old)) (λ v s. Ok (way_by_lem v, s))) result state.new }
+        ensures { Answers (follow (value_of (given self.now) (tree_at self.now.nodes.now condition) (running state.old))
+            (λ v s. Ok (way_by_lem v, s))) result state.new }
     {
         let value = self.value(condition, state)?;
         Ok(way_by(&value))
@@ -135,7 +137,8 @@ impl Setting<'_> {
     fn times(&self, at: u32, times: usize, state: &mut State) -> Result<Way, MacroStop>
         requires stands { Stands self.now.nodes.now times }
         requires fits { NodesFit self.now.nodes.now }
-        ensures { Answers (follow (value_of (given self.now) (tree_at self.now.nodes.now times) (running state.old)) (λ v s. number_lem at v (λ z. counted_lem at z s))) result state.new }
+        ensures { Answers (follow (value_of (given self.now) (tree_at self.now.nodes.now times) (running state.old))
+            (λ v s. number_lem at v (λ z. counted_lem at z s))) result state.new }
     {
         let value = self.value(times, state)?;
         self.counted(at, &value)
@@ -161,7 +164,8 @@ impl Setting<'_> {
         requires stands { AddressStands self.now.nodes.now address.now }
         requires fits { NodesFit self.now.nodes.now }
         requires seats { self.now.readable.now.seats ≤ 33 }
-        ensures { Answers (options_of (given self.now) (Addressed (address_at self.now.nodes.now address.now)) (running state.old)) result state.new }
+        ensures { Answers (options_of (given self.now) (Addressed (address_at self.now.nodes.now address.now))
+            (running state.old)) result state.new }
     {
         let to = self.address(address, state)?;
         Ok((to, Way::First))
@@ -170,7 +174,8 @@ impl Setting<'_> {
     fn branched(&self, branch: &Branch, state: &mut State) -> Result<(Option<To>, Way), MacroStop>
         requires stands { BranchStands self.now.nodes.now branch.now }
         requires fits { NodesFit self.now.nodes.now }
-        ensures { Answers (options_of (given self.now) (Branched (branch_at self.now.nodes.now branch.now)) (running state.old)) result state.new }
+        ensures { Answers (options_of (given self.now) (Branched (branch_at self.now.nodes.now branch.now))
+            (running state.old)) result state.new }
     {
         let way = self.way(branch, state)?;
         Ok((Some(self.to), way))
@@ -186,7 +191,8 @@ impl Setting<'_> {
         requires branch { BranchStands self.now.nodes.now branch.now }
         requires fits { NodesFit self.now.nodes.now }
         requires seats { self.now.readable.now.seats ≤ 33 }
-        ensures { Answers (options_of (given self.now) (AddressFirst (address_at self.now.nodes.now address.now) (branch_at self.now.nodes.now branch.now)) (running state.old)) result state.new }
+        ensures { Answers (options_of (given self.now) (AddressFirst (address_at self.now.nodes.now address.now)
+            (branch_at self.now.nodes.now branch.now)) (running state.old)) result state.new }
     {
         let to = self.address(address, state)?;
         let way = self.way(branch, state)?;
@@ -203,7 +209,8 @@ impl Setting<'_> {
         requires branch { BranchStands self.now.nodes.now branch.now }
         requires fits { NodesFit self.now.nodes.now }
         requires seats { self.now.readable.now.seats ≤ 33 }
-        ensures { Answers (options_of (given self.now) (BranchFirst (branch_at self.now.nodes.now branch.now) (address_at self.now.nodes.now address.now)) (running state.old)) result state.new }
+        ensures { Answers (options_of (given self.now) (BranchFirst (branch_at self.now.nodes.now branch.now)
+            (address_at self.now.nodes.now address.now)) (running state.old)) result state.new }
     {
         let way = self.way(branch, state)?;
         let to = self.address(address, state)?;
@@ -233,7 +240,8 @@ impl Setting<'_> {
     fn second(&self, second: Option<usize>, state: &mut State) -> Result<Text, MacroStop>
         requires stands { SecondStands self.now.nodes.now second }
         requires fits { NodesFit self.now.nodes.now }
-        ensures { Answers (body_of (given self.now) (TreeNumber 0 0) (second_at self.now.nodes.now second) SecondWay (running state.old)) result state.new }
+        ensures { Answers (body_of (given self.now) (TreeNumber 0 0) (second_at self.now.nodes.now second) SecondWay
+            (running state.old)) result state.new }
     {
         match second {
             None => text_of(String::new(self.alloc)),
@@ -244,7 +252,8 @@ impl Setting<'_> {
     fn repeated(&self, times: u32, node: usize, state: &mut State) -> Result<Text, MacroStop>
         requires stands { Stands self.now.nodes.now node }
         requires fits { NodesFit self.now.nodes.now }
-        ensures { Answers (follow (rounds_of (given self.now) (tree_at self.now.nodes.now node) 0 times (running state.old)) (λ ts s. Ok (joined_lem ts, s))) result state.new }
+        ensures { Answers (follow (rounds_of (given self.now) (tree_at self.now.nodes.now node) 0 times (running state.old))
+            (λ ts s. Ok (joined_lem ts, s))) result state.new }
     {
         let texts = self.rounds(times, node, state)?;
         joined(self.alloc, texts.list.as_slice())
@@ -261,7 +270,8 @@ impl Setting<'_> {
         requires first { Stands self.now.nodes.now first }
         requires second { SecondStands self.now.nodes.now second }
         requires fits { NodesFit self.now.nodes.now }
-        ensures { Answers (body_of (given self.now) (tree_at self.now.nodes.now first) (second_at self.now.nodes.now second) way (running state.old)) result state.new }
+        ensures { Answers (body_of (given self.now) (tree_at self.now.nodes.now first) (second_at self.now.nodes.now second) way
+            (running state.old)) result state.new }
     {
         match way {
             Way::First => self.shown_of(first, state),

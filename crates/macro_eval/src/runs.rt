@@ -49,7 +49,8 @@ impl Setting<'_> {
 
     /// Puts a piece behind what a seat gets before it, if it gets it.
     fn add_said(&self, said: &Said, seat: u8, whole: &mut String) -> Result<(), MacroStop>
-        ensures text { OnOk result (string_bytes whole.new ≡ string_bytes whole.old ++ (if reaches_lem (given self.now) seat said.now.to then said.now.text else [])) }
+        ensures text { OnOk result (string_bytes whole.new ≡ string_bytes whole.old ++
+            (if reaches_lem (given self.now) seat said.now.to then said.now.text else [])) }
         ensures memory { IfErr result (λ stop. stop ≡ MacroStop.Memory) }
     {
         if self.reaches(said.to, seat) {
@@ -75,7 +76,8 @@ impl Setting<'_> {
     /// The text of each seat.
     #[tactic(auto, using(crate::proofs::Reached::seat_next))]
     fn texts(&self, output: &[Said]) -> Result<Texts, MacroStop>
-        ensures texts { IfOk result (λ ts. ts ≡ map (text_for_lem (given self.now) output.now) (range_with_len 0 self.now.readable.now.seats)) }
+        ensures texts { IfOk result (λ ts. ts ≡ map (text_for_lem (given self.now) output.now)
+            (range_with_len 0 self.now.readable.now.seats)) }
         ensures memory { IfErr result (λ stop. stop ≡ MacroStop.Memory) }
     {
         let mut list = Vec::new(self.alloc);
@@ -150,7 +152,8 @@ pub fn run(
 ) -> Result<Outcome, MacroStop>
     requires { readable.now.seats ≤ 33 }
     ensures ran { IfOk result (IsOutcomeOf (run_over (pieces_of macro_text.now) readable.now args.now from to stream.old)) }
-    ensures drawn { OnOk result (stream.new ≡ after stream.old (words_drawn (run_over (pieces_of macro_text.now) readable.now args.now from to stream.old))) }
+    ensures drawn { OnOk result (stream.new ≡ after stream.old
+        (words_drawn (run_over (pieces_of macro_text.now) readable.now args.now from to stream.old))) }
     ensures stopped { IfErr result (IsStopOf (run_over (pieces_of macro_text.now) readable.now args.now from to stream.old)) }
     ensures refused { OnErr result (stream.new ≡ stream.old) }
 {

@@ -97,7 +97,8 @@ impl Setting<'_> {
     fn negated(&self, at: u32, of: usize, state: &mut State) -> Result<Value, MacroStop>
         requires stands { Stands self.now.nodes.now of }
         requires fits { NodesFit self.now.nodes.now }
-        ensures { Answers (follow (value_at (given self.now) self.now.nodes.now of (running state.old)) (λ a s. negated_lem at a s)) result state.new }
+        ensures { Answers (follow (value_at (given self.now) self.now.nodes.now of (running state.old))
+            (λ a s. negated_lem at a s)) result state.new }
     {
         let value = self.value(of, state)?;
         negated(at, &value)
@@ -107,7 +108,8 @@ impl Setting<'_> {
     fn inverted(&self, at: u32, of: usize, state: &mut State) -> Result<Value, MacroStop>
         requires stands { Stands self.now.nodes.now of }
         requires fits { NodesFit self.now.nodes.now }
-        ensures { Answers (follow (value_at (given self.now) self.now.nodes.now of (running state.old)) (λ a s. inverted_lem at a s)) result state.new }
+        ensures { Answers (follow (value_at (given self.now) self.now.nodes.now of (running state.old))
+            (λ a s. inverted_lem at a s)) result state.new }
     {
         let value = self.value(of, state)?;
         inverted(at, &value)
@@ -117,7 +119,8 @@ impl Setting<'_> {
     fn assigned(&self, name: &[u8], of: usize, state: &mut State) -> Result<Value, MacroStop>
         requires stands { Stands self.now.nodes.now of }
         requires fits { NodesFit self.now.nodes.now }
-        ensures { Answers (follow (value_at (given self.now) self.now.nodes.now of (running state.old)) (λ a s. assigned_lem name.now a s)) result state.new }
+        ensures { Answers (follow (value_at (given self.now) self.now.nodes.now of (running state.old))
+            (λ a s. assigned_lem name.now a s)) result state.new }
     {
         let value = self.value(of, state)?;
         state.assigned(name, value)
@@ -136,7 +139,8 @@ impl Setting<'_> {
         requires left { Stands self.now.nodes.now left }
         requires right { Stands self.now.nodes.now right }
         requires fits { NodesFit self.now.nodes.now }
-        ensures { Answers (operated at operator (λ s. value_at (given self.now) self.now.nodes.now left s) (λ s. value_at (given self.now) self.now.nodes.now right s) (running state.old)) result state.new }
+        ensures { Answers (operated at operator (λ s. value_at (given self.now) self.now.nodes.now left s)
+            (λ s. value_at (given self.now) self.now.nodes.now right s) (running state.old)) result state.new }
     {
         match operator {
             Operator::Or => self.either(at, true, left, right, state),
@@ -157,7 +161,9 @@ impl Setting<'_> {
         requires left { Stands self.now.nodes.now left }
         requires right { Stands self.now.nodes.now right }
         requires fits { NodesFit self.now.nodes.now }
-        ensures { Answers (follow (value_at (given self.now) self.now.nodes.now left (running state.old)) (λ a s. follow (value_at (given self.now) self.now.nodes.now right s) (λ b s. combined_lem at operator a b s))) result state.new }
+        ensures { Answers (follow (value_at (given self.now) self.now.nodes.now left (running state.old))
+            (λ a s. follow (value_at (given self.now) self.now.nodes.now right s)
+            (λ b s. combined_lem at operator a b s))) result state.new }
     {
         let a = self.value(left, state)?;
         let b = self.value(right, state)?;
@@ -177,7 +183,8 @@ impl Setting<'_> {
         requires left { Stands self.now.nodes.now left }
         requires right { Stands self.now.nodes.now right }
         requires fits { NodesFit self.now.nodes.now }
-        ensures { Answers (follow (value_at (given self.now) self.now.nodes.now left (running state.old)) (λ a s. short_lem at decider a (λ s. value_at (given self.now) self.now.nodes.now right s) s)) result state.new }
+        ensures { Answers (follow (value_at (given self.now) self.now.nodes.now left (running state.old))
+            (λ a s. short_lem at decider a (λ s. value_at (given self.now) self.now.nodes.now right s) s)) result state.new }
     {
         let a = self.value(left, state)?;
         let number = number(at, &a)?;
@@ -222,7 +229,8 @@ impl Setting<'_> {
     ) -> Result<Value, MacroStop>
         requires first { Stands self.now.nodes.now first }
         requires fits { NodesFit self.now.nodes.now }
-        ensures { Answers (follow (value_at (given self.now) self.now.nodes.now first (running state.old)) (λ a s. called1_lem (given self.now) at function a s)) result state.new }
+        ensures { Answers (follow (value_at (given self.now) self.now.nodes.now first (running state.old))
+            (λ a s. called1_lem (given self.now) at function a s)) result state.new }
     {
         let a = self.value(first, state)?;
         self.called1(at, function, &a)
@@ -240,7 +248,9 @@ impl Setting<'_> {
         requires first { Stands self.now.nodes.now first }
         requires second { Stands self.now.nodes.now second }
         requires fits { NodesFit self.now.nodes.now }
-        ensures { Answers (follow (value_at (given self.now) self.now.nodes.now first (running state.old)) (λ a s. follow (value_at (given self.now) self.now.nodes.now second s) (λ b s. called2_lem (given self.now) at function a b s))) result state.new }
+        ensures { Answers (follow (value_at (given self.now) self.now.nodes.now first (running state.old))
+            (λ a s. follow (value_at (given self.now) self.now.nodes.now second s)
+            (λ b s. called2_lem (given self.now) at function a b s))) result state.new }
     {
         let a = self.value(first, state)?;
         let b = self.value(second, state)?;
@@ -261,7 +271,10 @@ impl Setting<'_> {
         requires second { Stands self.now.nodes.now second }
         requires third { Stands self.now.nodes.now third }
         requires fits { NodesFit self.now.nodes.now }
-        ensures { Answers (follow (value_at (given self.now) self.now.nodes.now first (running state.old)) (λ a s. follow (value_at (given self.now) self.now.nodes.now second s) (λ b s. follow (value_at (given self.now) self.now.nodes.now third s) (λ c s. called3_lem (given self.now) at function a b c s)))) result state.new }
+        ensures { Answers (follow (value_at (given self.now) self.now.nodes.now first (running state.old))
+            (λ a s. follow (value_at (given self.now) self.now.nodes.now second s)
+            (λ b s. follow (value_at (given self.now) self.now.nodes.now third s)
+            (λ c s. called3_lem (given self.now) at function a b c s)))) result state.new }
     {
         let a = self.value(first, state)?;
         let b = self.value(second, state)?;

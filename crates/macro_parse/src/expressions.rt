@@ -47,7 +47,9 @@ impl Reader<'_> {
     /// A number, or dice with their count.
     fn number(&mut self) -> Result<usize, Stop>
         requires { length self.old.cursor.rest.now ≤ self.old.end }
-        ensures value { Finds (Puts self.old.nodes.items self.new.nodes.items) (λ _. number_or_dice_at (place self.old.end self.old.cursor.rest.now)) result self.old.cursor.rest.now self.new.cursor.rest.now }
+        ensures value { Finds (Puts self.old.nodes.items self.new.nodes.items)
+            (λ _. number_or_dice_at (place self.old.end self.old.cursor.rest.now))
+            result self.old.cursor.rest.now self.new.cursor.rest.now }
         ensures end { self.new.end ≡ self.old.end }
         ensures shrinks { length self.new.cursor.rest.now ≤ length self.old.cursor.rest.now }
     {
@@ -62,7 +64,8 @@ impl Reader<'_> {
     /// A quoted text.
     fn text(&mut self) -> Result<usize, Stop>
         requires { length self.old.cursor.rest.now ≤ self.old.end }
-        ensures value { Finds (Puts self.old.nodes.items self.new.nodes.items) (λ _. quoted_at (place self.old.end self.old.cursor.rest.now)) result self.old.cursor.rest.now self.new.cursor.rest.now }
+        ensures value { Finds (Puts self.old.nodes.items self.new.nodes.items)
+            (λ _. quoted_at (place self.old.end self.old.cursor.rest.now)) result self.old.cursor.rest.now self.new.cursor.rest.now }
         ensures end { self.new.end ≡ self.old.end }
         ensures shrinks { length self.new.cursor.rest.now ≤ length self.old.cursor.rest.now }
     {
@@ -97,7 +100,9 @@ impl Reader<'_> {
     #[cycle(chain)]
     pub(crate) fn chain(&mut self, level: Level, depth: u32) -> Result<usize, Stop>
         requires { length self.old.cursor.rest.now ≤ self.old.end }
-        ensures value { Finds (Puts self.old.nodes.items self.new.nodes.items) (λ turns. level_at level (unary_at turns depth) turns (place self.old.end self.old.cursor.rest.now)) result self.old.cursor.rest.now self.new.cursor.rest.now }
+        ensures value { Finds (Puts self.old.nodes.items self.new.nodes.items)
+            (λ turns. level_at level (unary_at turns depth) turns
+            (place self.old.end self.old.cursor.rest.now)) result self.old.cursor.rest.now self.new.cursor.rest.now }
         ensures end { self.new.end ≡ self.old.end }
         ensures shrinks { length self.new.cursor.rest.now ≤ length self.old.cursor.rest.now }
     {
@@ -110,7 +115,9 @@ impl Reader<'_> {
     pub(crate) fn more(&mut self, level: Level, depth: u32, left: usize) -> Result<usize, Stop>
         requires { length self.old.cursor.rest.now ≤ self.old.end }
         ensures value { (x : Tree) → Shows self.old.nodes.items left x
-            → Finds (Grows x self.old.nodes.items self.new.nodes.items) (λ turns. more_of level (unary_at turns depth) turns (place self.old.end self.old.cursor.rest.now) x) result self.old.cursor.rest.now self.new.cursor.rest.now }
+            → Finds (Grows x self.old.nodes.items self.new.nodes.items)
+            (λ turns. more_of level (unary_at turns depth) turns
+            (place self.old.end self.old.cursor.rest.now) x) result self.old.cursor.rest.now self.new.cursor.rest.now }
         ensures end { self.new.end ≡ self.old.end }
         ensures shrinks { length self.new.cursor.rest.now ≤ length self.old.cursor.rest.now }
     {
@@ -126,7 +133,8 @@ impl Reader<'_> {
     fn step(&mut self, level: Level, depth: u32, left: usize) -> Result<Option<usize>, Stop>
         requires { length self.old.cursor.rest.now ≤ self.old.end }
         ensures value { (x : Tree) → Shows self.old.nodes.items left x
-            → Steps level depth self.old.end x self.old.nodes.items self.new.nodes.items result self.old.cursor.rest.now self.new.cursor.rest.now }
+            → Steps level depth self.old.end x self.old.nodes.items self.new.nodes.items
+            result self.old.cursor.rest.now self.new.cursor.rest.now }
         ensures end { self.new.end ≡ self.old.end }
         ensures shrinks { length self.new.cursor.rest.now ≤ length self.old.cursor.rest.now }
         ensures shorter { IfOk result (λ found. IfSome found (λ _. length self.new.cursor.rest.now < length self.old.cursor.rest.now)) }
@@ -154,7 +162,9 @@ impl Reader<'_> {
     #[cycle(chain)]
     fn operand(&mut self, level: Level, depth: u32) -> Result<usize, Stop>
         requires { length self.old.cursor.rest.now ≤ self.old.end }
-        ensures value { Finds (Puts self.old.nodes.items self.new.nodes.items) (λ turns. operand_of level (unary_at turns depth) turns (place self.old.end self.old.cursor.rest.now)) result self.old.cursor.rest.now self.new.cursor.rest.now }
+        ensures value { Finds (Puts self.old.nodes.items self.new.nodes.items)
+            (λ turns. operand_of level (unary_at turns depth) turns
+            (place self.old.end self.old.cursor.rest.now)) result self.old.cursor.rest.now self.new.cursor.rest.now }
         ensures end { self.new.end ≡ self.old.end }
         ensures shrinks { length self.new.cursor.rest.now ≤ length self.old.cursor.rest.now }
     {
@@ -171,7 +181,9 @@ impl Reader<'_> {
     #[cycle(chain)]
     fn compared(&mut self, depth: u32) -> Result<usize, Stop>
         requires { length self.old.cursor.rest.now ≤ self.old.end }
-        ensures value { Finds (Puts self.old.nodes.items self.new.nodes.items) (λ turns. compared_at (unary_at turns depth) turns (place self.old.end self.old.cursor.rest.now)) result self.old.cursor.rest.now self.new.cursor.rest.now }
+        ensures value { Finds (Puts self.old.nodes.items self.new.nodes.items)
+            (λ turns. compared_at (unary_at turns depth) turns
+            (place self.old.end self.old.cursor.rest.now)) result self.old.cursor.rest.now self.new.cursor.rest.now }
         ensures end { self.new.end ≡ self.old.end }
         ensures shrinks { length self.new.cursor.rest.now ≤ length self.old.cursor.rest.now }
     {
@@ -184,7 +196,9 @@ impl Reader<'_> {
     pub(crate) fn compared_with(&mut self, depth: u32, left: usize) -> Result<usize, Stop>
         requires { length self.old.cursor.rest.now ≤ self.old.end }
         ensures value { (x : Tree) → Shows self.old.nodes.items left x
-            → Finds (Grows x self.old.nodes.items self.new.nodes.items) (λ turns. compared_with (sum_at (unary_at turns depth) turns) turns (place self.old.end self.old.cursor.rest.now) x) result self.old.cursor.rest.now self.new.cursor.rest.now }
+            → Finds (Grows x self.old.nodes.items self.new.nodes.items)
+            (λ turns. compared_with (sum_at (unary_at turns depth) turns) turns
+            (place self.old.end self.old.cursor.rest.now) x) result self.old.cursor.rest.now self.new.cursor.rest.now }
         ensures end { self.new.end ≡ self.old.end }
         ensures shrinks { length self.new.cursor.rest.now ≤ length self.old.cursor.rest.now }
     {
@@ -197,7 +211,9 @@ impl Reader<'_> {
     #[cycle(chain)]
     fn unary(&mut self, depth: u32) -> Result<usize, Stop>
         requires { length self.old.cursor.rest.now ≤ self.old.end }
-        ensures value { Finds (Puts self.old.nodes.items self.new.nodes.items) (λ turns. unary_at turns depth (place self.old.end self.old.cursor.rest.now)) result self.old.cursor.rest.now self.new.cursor.rest.now }
+        ensures value { Finds (Puts self.old.nodes.items self.new.nodes.items)
+            (λ turns. unary_at turns depth (place self.old.end self.old.cursor.rest.now))
+            result self.old.cursor.rest.now self.new.cursor.rest.now }
         ensures end { self.new.end ≡ self.old.end }
         ensures shrinks { length self.new.cursor.rest.now ≤ length self.old.cursor.rest.now }
     {
@@ -209,7 +225,9 @@ impl Reader<'_> {
     #[cycle(chain)]
     fn inner(&mut self, depth: u32) -> Result<usize, Stop>
         requires { length self.old.cursor.rest.now ≤ self.old.end }
-        ensures value { Finds (Puts self.old.nodes.items self.new.nodes.items) (λ turns. inner_at (nests depth) (nested_at turns depth) (expression_at (nested_at turns depth) turns) (place self.old.end self.old.cursor.rest.now)) result self.old.cursor.rest.now self.new.cursor.rest.now }
+        ensures value { Finds (Puts self.old.nodes.items self.new.nodes.items)
+            (λ turns. inner_at (nests depth) (nested_at turns depth) (expression_at (nested_at turns depth) turns)
+            (place self.old.end self.old.cursor.rest.now)) result self.old.cursor.rest.now self.new.cursor.rest.now }
         ensures end { self.new.end ≡ self.old.end }
         ensures shrinks { length self.new.cursor.rest.now ≤ length self.old.cursor.rest.now }
     {
@@ -229,7 +247,9 @@ impl Reader<'_> {
     #[cycle(chain)]
     fn atom(&mut self, depth: u32) -> Result<usize, Stop>
         requires { length self.old.cursor.rest.now ≤ self.old.end }
-        ensures value { Finds (Puts self.old.nodes.items self.new.nodes.items) (λ turns. atom_at (nests depth) (expression_at (nested_at turns depth) turns) (place self.old.end self.old.cursor.rest.now)) result self.old.cursor.rest.now self.new.cursor.rest.now }
+        ensures value { Finds (Puts self.old.nodes.items self.new.nodes.items)
+            (λ turns. atom_at (nests depth) (expression_at (nested_at turns depth) turns)
+            (place self.old.end self.old.cursor.rest.now)) result self.old.cursor.rest.now self.new.cursor.rest.now }
         ensures end { self.new.end ≡ self.old.end }
         ensures shrinks { length self.new.cursor.rest.now ≤ length self.old.cursor.rest.now }
     {
@@ -253,7 +273,9 @@ impl Reader<'_> {
     #[cycle(chain)]
     pub(crate) fn group(&mut self, depth: u32) -> Result<usize, Stop>
         requires { length self.old.cursor.rest.now ≤ self.old.end }
-        ensures value { Finds (Puts self.old.nodes.items self.new.nodes.items) (λ turns. group_at (expr_at depth turns) (place self.old.end self.old.cursor.rest.now)) result self.old.cursor.rest.now self.new.cursor.rest.now }
+        ensures value { Finds (Puts self.old.nodes.items self.new.nodes.items)
+            (λ turns. group_at (expr_at depth turns)
+            (place self.old.end self.old.cursor.rest.now)) result self.old.cursor.rest.now self.new.cursor.rest.now }
         ensures end { self.new.end ≡ self.old.end }
         ensures shrinks { length self.new.cursor.rest.now ≤ length self.old.cursor.rest.now }
     {
@@ -268,7 +290,8 @@ impl Reader<'_> {
     #[cycle(chain)]
     fn argument(&mut self, separator: u8, depth: u32) -> Result<usize, Stop>
         requires { length self.old.cursor.rest.now ≤ self.old.end }
-        ensures value { Argues separator depth self.old.end self.old.nodes.items self.new.nodes.items result self.old.cursor.rest.now self.new.cursor.rest.now }
+        ensures value { Argues separator depth self.old.end self.old.nodes.items self.new.nodes.items
+            result self.old.cursor.rest.now self.new.cursor.rest.now }
         ensures end { self.new.end ≡ self.old.end }
         ensures shrinks { length self.new.cursor.rest.now ≤ length self.old.cursor.rest.now }
     {
@@ -282,7 +305,9 @@ impl Reader<'_> {
     #[cycle(chain)]
     fn word(&mut self, depth: u32) -> Result<usize, Stop>
         requires { length self.old.cursor.rest.now ≤ self.old.end }
-        ensures value { Finds (Puts self.old.nodes.items self.new.nodes.items) (λ turns. word_at (nests depth) (expression_at (nested_at turns depth) turns) (place self.old.end self.old.cursor.rest.now)) result self.old.cursor.rest.now self.new.cursor.rest.now }
+        ensures value { Finds (Puts self.old.nodes.items self.new.nodes.items)
+            (λ turns. word_at (nests depth) (expression_at (nested_at turns depth) turns)
+            (place self.old.end self.old.cursor.rest.now)) result self.old.cursor.rest.now self.new.cursor.rest.now }
         ensures end { self.new.end ≡ self.old.end }
         ensures shrinks { length self.new.cursor.rest.now ≤ length self.old.cursor.rest.now }
     {
@@ -316,7 +341,9 @@ impl Reader<'_> {
     ) -> Result<usize, Stop>
         requires place { length self.old.cursor.rest.now ≤ self.old.end }
         requires nests { 0 < arity function → 0 < depth }
-        ensures value { Finds (PutsCall self.old.nodes.items self.new.nodes.items) (λ turns. arguments_at (expression_at (nested_at turns depth) turns) at function (place self.old.end self.old.cursor.rest.now) (arity function)) result self.old.cursor.rest.now self.new.cursor.rest.now }
+        ensures value { Finds (PutsCall self.old.nodes.items self.new.nodes.items)
+            (λ turns. arguments_at (expression_at (nested_at turns depth) turns) at function
+            (place self.old.end self.old.cursor.rest.now) (arity function)) result self.old.cursor.rest.now self.new.cursor.rest.now }
         ensures end { self.new.end ≡ self.old.end }
         ensures shrinks { length self.new.cursor.rest.now ≤ length self.old.cursor.rest.now }
     {
@@ -341,7 +368,8 @@ impl Reader<'_> {
 
     /// The parenthesis behind the arguments of a call.
     fn close(&mut self, at: u32, function: Function, arguments: Arguments) -> Result<usize, Stop>
-        ensures value { Closes at function arguments self.old.nodes.items self.new.nodes.items result self.old.cursor.rest.now self.new.cursor.rest.now }
+        ensures value { Closes at function arguments self.old.nodes.items self.new.nodes.items
+            result self.old.cursor.rest.now self.new.cursor.rest.now }
         ensures end { self.new.end ≡ self.old.end }
         ensures shrinks { length self.new.cursor.rest.now ≤ length self.old.cursor.rest.now }
     {

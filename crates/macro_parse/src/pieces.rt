@@ -78,7 +78,8 @@ impl Reader<'_> {
     fn put_roll(&mut self, depth: u32, pieces: &mut Vec<Piece>) -> Result<(), Stop>
         requires nests { 0 < depth }
         requires place { length self.old.cursor.rest.now ≤ self.old.end }
-        ensures value { RollGives (depth - 1) self.old.end pieces.old.items pieces.new.items self.old.nodes.items self.new.nodes.items result self.old.cursor.rest.now self.new.cursor.rest.now }
+        ensures value { RollGives (depth - 1) self.old.end pieces.old.items pieces.new.items self.old.nodes.items self.new.nodes.items
+            result self.old.cursor.rest.now self.new.cursor.rest.now }
         ensures end { self.new.end ≡ self.old.end }
         ensures shorter { OnOk result (length self.new.cursor.rest.now < length self.old.cursor.rest.now) }
         ensures shrinks { length self.new.cursor.rest.now ≤ length self.old.cursor.rest.now }
@@ -91,7 +92,8 @@ impl Reader<'_> {
     fn turn(&mut self, depth: u32, pieces: &mut Vec<Piece>) -> Result<bool, Stop>
         requires nests { 0 < depth }
         requires place { length self.old.cursor.rest.now ≤ self.old.end }
-        ensures value { TurnGives (depth - 1) self.old.end pieces.old.items pieces.new.items self.old.nodes.items self.new.nodes.items result self.old.cursor.rest.now self.new.cursor.rest.now }
+        ensures value { TurnGives (depth - 1) self.old.end pieces.old.items pieces.new.items self.old.nodes.items self.new.nodes.items
+            result self.old.cursor.rest.now self.new.cursor.rest.now }
         ensures end { self.new.end ≡ self.old.end }
         ensures shrinks { length self.new.cursor.rest.now ≤ length self.old.cursor.rest.now }
         ensures shorter { IfOk result (λ more. IsTrue more → length self.new.cursor.rest.now < length self.old.cursor.rest.now) }
@@ -117,7 +119,8 @@ impl Reader<'_> {
     pub(crate) fn pieces(&mut self, depth: u32) -> Result<Vec<Piece>, Stop>
         requires nests { 0 < depth }
         requires place { length self.old.cursor.rest.now ≤ self.old.end }
-        ensures value { FindsPieces (depth - 1) self.old.end self.old.nodes.items self.new.nodes.items result self.old.cursor.rest.now self.new.cursor.rest.now }
+        ensures value { FindsPieces (depth - 1) self.old.end self.old.nodes.items self.new.nodes.items
+            result self.old.cursor.rest.now self.new.cursor.rest.now }
         ensures end { self.new.end ≡ self.old.end }
         ensures shrinks { length self.new.cursor.rest.now ≤ length self.old.cursor.rest.now }
     {

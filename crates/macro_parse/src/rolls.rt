@@ -59,7 +59,9 @@ impl Reader<'_> {
     fn address(&mut self, depth: u32) -> Result<Address, Stop>
         requires nests { 0 < depth }
         requires place { length self.old.cursor.rest.now ≤ self.old.end }
-        ensures value { Finds (Adds ShowsAddress AddressFits self.old.nodes.items self.new.nodes.items) (λ turns. address_word_at (depth - 1) turns (place self.old.end self.old.cursor.rest.now)) result self.old.cursor.rest.now self.new.cursor.rest.now }
+        ensures value { Finds (Adds ShowsAddress AddressFits self.old.nodes.items self.new.nodes.items)
+            (λ turns. address_word_at (depth - 1) turns
+            (place self.old.end self.old.cursor.rest.now)) result self.old.cursor.rest.now self.new.cursor.rest.now }
         ensures end { self.new.end ≡ self.old.end }
         ensures shrinks { length self.new.cursor.rest.now ≤ length self.old.cursor.rest.now }
     {
@@ -100,7 +102,9 @@ impl Reader<'_> {
     fn branch(&mut self, depth: u32) -> Result<Branch, Stop>
         requires nests { 0 < depth }
         requires place { length self.old.cursor.rest.now ≤ self.old.end }
-        ensures value { Finds (Adds ShowsBranch BranchFits self.old.nodes.items self.new.nodes.items) (λ turns. branch_word_at (depth - 1) turns (place self.old.end self.old.cursor.rest.now)) result self.old.cursor.rest.now self.new.cursor.rest.now }
+        ensures value { Finds (Adds ShowsBranch BranchFits self.old.nodes.items self.new.nodes.items)
+            (λ turns. branch_word_at (depth - 1) turns
+            (place self.old.end self.old.cursor.rest.now)) result self.old.cursor.rest.now self.new.cursor.rest.now }
         ensures end { self.new.end ≡ self.old.end }
         ensures shrinks { length self.new.cursor.rest.now ≤ length self.old.cursor.rest.now }
     {
@@ -129,7 +133,9 @@ impl Reader<'_> {
     fn first(&mut self, depth: u32) -> Result<First, Stop>
         requires nests { 0 < depth }
         requires place { length self.old.cursor.rest.now ≤ self.old.end }
-        ensures value { Finds (Adds ShowsFirst FirstFits self.old.nodes.items self.new.nodes.items) (λ turns. first_word_at (depth - 1) turns (place self.old.end self.old.cursor.rest.now)) result self.old.cursor.rest.now self.new.cursor.rest.now }
+        ensures value { Finds (Adds ShowsFirst FirstFits self.old.nodes.items self.new.nodes.items)
+            (λ turns. first_word_at (depth - 1) turns
+            (place self.old.end self.old.cursor.rest.now)) result self.old.cursor.rest.now self.new.cursor.rest.now }
         ensures end { self.new.end ≡ self.old.end }
         ensures shrinks { length self.new.cursor.rest.now ≤ length self.old.cursor.rest.now }
     {
@@ -144,7 +150,9 @@ impl Reader<'_> {
     fn first_between_blanks(&mut self, depth: u32) -> Result<First, Stop>
         requires nests { 0 < depth }
         requires place { length self.old.cursor.rest.now ≤ self.old.end }
-        ensures value { Finds (Adds ShowsFirst FirstFits self.old.nodes.items self.new.nodes.items) (λ turns. between_at (first_word_at (depth - 1) turns) (place self.old.end self.old.cursor.rest.now)) result self.old.cursor.rest.now self.new.cursor.rest.now }
+        ensures value { Finds (Adds ShowsFirst FirstFits self.old.nodes.items self.new.nodes.items)
+            (λ turns. between_at (first_word_at (depth - 1) turns)
+            (place self.old.end self.old.cursor.rest.now)) result self.old.cursor.rest.now self.new.cursor.rest.now }
         ensures end { self.new.end ≡ self.old.end }
         ensures shrinks { length self.new.cursor.rest.now ≤ length self.old.cursor.rest.now }
     {
@@ -157,7 +165,9 @@ impl Reader<'_> {
     fn address_between_blanks(&mut self, depth: u32) -> Result<Address, Stop>
         requires nests { 0 < depth }
         requires place { length self.old.cursor.rest.now ≤ self.old.end }
-        ensures value { Finds (Adds ShowsAddress AddressFits self.old.nodes.items self.new.nodes.items) (λ turns. between_at (address_word_at (depth - 1) turns) (place self.old.end self.old.cursor.rest.now)) result self.old.cursor.rest.now self.new.cursor.rest.now }
+        ensures value { Finds (Adds ShowsAddress AddressFits self.old.nodes.items self.new.nodes.items)
+            (λ turns. between_at (address_word_at (depth - 1) turns)
+            (place self.old.end self.old.cursor.rest.now)) result self.old.cursor.rest.now self.new.cursor.rest.now }
         ensures end { self.new.end ≡ self.old.end }
         ensures shrinks { length self.new.cursor.rest.now ≤ length self.old.cursor.rest.now }
     {
@@ -170,7 +180,9 @@ impl Reader<'_> {
     fn branch_between_blanks(&mut self, depth: u32) -> Result<Branch, Stop>
         requires nests { 0 < depth }
         requires place { length self.old.cursor.rest.now ≤ self.old.end }
-        ensures value { Finds (Adds ShowsBranch BranchFits self.old.nodes.items self.new.nodes.items) (λ turns. between_at (branch_word_at (depth - 1) turns) (place self.old.end self.old.cursor.rest.now)) result self.old.cursor.rest.now self.new.cursor.rest.now }
+        ensures value { Finds (Adds ShowsBranch BranchFits self.old.nodes.items self.new.nodes.items)
+            (λ turns. between_at (branch_word_at (depth - 1) turns)
+            (place self.old.end self.old.cursor.rest.now)) result self.old.cursor.rest.now self.new.cursor.rest.now }
         ensures end { self.new.end ≡ self.old.end }
         ensures shrinks { length self.new.cursor.rest.now ≤ length self.old.cursor.rest.now }
     {
@@ -184,7 +196,9 @@ impl Reader<'_> {
     fn options(&mut self, depth: u32) -> Result<Options, Stop>
         requires nests { 0 < depth }
         requires place { length self.old.cursor.rest.now ≤ self.old.end }
-        ensures value { Finds (Adds ShowsOptions OptionsFit self.old.nodes.items self.new.nodes.items) (λ turns. options_at (depth - 1) turns (place self.old.end self.old.cursor.rest.now)) result self.old.cursor.rest.now self.new.cursor.rest.now }
+        ensures value { Finds (Adds ShowsOptions OptionsFit self.old.nodes.items self.new.nodes.items)
+            (λ turns. options_at (depth - 1) turns
+            (place self.old.end self.old.cursor.rest.now)) result self.old.cursor.rest.now self.new.cursor.rest.now }
         ensures end { self.new.end ≡ self.old.end }
         ensures shrinks { length self.new.cursor.rest.now ≤ length self.old.cursor.rest.now }
     {
@@ -217,7 +231,9 @@ impl Reader<'_> {
         requires nests { 0 < depth }
         requires place { length self.old.cursor.rest.now ≤ self.old.end }
         ensures value { (o : TheOptions) (x : Tree) → ShowsOptions self.old.nodes.items options o → Shows self.old.nodes.items first x
-            → Finds (AddsRoll o x self.old.nodes.items self.new.nodes.items) (λ turns. roll_end (depth - 1) turns at o (place self.old.end self.old.cursor.rest.now) x) result self.old.cursor.rest.now self.new.cursor.rest.now }
+            → Finds (AddsRoll o x self.old.nodes.items self.new.nodes.items)
+            (λ turns. roll_end (depth - 1) turns at o
+            (place self.old.end self.old.cursor.rest.now) x) result self.old.cursor.rest.now self.new.cursor.rest.now }
         ensures end { self.new.end ≡ self.old.end }
         ensures shrinks { length self.new.cursor.rest.now ≤ length self.old.cursor.rest.now }
     {
@@ -245,7 +261,9 @@ impl Reader<'_> {
     pub(crate) fn roll(&mut self, depth: u32) -> Result<Piece, Stop>
         requires nests { 0 < depth }
         requires place { length self.old.cursor.rest.now ≤ self.old.end }
-        ensures value { Finds (Adds ShowsPiece PieceFits self.old.nodes.items self.new.nodes.items) (λ turns. roll_at (depth - 1) turns (place self.old.end self.old.cursor.rest.now)) result self.old.cursor.rest.now self.new.cursor.rest.now }
+        ensures value { Finds (Adds ShowsPiece PieceFits self.old.nodes.items self.new.nodes.items)
+            (λ turns. roll_at (depth - 1) turns
+            (place self.old.end self.old.cursor.rest.now)) result self.old.cursor.rest.now self.new.cursor.rest.now }
         ensures end { self.new.end ≡ self.old.end }
         ensures shorter { OnOk result (length self.new.cursor.rest.now < length self.old.cursor.rest.now) }
         ensures shrinks { length self.new.cursor.rest.now ≤ length self.old.cursor.rest.now }

@@ -20,7 +20,9 @@ impl Reader<'_> {
     fn ands_from(&mut self, depth: u32, left: usize) -> Result<usize, Stop>
         requires { length self.old.cursor.rest.now ≤ self.old.end }
         ensures value { (x : Tree) → Shows self.old.nodes.items left x
-            → Finds (Grows x self.old.nodes.items self.new.nodes.items) (λ turns. ands_from (unary_at turns depth) turns (place self.old.end self.old.cursor.rest.now) x) result self.old.cursor.rest.now self.new.cursor.rest.now }
+            → Finds (Grows x self.old.nodes.items self.new.nodes.items)
+            (λ turns. ands_from (unary_at turns depth) turns
+            (place self.old.end self.old.cursor.rest.now) x) result self.old.cursor.rest.now self.new.cursor.rest.now }
         ensures end { self.new.end ≡ self.old.end }
         ensures shrinks { length self.new.cursor.rest.now ≤ length self.old.cursor.rest.now }
     {
@@ -32,7 +34,9 @@ impl Reader<'_> {
     fn compares_from(&mut self, depth: u32, left: usize) -> Result<usize, Stop>
         requires { length self.old.cursor.rest.now ≤ self.old.end }
         ensures value { (x : Tree) → Shows self.old.nodes.items left x
-            → Finds (Grows x self.old.nodes.items self.new.nodes.items) (λ turns. compares_from (unary_at turns depth) turns (place self.old.end self.old.cursor.rest.now) x) result self.old.cursor.rest.now self.new.cursor.rest.now }
+            → Finds (Grows x self.old.nodes.items self.new.nodes.items)
+            (λ turns. compares_from (unary_at turns depth) turns
+            (place self.old.end self.old.cursor.rest.now) x) result self.old.cursor.rest.now self.new.cursor.rest.now }
         ensures end { self.new.end ≡ self.old.end }
         ensures shrinks { length self.new.cursor.rest.now ≤ length self.old.cursor.rest.now }
     {
@@ -44,7 +48,9 @@ impl Reader<'_> {
     fn sums_from(&mut self, depth: u32, left: usize) -> Result<usize, Stop>
         requires { length self.old.cursor.rest.now ≤ self.old.end }
         ensures value { (x : Tree) → Shows self.old.nodes.items left x
-            → Finds (Grows x self.old.nodes.items self.new.nodes.items) (λ turns. sums_from (unary_at turns depth) turns (place self.old.end self.old.cursor.rest.now) x) result self.old.cursor.rest.now self.new.cursor.rest.now }
+            → Finds (Grows x self.old.nodes.items self.new.nodes.items)
+            (λ turns. sums_from (unary_at turns depth) turns
+            (place self.old.end self.old.cursor.rest.now) x) result self.old.cursor.rest.now self.new.cursor.rest.now }
         ensures end { self.new.end ≡ self.old.end }
         ensures shrinks { length self.new.cursor.rest.now ≤ length self.old.cursor.rest.now }
     {
@@ -56,7 +62,9 @@ impl Reader<'_> {
     fn products_from(&mut self, depth: u32, left: usize) -> Result<usize, Stop>
         requires { length self.old.cursor.rest.now ≤ self.old.end }
         ensures value { (x : Tree) → Shows self.old.nodes.items left x
-            → Finds (Grows x self.old.nodes.items self.new.nodes.items) (λ turns. expression_from (unary_at turns depth) turns (place self.old.end self.old.cursor.rest.now) x) result self.old.cursor.rest.now self.new.cursor.rest.now }
+            → Finds (Grows x self.old.nodes.items self.new.nodes.items)
+            (λ turns. expression_from (unary_at turns depth) turns
+            (place self.old.end self.old.cursor.rest.now) x) result self.old.cursor.rest.now self.new.cursor.rest.now }
         ensures end { self.new.end ≡ self.old.end }
         ensures shrinks { length self.new.cursor.rest.now ≤ length self.old.cursor.rest.now }
     {
@@ -68,7 +76,9 @@ impl Reader<'_> {
     fn equal_from(&mut self, depth: u32, at: u32, left: usize) -> Result<usize, Stop>
         requires { length self.old.cursor.rest.now ≤ self.old.end }
         ensures value { (x : Tree) → Shows self.old.nodes.items left x
-            → Finds (Grows x self.old.nodes.items self.new.nodes.items) (λ turns. equal_from (unary_at turns depth) turns at (place self.old.end self.old.cursor.rest.now) x) result self.old.cursor.rest.now self.new.cursor.rest.now }
+            → Finds (Grows x self.old.nodes.items self.new.nodes.items)
+            (λ turns. equal_from (unary_at turns depth) turns at
+            (place self.old.end self.old.cursor.rest.now) x) result self.old.cursor.rest.now self.new.cursor.rest.now }
         ensures end { self.new.end ≡ self.old.end }
         ensures shrinks { length self.new.cursor.rest.now ≤ length self.old.cursor.rest.now }
     {
@@ -89,7 +99,9 @@ impl Reader<'_> {
     /// What stands behind a name alone: a value for it, a comparison with it, or the rest of another expression.
     fn after_name(&mut self, depth: u32, at: u32, name: Vec<u8>) -> Result<usize, Stop>
         requires { length self.old.cursor.rest.now ≤ self.old.end }
-        ensures value { Finds (Puts self.old.nodes.items self.new.nodes.items) (λ turns. after_name (unary_at turns depth) turns at name.items (place self.old.end self.old.cursor.rest.now)) result self.old.cursor.rest.now self.new.cursor.rest.now }
+        ensures value { Finds (Puts self.old.nodes.items self.new.nodes.items)
+            (λ turns. after_name (unary_at turns depth) turns at name.items
+            (place self.old.end self.old.cursor.rest.now)) result self.old.cursor.rest.now self.new.cursor.rest.now }
         ensures end { self.new.end ≡ self.old.end }
         ensures shrinks { length self.new.cursor.rest.now ≤ length self.old.cursor.rest.now }
     {
@@ -109,7 +121,9 @@ impl Reader<'_> {
     /// A statement that begins with a letter.
     fn named(&mut self, depth: u32) -> Result<usize, Stop>
         requires { length self.old.cursor.rest.now ≤ self.old.end }
-        ensures value { Finds (Puts self.old.nodes.items self.new.nodes.items) (λ turns. named_at depth turns (place self.old.end self.old.cursor.rest.now)) result self.old.cursor.rest.now self.new.cursor.rest.now }
+        ensures value { Finds (Puts self.old.nodes.items self.new.nodes.items)
+            (λ turns. named_at depth turns (place self.old.end self.old.cursor.rest.now))
+            result self.old.cursor.rest.now self.new.cursor.rest.now }
         ensures end { self.new.end ≡ self.old.end }
         ensures shrinks { length self.new.cursor.rest.now ≤ length self.old.cursor.rest.now }
     {
@@ -128,7 +142,9 @@ impl Reader<'_> {
     pub(crate) fn statement(&mut self, depth: u32) -> Result<usize, Stop>
         requires nests { 0 < depth }
         requires place { length self.old.cursor.rest.now ≤ self.old.end }
-        ensures value { Finds (Puts self.old.nodes.items self.new.nodes.items) (λ turns. statement_at (depth - 1) turns (place self.old.end self.old.cursor.rest.now)) result self.old.cursor.rest.now self.new.cursor.rest.now }
+        ensures value { Finds (Puts self.old.nodes.items self.new.nodes.items)
+            (λ turns. statement_at (depth - 1) turns
+            (place self.old.end self.old.cursor.rest.now)) result self.old.cursor.rest.now self.new.cursor.rest.now }
         ensures end { self.new.end ≡ self.old.end }
         ensures shrinks { length self.new.cursor.rest.now ≤ length self.old.cursor.rest.now }
     {

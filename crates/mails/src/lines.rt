@@ -64,10 +64,8 @@ impl Lines {
             self.first = Some(line);
             return Ok(());
         }
-        match self.rest.push(line) {
-            Ok(()) => Ok(()),
-            Err(_) => Err(Memory),
-        }
+        self.rest.push(line)?;
+        Ok(())
     }
 
     /// How many bytes they have, with their LFs; none, where they are more than can be counted.

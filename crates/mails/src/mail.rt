@@ -129,10 +129,8 @@ impl Mail {
         ensures room { OnOk result (count ≤ self.new.room) }
         ensures kept { self.old.room ≤ self.new.room }
     {
-        match self.lines.reserve(count) {
-            Ok(()) => Ok(()),
-            Err(_) => Err(Memory),
-        }
+        self.lines.reserve(count)?;
+        Ok(())
     }
 
     /// Takes out all lines.

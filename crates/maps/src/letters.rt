@@ -16,10 +16,7 @@ pub(crate) fn blank_letters(alloc: Global, size: Size) -> Result<Vec<u8>, Memory
     ensures { IfOk result (λ letters. letters.items ≡ replicate (size.h * size.w) blank) }
 {
     let count = usize::from(size.h()) * usize::from(size.w());
-    match copies_of_blank(alloc, count) {
-        Ok(letters) => Ok(letters),
-        Err(_) => Err(Memory),
-    }
+    Ok(copies_of_blank(alloc, count)?)
 }
 
 fn copies_of_blank(alloc: Global, count: usize) -> Result<Vec<u8>, AllocError>

@@ -34,7 +34,8 @@ impl Model for Tag {
 
     ghost view = { λ t. take t.size t.cells };
 
-    ghost invariant = { λ t. (is_tag (take t.size t.cells) ≡ true) × (length (take t.size t.cells) ≡ t.size) × (padded (take t.size t.cells) ≡ t.cells) };
+    ghost invariant = { λ t. (is_tag (take t.size t.cells) ≡ true) × (length (take t.size t.cells) ≡ t.size)
+        × (padded (take t.size t.cells) ≡ t.cells) };
 
     ghost inverse = { λ bytes. record { cells = padded bytes; size = length bytes } };
 

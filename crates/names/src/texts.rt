@@ -24,10 +24,8 @@ impl LineText {
     pub fn copy(alloc: Global, bytes: &[u8]) -> Result<LineText, Memory>
         ensures { IfOk result (λ t. t ≡ bytes.now) }
     {
-        match Vec::from_slice(alloc, bytes) {
-            Ok(bytes) => Ok(LineText { bytes }),
-            Err(_) => Err(Memory),
-        }
+        let bytes = Vec::from_slice(alloc, bytes)?;
+        Ok(LineText { bytes })
     }
 
     /// These bytes, without a copy.
@@ -72,20 +70,16 @@ impl Text {
     pub fn copy(alloc: Global, text: &str) -> Result<Text, Memory>
         ensures { IfOk result (λ t. t ≡ text.now) }
     {
-        match ArcStr::from_str(alloc, text) {
-            Ok(text) => Ok(Text { text }),
-            Err(_) => Err(Memory),
-        }
+        let text = ArcStr::from_str(alloc, text)?;
+        Ok(Text { text })
     }
 
     /// This text, without a copy of its bytes, or `Memory` for want of memory.
     pub fn new(text: String) -> Result<Text, Memory>
         ensures { IfOk result (λ t. t ≡ string_bytes text) }
     {
-        match ArcStr::from_string(text) {
-            Ok(text) => Ok(Text { text }),
-            Err(_) => Err(Memory),
-        }
+        let text = ArcStr::from_string(text)?;
+        Ok(Text { text })
     }
 
     /// This text once more, which shares its bytes: it takes no memory. `Memory` where it has as many owners as can be
@@ -93,10 +87,8 @@ impl Text {
     pub fn share(&self) -> Result<Text, Memory>
         ensures { IfOk result (λ t. t ≡ self.now) }
     {
-        match self.text.clone() {
-            Ok(text) => Ok(Text { text }),
-            Err(_) => Err(Memory),
-        }
+        let text = self.text.clone()?;
+        Ok(Text { text })
     }
 
     /// The text.

@@ -42,10 +42,8 @@ impl TokenId {
     pub fn text(&self, alloc: Global) -> Result<Text, Memory>
         ensures { IfOk result (λ text. text ≡ id_text self.now) }
     {
-        match format!(in alloc; "{}:{}", self.maker.number(), self.tag) {
-            Ok(text) => Text::new(text),
-            Err(_) => Err(Memory),
-        }
+        let text = format!(in alloc; "{}:{}", self.maker.number(), self.tag)?;
+        Text::new(text)
     }
 }
 

@@ -9,10 +9,8 @@ use std::alloc::Global;
 pub(crate) fn add_line(lines: &mut Vec<LineText>, line: LineText) -> Result<(), Memory>
     ensures { OnOk result (lines.new.items ≡ lines.old.items ++ line ∷ []) }
 {
-    match lines.push(line) {
-        Ok(()) => Ok(()),
-        Err(_) => Err(Memory),
-    }
+    lines.push(line)?;
+    Ok(())
 }
 
 /// Adds the lines of the messages that reach the seat.
@@ -38,10 +36,8 @@ fn ended_line(alloc: Global, line: &LineText) -> Result<LineText, Memory>
     ensures { IfOk result (λ t. t ≡ line.now ++ 10 ∷ []) }
 {
     let mut bytes = LineText::copy(alloc, line.bytes())?.into_bytes();
-    match bytes.push(b'\n') {
-        Ok(()) => Ok(LineText::new(bytes)),
-        Err(_) => Err(Memory),
-    }
+    bytes.push(b'\n')?;
+    Ok(LineText::new(bytes))
 }
 
 /// The lines, each with its LF.

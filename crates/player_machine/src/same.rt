@@ -57,7 +57,8 @@ fn same_name(a: Tag, b: Tag) -> bool
 fn same_tag(a: &SeatBook, b: &SeatBook, place: usize) -> bool
     requires first { place < length a.now.tags }
     requires second { place < length b.now.tags }
-    ensures { pointwise bytes_eq (drop place a.now.tags) (drop place b.now.tags) ≡ (result && pointwise bytes_eq (drop (place + 1) a.now.tags) (drop (place + 1) b.now.tags)) }
+    ensures { pointwise bytes_eq (drop place a.now.tags) (drop place b.now.tags)
+        ≡ (result && pointwise bytes_eq (drop (place + 1) a.now.tags) (drop (place + 1) b.now.tags)) }
 {
     same_name(a.tag_at(place), b.tag_at(place))
 }
@@ -87,7 +88,8 @@ fn same_named_text(name: Tag, text: &Text, name2: Tag, text2: &Text) -> bool
 fn same_macro(a: &SeatBook, b: &SeatBook, place: usize) -> bool
     requires first { place < length a.now.macros }
     requires second { place < length b.now.macros }
-    ensures { same_props (drop place a.now.macros) (drop place b.now.macros) ≡ (result && same_props (drop (place + 1) a.now.macros) (drop (place + 1) b.now.macros)) }
+    ensures { same_props (drop place a.now.macros) (drop place b.now.macros)
+        ≡ (result && same_props (drop (place + 1) a.now.macros) (drop (place + 1) b.now.macros)) }
 {
     let (name, text) = a.macro_at(place);
     let (name2, text2) = b.macro_at(place);

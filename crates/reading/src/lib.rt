@@ -30,7 +30,8 @@ impl Cursor<'_> {
 
     /// Whether the next byte is the wanted one, which is then taken.
     pub fn takes(&mut self, wanted: u8) -> bool
-        ensures value { on_head (nat_eq wanted) (bind (item (nat_eq wanted)) (λ _. done true)) (done false) self.old.rest.now ≡ (Some result, self.new.rest.now) }
+        ensures value { on_head (nat_eq wanted) (bind (item (nat_eq wanted)) (λ _. done true)) (done false) self.old.rest.now
+            ≡ (Some result, self.new.rest.now) }
         ensures shorter { IsTrue result → length self.new.rest.now < length self.old.rest.now }
         ensures shrinks { length self.new.rest.now ≤ length self.old.rest.now }
     {

@@ -36,10 +36,8 @@ pub fn entry_of_line<E: Eye + Drop>(
         return Ok(None);
     }
     let front = length_before(line.bytes(), command);
-    match entry_of(alloc, campaign, seat, line, front) {
-        Ok(entry) => Ok(Some(entry)),
-        Err(_) => Err(Memory),
-    }
+    let entry = entry_of(alloc, campaign, seat, line, front)?;
+    Ok(Some(entry))
 }
 
 // How many bytes of the line stand before the command.

@@ -76,7 +76,7 @@ fn add_all<E: Eye + Drop>(
         (lines_below campaign.now acting reply.now (length campaign.now.origin.seats))) }
 {
     make_room(text)?;
-    let mut entries = places_for(alloc, seats)?;
+    let mut entries = Vec::with_capacity(alloc, usize::from(seats))?;
     for number in 0..seats {
         add_next(campaign, number, acting, reply, text, tally, &mut entries)?;
     }
@@ -109,16 +109,6 @@ fn make_room(text: &mut Vec<u8>) -> Result<(), Memory>
     }
 }
 
-// Places for a Taken of each seat.
-fn places_for(alloc: Global, seats: u8) -> Result<Vec<Entry>, Memory>
-    ensures { IfOk result (λ entries. entries.items ≡ []) }
-{
-    match Vec::with_capacity(alloc, usize::from(seats)) {
-        Ok(entries) => Ok(entries),
-        Err(_) => Err(Memory),
-    }
-}
-
 // What is sent to the seat of this number, whose Taken is added where lines wait.
 fn add_next<E: Eye + Drop>(
     campaign: &Campaign<E>,
@@ -142,17 +132,8 @@ fn add_next<E: Eye + Drop>(
         unreachable!();
     };
     match add_seat(campaign, seat, acting, reply, text, tally)? {
-        Some(taken) => pushed(entries, taken),
+        Some(taken) => Ok(entries.push(taken)?),
         None => Ok(()),
-    }
-}
-
-fn pushed(entries: &mut Vec<Entry>, entry: Entry) -> Result<(), Memory>
-    ensures { OnOk result (entries.new.items ≡ entries.old.items ++ entry ∷ []) }
-{
-    match entries.push(entry) {
-        Ok(()) => Ok(()),
-        Err(_) => Err(Memory),
     }
 }
 

@@ -46,10 +46,8 @@ impl Macros {
     pub fn copy(&self) -> Result<Macros, Memory>
         ensures { IfOk result (λ copy. copy ≡ self.now) }
     {
-        match self.texts.clone() {
-            Ok(texts) => Ok(Macros { texts }),
-            Err(_) => Err(Memory),
-        }
+        let texts = self.texts.clone()?;
+        Ok(Macros { texts })
     }
 
     /// How many macros there are, at most 32.

@@ -48,7 +48,16 @@ impl Model for SeatBook {
 
     ghost Value = { Book };
 
-    ghost view = { λ b. record { seat = b.seat; key = b.key; seed = b.stream.seed; drawn = b.stream.drawn; tags = b.tags.items; lines = b.lines; state = b.state; macros = b.macros } };
+    ghost view = { λ b. record {
+      seat = b.seat;
+      key = b.key;
+      seed = b.stream.seed;
+      drawn = b.stream.drawn;
+      tags = b.tags.items;
+      lines = b.lines;
+      state = b.state;
+      macros = b.macros;
+    } };
 
     ghost invariant = { λ b. IsKept b.seat b.tags.items b.lines b.state };
 }
@@ -115,7 +124,8 @@ impl SeatBook {
         ensures cause { result_err result ≡ join_refusal_lem self.old key.now }
         ensures bad_key { (result ≡ Err BadKey) ↔ (self.old.key ≢ key.now) }
         ensures seat_taken { (result ≡ Err SeatTaken) ↔ ((self.old.key ≡ key.now) × (is_free self.old.state ≡ false)) }
-        ensures spent { (result ≡ Err Spent) ↔ ((self.old.key ≡ key.now) × (is_free self.old.state ≡ true) × (self.old.lines ≡ line_limit)) }
+        ensures spent { (result ≡ Err Spent) ↔ ((self.old.key ≡ key.now) × (is_free self.old.state ≡ true)
+            × (self.old.lines ≡ line_limit)) }
         ensures never_no_hello { result ≢ Err NoHello }
         ensures ok { OnOk result (self.new ≡ joined self.old reader writer) }
         ensures refused { OnErr result (self.new ≡ self.old) }
@@ -195,7 +205,8 @@ impl SeatBook {
     /// for another, else `Memory` for want of memory.
     pub fn use_tag(&mut self, tag: Tag) -> Result<(), TagFault>
         ensures tag_used { (result ≡ Err TagUsed) ↔ (tag_used self.old.tags tag ≡ true) }
-        ensures tags_spent { (result ≡ Err TagsSpent) ↔ ((tag_used self.old.tags tag ≡ false) × (tags_spent_lem self.old.seat self.old.tags ≡ true)) }
+        ensures tags_spent { (result ≡ Err TagsSpent) ↔ ((tag_used self.old.tags tag ≡ false)
+            × (tags_spent_lem self.old.seat self.old.tags ≡ true)) }
         ensures ok { OnOk result (self.new ≡ with_tag self.old tag) }
         ensures refused { OnErr result (self.new ≡ self.old) }
     {

@@ -64,7 +64,8 @@ where
     ensures split { HasSplit (arc_value hall.now) 2 pass result.0 usher.old usher.new }
     ensures own { result.0.own ≡ pass.own }
     ensures new { AdmitsByNewPasses P.work_of usher.old.count result.1 usher.new.count }
-    ensures admits { Admits P.work_of (arc_value hall.now) result.1 (L.coming door.old) (L.coming door.new) (L.away door.old) (L.away door.new)
+    ensures admits { Admits P.work_of (arc_value hall.now) result.1 (L.coming door.old) (L.coming door.new) (L.away door.old)
+        (L.away door.new)
         (P.started spawner.old) (P.started spawner.new) (P.faults_of spawner.old) (P.faults_of spawner.new) }
     ensures ended { L.ended door.new ≡ L.ended door.old }
     ensures door_count { L.faults_of door.old ≤ L.faults_of door.new }
@@ -104,7 +105,8 @@ where
     ensures split { HasSplit (arc_value hall.now) 2048 pass result.0 usher.old usher.new }
     ensures own { result.0.own ≡ pass.own }
     ensures new { GotNewPasses P.work_of usher.old.count result.1.items usher.new.count }
-    ensures takes { Takes P.work_of (arc_value hall.now) result.2 count result.1.items (L.coming door.old) (L.coming door.new) (L.away door.old) (L.away door.new)
+    ensures takes { Takes P.work_of (arc_value hall.now) result.2 count result.1.items (L.coming door.old) (L.coming door.new)
+        (L.away door.old) (L.away door.new)
         (P.started spawner.old) (P.started spawner.new) (P.faults_of spawner.old) (P.faults_of spawner.new) }
     ensures ended { L.ended door.new ≡ L.ended door.old }
     ensures door_count { L.faults_of door.old ≤ L.faults_of door.new }

@@ -25,7 +25,8 @@ struct Dumping {
 impl Job<Table> for Dumping {
     ghost entries = { λ before after. [] };
 
-    ghost ran = { λ origin before found after left. (left ≡ found) × IfSome after.text (λ line. line ≡ canonical (opened_of (replay origin found))) };
+    ghost ran = { λ origin before found after left. (left ≡ found)
+        × IfSome after.text (λ line. line ≡ canonical (opened_of (replay origin found))) };
 
     fn run(&mut self, campaign: &mut Table) {
         self.text = campaign.dump().ok();

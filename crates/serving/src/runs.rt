@@ -30,8 +30,10 @@ pub trait SessionSource<O: Sink>: Source + Sized {
         requires sync { IsSync R.row }
         requires passes { IsPassOf hall.now reader × IsPassOf hall.now writer }
         requires opening { IsOpening hall.now.origin }
-        ensures { HasRun hall.now reader result.reader writer result.writer (Self.Source.left input.old) (Self.Source.left input.new) (O.written output.old) (O.written output.new)
-            (Self.Source.faults_of input.old) (Self.Source.faults_of input.new) (O.faults_of output.old) (O.faults_of output.new) result.ended };
+        ensures { HasRun hall.now reader result.reader writer result.writer (Self.Source.left input.old) (Self.Source.left input.new)
+            (O.written output.old) (O.written output.new)
+            (Self.Source.faults_of input.old) (Self.Source.faults_of input.new) (O.faults_of output.old)
+            (O.faults_of output.new) result.ended };
 }
 
 impl SessionSource<MemSink> for MemSource {
@@ -49,7 +51,8 @@ impl SessionSource<MemSink> for MemSource {
         requires sync { IsSync R.row }
         requires passes { IsPassOf hall.now reader × IsPassOf hall.now writer }
         requires opening { IsOpening hall.now.origin }
-        ensures { HasRun hall.now reader result.reader writer result.writer (Some input.old.left) (Some input.new.left) (Some output.old.written) (Some output.new.written)
+        ensures { HasRun hall.now reader result.reader writer result.writer (Some input.old.left) (Some input.new.left)
+            (Some output.old.written) (Some output.new.written)
             input.old.plan.faults input.new.plan.faults output.old.plan.faults output.new.plan.faults result.ended }
     {
         serve_session(rt, alloc, hall, reader, writer, input, output)

@@ -42,7 +42,8 @@ pub(crate) struct Joining {
 impl Job<Table> for Joining {
     ghost entries = { λ before after. if after.entered then join_entries before.seat before.key before.reader before.writer else [] };
 
-    ghost ran = { λ origin before found after left. Joins origin before.seat before.key before.reader before.writer found after.entered after.joined left };
+    ghost ran = { λ origin before found after left. Joins origin
+        before.seat before.key before.reader before.writer found after.entered after.joined left };
 
     fn run(&mut self, campaign: &mut Table) {
         let place = campaign.length();

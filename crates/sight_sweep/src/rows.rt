@@ -15,7 +15,8 @@ use lattice::Point;
 pub(crate) fn shadow_rows(eye: Point, a: Point, b: Point, rows: u8) -> Span
     requires spread { right_sum eye a b < left_sum eye a b }
     requires few { rows ≤ 96 }
-    ensures cover { (x y : ℕ) → y < rows → reach_test eye x y 40 ≡ true → shadow_test eye a b (centre_of x y) ≡ true → (result.first ≤ y) × (y < result.past) }
+    ensures cover { (x y : ℕ) → y < rows → reach_test eye x y 40 ≡ true → shadow_test eye a b (centre_of x y) ≡ true
+        → (result.first ≤ y) × (y < result.past) }
     ensures bound { result.past ≤ rows }
 {
     let near = near_rows(eye, a, b, rows);
@@ -68,7 +69,8 @@ fn past_row(eye: u8, low: u8, rows: u8) -> u8
 // The first row that the line from the eye through `end` comes to within reach, going up.
 fn first_risen(eye: Point, end: Point) -> u8
     requires { 0 < difference eye.x end.x }
-    ensures { (y k : ℕ) → k * k + (eye.y - (2 * y + 1)) * (eye.y - (2 * y + 1)) ≤ 6400 → difference eye.x end.x * (eye.y - (2 * y + 1)) ≤ (eye.y - end.y) * k → result ≤ y }
+    ensures { (y k : ℕ) → k * k + (eye.y - (2 * y + 1)) * (eye.y - (2 * y + 1)) ≤ 6400
+        → difference eye.x end.x * (eye.y - (2 * y + 1)) ≤ (eye.y - end.y) * k → result ≤ y }
 {
     let rise = down(eye).saturating_sub(down(end));
     let reached = most_risen(across(eye).abs_diff(across(end)), rise);
@@ -78,7 +80,8 @@ fn first_risen(eye: Point, end: Point) -> u8
 // The row behind the last one that it comes to, going down.
 fn past_fallen(eye: Point, end: Point) -> u8
     requires { 0 < difference eye.x end.x }
-    ensures { (y k : ℕ) → y < 96 → k * k + (2 * y + 1 - eye.y) * (2 * y + 1 - eye.y) ≤ 6400 → difference eye.x end.x * (2 * y + 1 - eye.y) ≤ (end.y - eye.y) * k → y < result }
+    ensures { (y k : ℕ) → y < 96 → k * k + (2 * y + 1 - eye.y) * (2 * y + 1 - eye.y) ≤ 6400
+        → difference eye.x end.x * (2 * y + 1 - eye.y) ≤ (end.y - eye.y) * k → y < result }
 {
     let fall = down(end).saturating_sub(down(eye));
     let reached = most_risen(across(eye).abs_diff(across(end)), fall);

@@ -189,10 +189,7 @@ fn counts_sent(alloc: Global, summary: &Summary) -> Result<String, Memory>
         sent,
         ..
     } = summary.tally;
-    match format!(in alloc; "drill {number}: lines {lines}, refused {refused}, sent {sent}") {
-        Ok(text) => Ok(text),
-        Err(_) => Err(Memory),
-    }
+    Ok(format!(in alloc; "drill {number}: lines {lines}, refused {refused}, sent {sent}")?)
 }
 
 // The rest of it: the bytes, and what players see, how it was found.
@@ -206,8 +203,5 @@ fn counts_found(alloc: Global, summary: &Summary) -> Result<String, Memory>
         tested,
         ..
     } = *summary;
-    match format!(in alloc; ", bytes {bytes}, seen {seen}, looks {looks}, tested {tested}") {
-        Ok(text) => Ok(text),
-        Err(_) => Err(Memory),
-    }
+    Ok(format!(in alloc; ", bytes {bytes}, seen {seen}, looks {looks}, tested {tested}")?)
 }

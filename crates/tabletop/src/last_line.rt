@@ -70,10 +70,7 @@ fn bad_campaign(alloc: Global, bad: &BadCampaign) -> Result<String, Memory>
 {
     let path = bad.path.text();
     let rule = rule_word(bad.rule);
-    match format!(in alloc; "tabletop: bad campaign at {path}: {rule}\n") {
-        Ok(line) => Ok(line),
-        Err(_) => Err(Memory),
-    }
+    Ok(format!(in alloc; "tabletop: bad campaign at {path}: {rule}\n")?)
 }
 
 // A fault leaves a front of the line.

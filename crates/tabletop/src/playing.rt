@@ -28,9 +28,11 @@ pub(crate) fn play_file<D: Desk, S: Source, O: Sink>(
     out: &mut O,
 ) -> Ended
     ensures ends { FileEnds (CountRose (D.faults_of desk.old) (D.faults_of desk.new))
-        (λ text. PlayEnds (CountRose (S.faults_of script.old) (S.faults_of script.new)) end result text (S.left script.old) (S.left script.new) (O.written out.old) (O.written out.new))
+        (λ text. PlayEnds (CountRose (S.faults_of script.old) (S.faults_of script.new)) end result text (S.left script.old)
+        (S.left script.new) (O.written out.old) (O.written out.new))
         result (D.text_of desk.old file.now) (O.written out.old) (O.written out.new) }
-    ensures read_fault { result ≡ Ended.ReadFault → CountRose (D.faults_of desk.old) (D.faults_of desk.new) ⊎ CountRose (S.faults_of script.old) (S.faults_of script.new) }
+    ensures read_fault { result ≡ Ended.ReadFault → CountRose (D.faults_of desk.old) (D.faults_of desk.new)
+        ⊎ CountRose (S.faults_of script.old) (S.faults_of script.new) }
     ensures write_fault { result ≡ Ended.WriteFault → CountRose (O.faults_of out.old) (O.faults_of out.new) }
     ensures out_count { O.faults_of out.old ≤ O.faults_of out.new }
 {
@@ -48,7 +50,8 @@ fn play_text<S: Source, O: Sink>(
     script: &mut S,
     out: &mut O,
 ) -> Ended
-    ensures ends { PlayEnds (CountRose (S.faults_of script.old) (S.faults_of script.new)) end result text.now (S.left script.old) (S.left script.new) (O.written out.old) (O.written out.new) }
+    ensures ends { PlayEnds (CountRose (S.faults_of script.old) (S.faults_of script.new)) end result text.now (S.left script.old)
+        (S.left script.new) (O.written out.old) (O.written out.new) }
     ensures read_fault { result ≡ Ended.ReadFault → CountRose (S.faults_of script.old) (S.faults_of script.new) }
     ensures write_fault { result ≡ Ended.WriteFault → CountRose (O.faults_of out.old) (O.faults_of out.new) }
     ensures out_count { O.faults_of out.old ≤ O.faults_of out.new }
@@ -71,7 +74,8 @@ fn after_play<E: Eye, O: Sink>(
     campaign: &Campaign<E>,
     out: &mut O,
 ) -> Ended
-    ensures follows { FollowsPlay played end result (canonical (opened_of (world_of campaign.now)) ++ 10 ∷ []) (O.written out.old) (O.written out.new) }
+    ensures follows { FollowsPlay played end result (canonical (opened_of (world_of campaign.now)) ++ 10 ∷ []) (O.written out.old)
+        (O.written out.new) }
     ensures read_fault { result ≡ Ended.ReadFault → played ≡ Played.ReadFault }
     ensures write_fault { result ≡ Ended.WriteFault → (played ≡ Played.WriteFault) ⊎ CountRose (O.faults_of out.old) (O.faults_of out.new) }
     ensures out_count { O.faults_of out.old ≤ O.faults_of out.new }

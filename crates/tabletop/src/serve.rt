@@ -60,9 +60,11 @@ where
     ensures door_fault { result ≡ 9 → CountRose (L.faults_of door.old) (L.faults_of door.new) }
 
     // A campaign that is read, and no fault: the connections are served, unless memory ran out.
-    ensures complete { (service : Service) (campaign : List ℕ) (origin : World) → service_in (map string_bytes words.now) ≡ Some service → D.text_of desk.old service.file ≡ Some campaign
+    ensures complete { (service : Service) (campaign : List ℕ) (origin : World)
+        → service_in (map string_bytes words.now) ≡ Some service → D.text_of desk.old service.file ≡ Some campaign
         → length campaign ≤ campaign_limit → world_of_text campaign ≡ Some origin
-        → ¬ CountRose (D.faults_of desk.old) (D.faults_of desk.new) → ¬ CountRose (O.faults_of out.old) (O.faults_of out.new) → ¬ CountRose (L.faults_of door.old) (L.faults_of door.new)
+        → ¬ CountRose (D.faults_of desk.old) (D.faults_of desk.new) → ¬ CountRose (O.faults_of out.old) (O.faults_of out.new)
+        → ¬ CountRose (L.faults_of door.old) (L.faults_of door.new)
         → (result ≡ 0) ⊎ (result ≡ 6) }
 {
     let ended = job(rt, alloc, words, desk, out, door, spawner);

@@ -38,25 +38,33 @@ pub fn tabletop<D: Desk, S: Source, O: Sink>(
 ) -> u8
     ensures ends { HasEnded result (job_in (map string_bytes words.now)) (D.text_of desk.old)
         (S.left script.old) (S.left script.new) (O.written out.old) (O.written out.new)
-        (CountRose (D.faults_of desk.old) (D.faults_of desk.new)) (CountRose (S.faults_of script.old) (S.faults_of script.new)) (CountRose (O.faults_of out.old) (O.faults_of out.new)) }
+        (CountRose (D.faults_of desk.old) (D.faults_of desk.new)) (CountRose (S.faults_of script.old) (S.faults_of script.new))
+        (CountRose (O.faults_of out.old) (O.faults_of out.new)) }
 
     // Words that are no form of the program give 2; those that are a form which this call doesn't do give it too, unless memory ran out.
     ensures usage { result ≡ 2 → job_in (map string_bytes words.now) ≡ None }
     ensures no_job { job_in (map string_bytes words.now) ≡ None → (result ≡ 2) ⊎ (result ≡ 6) }
     ensures no_form { job_of (map string_bytes words.now) ≡ None → result ≡ 2 }
-    ensures read_fault { result ≡ 4 → CountRose (D.faults_of desk.old) (D.faults_of desk.new) ⊎ CountRose (S.faults_of script.old) (S.faults_of script.new) }
+    ensures read_fault { result ≡ 4 → CountRose (D.faults_of desk.old) (D.faults_of desk.new)
+        ⊎ CountRose (S.faults_of script.old) (S.faults_of script.new) }
     ensures write_fault { result ≡ 5 → CountRose (O.faults_of out.old) (O.faults_of out.new) }
 
     // A campaign and a script that are read, and no fault: the job is done, unless memory ran out.
-    ensures played { (file campaign text : List ℕ) (end : Bool) (origin : World) → job_in (map string_bytes words.now) ≡ Some (Play file end) → D.text_of desk.old file ≡ Some campaign
-        → length campaign ≤ campaign_limit → world_of_text campaign ≡ Some origin → S.left script.old ≡ Some text → (script_of origin text).ending ≡ done
-        → ¬ CountRose (D.faults_of desk.old) (D.faults_of desk.new) → ¬ CountRose (S.faults_of script.old) (S.faults_of script.new) → ¬ CountRose (O.faults_of out.old) (O.faults_of out.new)
+    ensures played { (file campaign text : List ℕ) (end : Bool) (origin : World)
+        → job_in (map string_bytes words.now) ≡ Some (Play file end) → D.text_of desk.old file ≡ Some campaign
+        → length campaign ≤ campaign_limit → world_of_text campaign ≡ Some origin → S.left script.old ≡ Some text
+        → (script_of origin text).ending ≡ done
+        → ¬ CountRose (D.faults_of desk.old) (D.faults_of desk.new) → ¬ CountRose (S.faults_of script.old) (S.faults_of script.new)
+        → ¬ CountRose (O.faults_of out.old) (O.faults_of out.new)
         → (result ≡ 0) ⊎ (result ≡ 6) }
-    ensures checked { (file campaign : List ℕ) (world : Opened) → job_in (map string_bytes words.now) ≡ Some (Check file) → D.text_of desk.old file ≡ Some campaign
+    ensures checked { (file campaign : List ℕ) (world : Opened) → job_in (map string_bytes words.now) ≡ Some (Check file)
+        → D.text_of desk.old file ≡ Some campaign
         → length campaign ≤ campaign_limit → campaign_of campaign ≡ Ok world
-        → ¬ CountRose (D.faults_of desk.old) (D.faults_of desk.new) → ¬ CountRose (S.faults_of script.old) (S.faults_of script.new) → ¬ CountRose (O.faults_of out.old) (O.faults_of out.new)
+        → ¬ CountRose (D.faults_of desk.old) (D.faults_of desk.new) → ¬ CountRose (S.faults_of script.old) (S.faults_of script.new)
+        → ¬ CountRose (O.faults_of out.old) (O.faults_of out.new)
         → (result ≡ 0) ⊎ (result ≡ 6) }
-    ensures drilled { (number lines : ℕ) → job_in (map string_bytes words.now) ≡ Some (Drill number lines) → ¬ CountRose (O.faults_of out.old) (O.faults_of out.new)
+    ensures drilled { (number lines : ℕ) → job_in (map string_bytes words.now) ≡ Some (Drill number lines)
+        → ¬ CountRose (O.faults_of out.old) (O.faults_of out.new)
         → (result ≡ 0) ⊎ (result ≡ 6) }
 
     // Campaigns and scripts that are read and played to their ends, and no fault: the answer is printed, unless memory ran out.
@@ -90,10 +98,13 @@ fn job<D: Desk, S: Source, O: Sink>(
     script: &mut S,
     out: &mut O,
 ) -> Ended
-    ensures ends { JobEnds (CountRose (D.faults_of desk.old) (D.faults_of desk.new)) (CountRose (S.faults_of script.old) (S.faults_of script.new)) result
-        (job_in (map string_bytes words.now)) (D.text_of desk.old) (S.left script.old) (S.left script.new) (O.written out.old) (O.written out.new) }
+    ensures ends { JobEnds (CountRose (D.faults_of desk.old) (D.faults_of desk.new))
+        (CountRose (S.faults_of script.old) (S.faults_of script.new)) result
+        (job_in (map string_bytes words.now)) (D.text_of desk.old) (S.left script.old) (S.left script.new) (O.written out.old)
+        (O.written out.new) }
     ensures no_form { job_of (map string_bytes words.now) ≡ None → result ≡ Ended.Usage }
-    ensures read_fault { result ≡ Ended.ReadFault → CountRose (D.faults_of desk.old) (D.faults_of desk.new) ⊎ CountRose (S.faults_of script.old) (S.faults_of script.new) }
+    ensures read_fault { result ≡ Ended.ReadFault → CountRose (D.faults_of desk.old) (D.faults_of desk.new)
+        ⊎ CountRose (S.faults_of script.old) (S.faults_of script.new) }
     ensures write_fault { result ≡ Ended.WriteFault → CountRose (O.faults_of out.old) (O.faults_of out.new) }
     ensures out_count { O.faults_of out.old ≤ O.faults_of out.new }
 {

@@ -135,13 +135,8 @@ impl Props {
         if values.set(name, value).is_err() {
             return Err(Memory);
         }
-        match Arc::new(self.alloc, values) {
-            Ok(shared) => {
-                self.shared = Some(shared);
-                Ok(())
-            }
-            Err(_) => Err(Memory),
-        }
+        self.shared = Some(Arc::new(self.alloc, values)?);
+        Ok(())
     }
 
     /// Equal values that nothing else shares.
@@ -174,10 +169,7 @@ fn share(shared: &Option<Arc<Values>>) -> Result<Option<Arc<Values>>, Memory>
     ensures { IfOk result (λ again. values_in again ≡ values_in shared.now) }
 {
     match shared {
-        Some(values) => match Arc::try_clone(values) {
-            Ok(values) => Ok(Some(values)),
-            Err(_) => Err(Memory),
-        },
+        Some(values) => Ok(Some(Arc::try_clone(values)?)),
         None => Ok(None),
     }
 }

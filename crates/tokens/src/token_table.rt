@@ -244,28 +244,9 @@ fn is_before(id: TokenId, other: TokenId) -> bool
 fn copy_tokens(tokens: &Vec<Token>) -> Result<Vec<Token>, Memory>
     ensures { IfOk result (λ copy. copy.items ≡ tokens.now.items) }
 {
-    let mut copy = room_for(*tokens.allocator(), tokens.len())?;
+    let mut copy = Vec::with_capacity(*tokens.allocator(), tokens.len())?;
     for token in tokens {
-        push_token(&mut copy, token.copy()?)?;
+        copy.push(token.copy()?)?;
     }
     Ok(copy)
-}
-
-/// A list with room for so many tokens.
-fn room_for(alloc: Global, count: usize) -> Result<Vec<Token>, Memory>
-    ensures { IfOk result (λ list. list.items ≡ []) }
-{
-    match Vec::with_capacity(alloc, count) {
-        Ok(list) => Ok(list),
-        Err(_) => Err(Memory),
-    }
-}
-
-fn push_token(tokens: &mut Vec<Token>, token: Token) -> Result<(), Memory>
-    ensures { OnOk result (tokens.new.items ≡ tokens.old.items ++ token ∷ []) }
-{
-    match tokens.push(token) {
-        Ok(()) => Ok(()),
-        Err(_) => Err(Memory),
-    }
 }

@@ -111,10 +111,8 @@ fn put_value(values: &mut IndexMap<PropName, Text>, name: Tag, value: Text) -> R
     ensures entries { OnOk result (values.new.entries ≡ with_value name value values.old.entries) }
     ensures unchanged { OnErr result (values.new.entries ≡ values.old.entries) }
 {
-    match values.insert(PropName { tag: name }, value) {
-        Ok(_) => Ok(()),
-        Err(_) => Err(Memory),
-    }
+    values.insert(PropName { tag: name }, value)?;
+    Ok(())
 }
 
 /// The same values under the same names, in the same order.

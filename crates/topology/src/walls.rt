@@ -207,10 +207,7 @@ pub fn is_on_map(size: Size, point: Point) -> bool
 fn copy_list(walls: &Vec<Wall>) -> Result<Vec<Wall>, Memory>
     ensures { IfOk result (λ list. list.items ≡ walls.now.items) }
 {
-    match walls.clone() {
-        Ok(list) => Ok(list),
-        Err(_) => Err(Memory),
-    }
+    Ok(walls.clone()?)
 }
 
 fn contains(walls: &[Wall], wall: &Wall) -> bool

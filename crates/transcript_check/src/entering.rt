@@ -166,7 +166,8 @@ fn add_view<E: Eye + Drop>(
     last: &mut View,
 ) -> Result<(), Memory>
     requires { seat < length campaign.now.origin.seats }
-    ensures items { OnOk result (items_in items.new.items ≡ items_in items.old.items ++ view_items full last.old (view_of (world_of campaign.now).scene seat)) }
+    ensures items { OnOk result (items_in items.new.items ≡ items_in items.old.items
+        ++ view_items full last.old (view_of (world_of campaign.now).scene seat)) }
     ensures last { OnOk result (last.new ≡ view_of (world_of campaign.now).scene seat) }
 {
     if !full && is_as_shown(campaign, seat, last) {
@@ -193,7 +194,8 @@ pub(crate) fn add_own_items<E: Eye + Drop>(
     last: &mut View,
 ) -> Result<(), Memory>
     requires there { (joined || (own.joins && accepted)) ≡ true → seat < length campaign.now.origin.seats }
-    ensures items { OnOk result (items_in items.new.items ≡ items_in items.old.items ++ own_items own joined accepted steps last.old (view_of (world_of campaign.now).scene seat)) }
+    ensures items { OnOk result (items_in items.new.items ≡ items_in items.old.items
+        ++ own_items own joined accepted steps last.old (view_of (world_of campaign.now).scene seat)) }
     ensures last { OnOk result ((joined || (own.joins && accepted)) ≡ true → last.new ≡ view_of (world_of campaign.now).scene seat) }
 {
     let Own { entry, joins, asks } = own;
@@ -215,7 +217,9 @@ pub(crate) fn add_others_items<E: Eye + Drop>(
     last: &mut View,
 ) -> Result<(), Memory>
     requires there { joined ≡ true → seat < length campaign.now.origin.seats }
-    ensures items { OnOk result (items_in items.new.items ≡ items_in items.old.items ++ others_items joined (last_said campaign.now.origin campaign.now.history seat) last.old (view_of (world_of campaign.now).scene seat)) }
+    ensures items { OnOk result (items_in items.new.items ≡ items_in items.old.items
+        ++ others_items joined (last_said campaign.now.origin campaign.now.history seat) last.old
+        (view_of (world_of campaign.now).scene seat)) }
     ensures last { OnOk result (joined ≡ true → last.new ≡ view_of (world_of campaign.now).scene seat) }
 {
     if joined {

@@ -153,7 +153,8 @@ impl Follower {
         requires { Follows campaign.old self.old }
         ensures origin { campaign.new.origin ≡ campaign.old.origin }
         ensures played { OnOk result (PlaysLine campaign.old campaign.new number line.now) }
-        ensures stopped { IfErr result (λ stop. (lines : List (List ℕ)) → IsStopOf (script_from (world_of campaign.old) number (line.now ∷ lines)) stop) }
+        ensures stopped { IfErr result (λ stop. (lines : List (List ℕ))
+            → IsStopOf (script_from (world_of campaign.old) number (line.now ∷ lines)) stop) }
         ensures follows { OnOk result (Follows campaign.new self.new) }
         ensures seat { self.new.seat ≡ self.old.seat }
     {
@@ -241,7 +242,8 @@ fn opening_of<E: Eye + Drop>(campaign: &Campaign<E>, seat: SeatNo) -> Result<Ope
 }
 
 fn fault_of(second: bool, stop: Stop) -> CheckFault
-    ensures { (text script : List ℕ) (w : World) → world_of_text text ≡ Some w → IsStopOf (script_of w script) stop → IsFaultOf second text script result }
+    ensures { (text script : List ℕ) (w : World) → world_of_text text ≡ Some w → IsStopOf (script_of w script) stop
+        → IsFaultOf second text script result }
 {
     match stop {
         Stop::BadLine(line) => CheckFault::BadLine { second, line },

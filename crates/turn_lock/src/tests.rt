@@ -41,7 +41,8 @@ struct Append {
 impl Job<Numbers> for Append {
     ghost entries = { λ before after. if after.done then after.number ∷ [] else [] };
 
-    ghost ran = { λ name before found after left. (after.number ≡ before.number) × (left ≡ found ++ (if after.done then before.number ∷ [] else [])) };
+    ghost ran = { λ name before found after left. (after.number ≡ before.number)
+        × (left ≡ found ++ (if after.done then before.number ∷ [] else [])) };
 
     fn run(&mut self, object: &mut Numbers) {
         self.found = object.items.len();

@@ -57,10 +57,8 @@ impl<V: Copy> TypeTable<V> {
     pub fn copy(&self) -> Result<TypeTable<V>, Memory>
         ensures { IfOk result (λ t. AreCopies V.is_clone self.now t) }
     {
-        match self.types.clone() {
-            Ok(types) => Ok(TypeTable { types }),
-            Err(_) => Err(Memory),
-        }
+        let types = self.types.clone()?;
+        Ok(TypeTable { types })
     }
 
     /// How many types there are, at most 32.

@@ -209,7 +209,8 @@ fn map_delta(
 ) -> Result<Option<MapChange>, Memory>
     requires fits { FitsAmong before.now map.now }
     requires letters { by_exposed ≡ true → All (λ old. KeepsLetters old map.now) before.now }
-    ensures { IfOk result (λ change. change ≡ delta_from tag_cmp map_name change_name same_map_test map_change_of (at_name map_name map.now.name before.now) map.now) }
+    ensures { IfOk result (λ change. change ≡ delta_from tag_cmp map_name change_name same_map_test map_change_of
+        (at_name map_name map.now.name before.now) map.now) }
 {
     for old in before {
         if map.name == old.name {

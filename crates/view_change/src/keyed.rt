@@ -211,20 +211,16 @@ pub(crate) fn place<T: Keyed>(list: &[T], item: &T) -> Option<usize>
 pub(crate) fn push<T: Keyed>(list: &mut Vec<T>, item: T) -> Result<(), Memory>
     ensures { OnOk result (list.new.items ≡ list.old.items ++ item ∷ []) }
 {
-    match list.push(item) {
-        Ok(()) => Ok(()),
-        Err(_) => Err(Memory),
-    }
+    list.push(item)?;
+    Ok(())
 }
 
 fn insert<T: Keyed>(list: &mut Vec<T>, place: usize, item: T) -> Result<(), Memory>
     requires { place ≤ vec_len list.old }
     ensures { OnOk result (list.new.items ≡ inserted list.old.items place item) }
 {
-    match list.insert(place, item) {
-        Ok(()) => Ok(()),
-        Err(_) => Err(Memory),
-    }
+    list.insert(place, item)?;
+    Ok(())
 }
 
 /// Puts the item at this place, for the one with its key.

@@ -23,7 +23,8 @@ fn is_in_order<T: Keyed>(list: &[T]) -> bool
 
 /// What is left of the list from the item's place on.
 fn from_place<'a, T: Keyed>(list: &'a [T], item: &T) -> &'a [T]
-    ensures { result.now ≡ drop (unwrap_or (position (λ old. is_le (T.order (T.key item.now) (T.key old))) list.now) (length list.now)) list.now }
+    ensures { result.now ≡ drop (unwrap_or (position (λ old. is_le (T.order (T.key item.now) (T.key old))) list.now)
+        (length list.now)) list.now }
 {
     let place = place(list, item).unwrap_or(list.len());
     &list[place..]

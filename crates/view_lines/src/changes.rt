@@ -28,7 +28,8 @@ fn lettered_in(alloc: Global, change: &MapChange) -> Result<CellSet, AllocError>
 
 /// The member with the terrain that is new, where there is any.
 fn put_ground(writer: &mut Writer, alloc: Global, change: &MapChange) -> Result<(), AllocError>
-    ensures { OnOk result (Adds writer.old writer.new (list_tokens (codes "ground") (terrain_data (lettered_cells change.now) change.now.letters))) }
+    ensures { OnOk result (Adds writer.old writer.new (list_tokens (codes "ground")
+        (terrain_data (lettered_cells change.now) change.now.letters))) }
 {
     if change.letters.items().is_empty() {
         return Ok(());

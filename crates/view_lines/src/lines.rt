@@ -33,10 +33,8 @@ fn line_of<P: Part>(alloc: Global, key: &str, part: &P) -> Result<LineText, Memo
     ensures text { IfOk result (λ line. line ≡ compact_text (object (member key.now (P.data_of part.now) no_members))) }
     ensures one_line { IfOk result (λ line. IsOneLine line) }
 {
-    match line_bytes(alloc, key, part) {
-        Ok(bytes) => Ok(LineText::new(bytes)),
-        Err(_) => Err(Memory),
-    }
+    let bytes = line_bytes(alloc, key, part)?;
+    Ok(LineText::new(bytes))
 }
 
 /// The line that tells the whole view.

@@ -10,10 +10,8 @@ impl LightTexts {
     pub fn copy(&self) -> Result<LightTexts, Memory>
         ensures { IfOk result (λ copy. copy ≡ self.now) }
     {
-        match Vec::from_slice(*self.list.allocator(), self.items()) {
-            Ok(list) => Ok(LightTexts { list }),
-            Err(_) => Err(Memory),
-        }
+        let list = Vec::from_slice(*self.list.allocator(), self.items())?;
+        Ok(LightTexts { list })
     }
 }
 
@@ -22,10 +20,8 @@ impl SightTexts {
     pub fn copy(&self) -> Result<SightTexts, Memory>
         ensures { IfOk result (λ copy. copy ≡ self.now) }
     {
-        match Vec::from_slice(*self.list.allocator(), self.items()) {
-            Ok(list) => Ok(SightTexts { list }),
-            Err(_) => Err(Memory),
-        }
+        let list = Vec::from_slice(*self.list.allocator(), self.items())?;
+        Ok(SightTexts { list })
     }
 }
 
@@ -34,10 +30,8 @@ impl SeatNos {
     pub fn copy(&self) -> Result<SeatNos, Memory>
         ensures { IfOk result (λ copy. copy ≡ self.now) }
     {
-        match Vec::from_slice(*self.list.allocator(), self.items()) {
-            Ok(list) => Ok(SeatNos { list }),
-            Err(_) => Err(Memory),
-        }
+        let list = Vec::from_slice(*self.list.allocator(), self.items())?;
+        Ok(SeatNos { list })
     }
 }
 
@@ -46,10 +40,8 @@ impl FightList {
     pub fn copy(&self) -> Result<FightList, Memory>
         ensures { IfOk result (λ copy. copy ≡ self.now) }
     {
-        match Vec::from_slice(*self.list.allocator(), self.items()) {
-            Ok(list) => Ok(FightList { list }),
-            Err(_) => Err(Memory),
-        }
+        let list = Vec::from_slice(*self.list.allocator(), self.items())?;
+        Ok(FightList { list })
     }
 }
 

@@ -98,10 +98,8 @@ impl Letters {
     pub fn new(list: Vec<(Cell, u8)>) -> Result<Letters, Memory>
         ensures { IfOk result (λ letters. letters ≡ list.items) }
     {
-        match Arc::new(*list.allocator(), list) {
-            Ok(shared) => Ok(Letters { shared }),
-            Err(_) => Err(Memory),
-        }
+        let shared = Arc::new(*list.allocator(), list)?;
+        Ok(Letters { shared })
     }
 
     /// The items, in order.
@@ -115,10 +113,8 @@ impl Letters {
     pub fn share(&self) -> Result<Letters, Memory>
         ensures { IfOk result (λ letters. letters ≡ self.now) }
     {
-        match Arc::try_clone(&self.shared) {
-            Ok(shared) => Ok(Letters { shared }),
-            Err(_) => Err(Memory),
-        }
+        let shared = Arc::try_clone(&self.shared)?;
+        Ok(Letters { shared })
     }
 }
 

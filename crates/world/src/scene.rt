@@ -57,7 +57,8 @@ impl Model for Scene {
 
     ghost view = { λ s. record { maps = s.maps; tokens = s.tokens; lights = s.lights; sights = s.sights; fog = s.fog; fight = s.fight } };
 
-    ghost invariant = { λ s. IsScene (record { maps = s.maps; tokens = s.tokens; lights = s.lights; sights = s.sights; fog = s.fog; fight = s.fight }) };
+    ghost invariant = { λ s. IsScene
+        (record { maps = s.maps; tokens = s.tokens; lights = s.lights; sights = s.sights; fog = s.fog; fight = s.fight }) };
 }
 
 impl Scene {
@@ -224,7 +225,8 @@ impl Scene {
         b: Point,
     ) -> Result<(), NoSuchWall>
         requires { has_map map self.old.maps ≡ true }
-        ensures missing { IfSome (map_of map self.old.maps) (λ m. IsErr result ↔ (has_wall (wall_between a b) (walls_of m.walls kind) ≡ false)) }
+        ensures missing { IfSome (map_of map self.old.maps) (λ m. IsErr result
+            ↔ (has_wall (wall_between a b) (walls_of m.walls kind) ≡ false)) }
         ensures cut { OnOk result (self.new ≡ with_grid map (without_wall_of kind a b) self.old) }
         ensures unchanged { OnErr result (self.new ≡ self.old) }
     {
@@ -253,7 +255,10 @@ impl Scene {
         night: u32,
         mult: u32,
     ) -> Result<(), SightFault>
-        ensures set { OnOk result (self.new ≡ record self.old { sights = with_type name (record { range = range; night = night; mult = mult }) self.old.sights }) }
+        ensures set { OnOk result (self.new ≡ record self.old {
+          sights = with_type name
+              (record { range = range; night = night; mult = mult }) self.old.sights;
+        }) }
         ensures ok { OnOk result (sight_fault self.old.sights name range night mult ≡ None) }
         ensures fault { IfErr result (IsSightFaultOf (sight_fault self.old.sights name range night mult)) }
         ensures unchanged { OnErr result (self.new ≡ self.old) }
@@ -357,7 +362,8 @@ impl Scene {
         requires there { has_token id self.old.tokens ≡ true }
         requires short { length value ≤ value_limit }
         ensures ok { OnOk result (self.new ≡ with_token id (with_prop class name value) self.old) }
-        ensures limit { IfSome (token_of id self.old.tokens) (λ t. (result ≡ Err PropertyLimit) ↔ (is_full_for name (props_of class t) ≡ true)) }
+        ensures limit { IfSome (token_of id self.old.tokens)
+            (λ t. (result ≡ Err PropertyLimit) ↔ (is_full_for name (props_of class t) ≡ true)) }
         ensures unchanged { OnErr result (self.new ≡ self.old) }
     {
         self.tokens.set_prop(id, class, name, value)

@@ -257,7 +257,8 @@ impl World {
         b: Point,
     ) -> Result<(), NoSuchWall>
         requires { has_map map self.old.scene.maps ≡ true }
-        ensures missing { IfSome (map_of map self.old.scene.maps) (λ m. IsErr result ↔ (has_wall (wall_between a b) (walls_of m.walls kind) ≡ false)) }
+        ensures missing { IfSome (map_of map self.old.scene.maps)
+            (λ m. IsErr result ↔ (has_wall (wall_between a b) (walls_of m.walls kind) ≡ false)) }
         ensures cut { OnOk result (self.new ≡ record self.old { scene = with_grid map (without_wall_of kind a b) self.old.scene }) }
         ensures unchanged { OnErr result (self.new ≡ self.old) }
     {
@@ -268,7 +269,8 @@ impl World {
     ///
     /// The checks are made in the order of `LightFault`; after a fault the world is as before.
     pub fn set_light_type(&mut self, name: Tag, radius: i32) -> Result<(), LightFault>
-        ensures set { OnOk result (self.new ≡ record self.old { scene = record self.old.scene { lights = with_type name radius self.old.scene.lights } }) }
+        ensures set { OnOk result (self.new
+            ≡ record self.old { scene = record self.old.scene { lights = with_type name radius self.old.scene.lights } }) }
         ensures ok { OnOk result (light_fault self.old.scene.lights name radius ≡ None) }
         ensures fault { IfErr result (IsLightFaultOf (light_fault self.old.scene.lights name radius)) }
         ensures unchanged { OnErr result (self.new ≡ self.old) }
@@ -286,7 +288,12 @@ impl World {
         night: u32,
         mult: u32,
     ) -> Result<(), SightFault>
-        ensures set { OnOk result (self.new ≡ record self.old { scene = record self.old.scene { sights = with_type name (record { range = range; night = night; mult = mult }) self.old.scene.sights } }) }
+        ensures set { OnOk result (self.new ≡ record self.old {
+          scene = record self.old.scene {
+            sights = with_type name
+                (record { range = range; night = night; mult = mult }) self.old.scene.sights;
+          };
+        }) }
         ensures ok { OnOk result (sight_fault self.old.scene.sights name range night mult ≡ None) }
         ensures fault { IfErr result (IsSightFaultOf (sight_fault self.old.scene.sights name range night mult)) }
         ensures unchanged { OnErr result (self.new ≡ self.old) }
@@ -302,7 +309,8 @@ impl World {
         requires absent { has_token token.id self.old.scene.tokens ≡ false }
         requires used { is_used self.old.books token.id ≡ true }
         requires fitting { IsTrue (belongs self.old.scene token) }
-        ensures ok { OnOk result (self.new ≡ record self.old { scene = record self.old.scene { tokens = put token self.old.scene.tokens } }) }
+        ensures ok { OnOk result (self.new
+            ≡ record self.old { scene = record self.old.scene { tokens = put token self.old.scene.tokens } }) }
         ensures back { IfErr result (λ t. t ≡ token) }
         ensures unchanged { OnErr result (self.new ≡ self.old) }
     {
@@ -324,7 +332,8 @@ impl World {
     /// else stays.
     pub fn place(&mut self, id: TokenId, map: Tag, cell: Cell)
         requires there { has_token id self.old.scene.tokens ≡ true }
-        requires fitting { IfSome (token_of id self.old.scene.tokens) (λ t. IsTrue (fits_on (size_of map self.old.scene.maps) cell t.size)) }
+        requires fitting { IfSome (token_of id self.old.scene.tokens)
+            (λ t. IsTrue (fits_on (size_of map self.old.scene.maps) cell t.size)) }
         ensures { self.new ≡ record self.old { scene = with_token id (placed map cell) self.old.scene } }
     {
         self.scene.place(id, map, cell);
@@ -387,7 +396,8 @@ impl World {
         requires there { has_token id self.old.scene.tokens ≡ true }
         requires short { length value ≤ value_limit }
         ensures ok { OnOk result (self.new ≡ record self.old { scene = with_token id (with_prop class name value) self.old.scene }) }
-        ensures limit { IfSome (token_of id self.old.scene.tokens) (λ t. (result ≡ Err PropertyLimit) ↔ (is_full_for name (props_of class t) ≡ true)) }
+        ensures limit { IfSome (token_of id self.old.scene.tokens)
+            (λ t. (result ≡ Err PropertyLimit) ↔ (is_full_for name (props_of class t) ≡ true)) }
         ensures unchanged { OnErr result (self.new ≡ self.old) }
     {
         self.scene.set_prop(id, class, name, value)
@@ -399,7 +409,8 @@ impl World {
     /// After `Memory` the world is as before.
     pub fn fight_set(&mut self, id: TokenId, value: i16) -> Result<(), Memory>
         requires { has_token id self.old.scene.tokens ≡ true }
-        ensures ok { OnOk result (self.new ≡ record self.old { scene = record self.old.scene { fight = with_entry id value self.old.scene.fight } }) }
+        ensures ok { OnOk result (self.new
+            ≡ record self.old { scene = record self.old.scene { fight = with_entry id value self.old.scene.fight } }) }
         ensures unchanged { OnErr result (self.new ≡ self.old) }
     {
         self.scene.fight_set(id, value)
@@ -436,7 +447,12 @@ impl World {
     pub fn expose(&mut self, seat: SeatNo, map: Tag, rect: Rect)
         requires there { has_map map self.old.scene.maps ≡ true }
         requires player { IsTrue (is_player self.old.scene.fog.players seat) }
-        ensures value { self.new ≡ record self.old { scene = record self.old.scene { fog = with_change self.old.scene.fog seat map (λ cells. with_rect cells rect true) } } }
+        ensures value { self.new ≡ record self.old {
+          scene = record self.old.scene {
+            fog = with_change self.old.scene.fog seat map
+                (λ cells. with_rect cells rect true);
+          };
+        } }
         ensures sets { ChangesOnly self.old.scene.fog self.new.scene.fog seat map (λ cells. with_rect cells rect true) }
     {
         self.scene.expose(seat, map, rect);
@@ -446,7 +462,12 @@ impl World {
     pub fn hide(&mut self, seat: SeatNo, map: Tag, rect: Rect)
         requires there { has_map map self.old.scene.maps ≡ true }
         requires player { IsTrue (is_player self.old.scene.fog.players seat) }
-        ensures value { self.new ≡ record self.old { scene = record self.old.scene { fog = with_change self.old.scene.fog seat map (λ cells. with_rect cells rect false) } } }
+        ensures value { self.new ≡ record self.old {
+          scene = record self.old.scene {
+            fog = with_change self.old.scene.fog seat map
+                (λ cells. with_rect cells rect false);
+          };
+        } }
         ensures sets { ChangesOnly self.old.scene.fog self.new.scene.fog seat map (λ cells. with_rect cells rect false) }
     {
         self.scene.hide(seat, map, rect);
@@ -456,7 +477,12 @@ impl World {
     pub fn after_sight(&mut self, seat: SeatNo, map: Tag, seen: &CellSet)
         requires there { size_of map self.old.scene.maps ≡ Some seen.now.extent }
         requires player { IsTrue (is_player self.old.scene.fog.players seat) }
-        ensures value { self.new ≡ record self.old { scene = record self.old.scene { fog = with_change self.old.scene.fog seat map (λ cells. cells_joined cells seen.now) } } }
+        ensures value { self.new ≡ record self.old {
+          scene = record self.old.scene {
+            fog = with_change self.old.scene.fog seat map
+                (λ cells. cells_joined cells seen.now);
+          };
+        } }
         ensures sets { ChangesOnly self.old.scene.fog self.new.scene.fog seat map (λ cells. cells_joined cells seen.now) }
     {
         self.scene.after_sight(seat, map, seen);
@@ -524,7 +550,8 @@ impl World {
     pub fn use_tag(&mut self, seat: SeatNo, tag: Tag) -> Result<(), TagFault>
         requires { seat < length self.old.books }
         ensures tag_used { IfSome (slice_get self.old.books seat) (λ book. (result ≡ Err TagUsed) ↔ (tag_used book.tags tag ≡ true)) }
-        ensures tags_spent { IfSome (slice_get self.old.books seat) (λ book. (result ≡ Err TagsSpent) ↔ ((tag_used book.tags tag ≡ false) × (tags_spent book.seat book.tags ≡ true))) }
+        ensures tags_spent { IfSome (slice_get self.old.books seat)
+            (λ book. (result ≡ Err TagsSpent) ↔ ((tag_used book.tags tag ≡ false) × (tags_spent book.seat book.tags ≡ true))) }
         ensures ok { OnOk result (self.new ≡ with_book seat (λ book. with_tag book tag) self.old) }
         ensures refused { OnErr result (self.new ≡ self.old) }
     {
@@ -560,16 +587,7 @@ fn copied(books: &Vec<SeatBook>) -> Result<Vec<SeatBook>, Memory>
 {
     let mut copy = Vec::new(*books.allocator());
     for book in books {
-        push(&mut copy, book.copy()?)?;
+        copy.push(book.copy()?)?;
     }
     Ok(copy)
-}
-
-fn push(books: &mut Vec<SeatBook>, book: SeatBook) -> Result<(), Memory>
-    ensures { OnOk result (books.new.items ≡ books.old.items ++ book ∷ []) }
-{
-    match books.push(book) {
-        Ok(()) => Ok(()),
-        Err(_) => Err(Memory),
-    }
 }

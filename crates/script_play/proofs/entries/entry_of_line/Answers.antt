@@ -13,8 +13,8 @@ length_before-front-requires g c =
     (command_behind c.args.line c.in-Some.seat c.in-Some.command.now (subst (λ l. IsScriptLine l c.in-Some.seat c.in-Some.command.now) c.bytes.ensures c.in-Some.ensures.text)).shorter in
     grind (arith, shorter, c.in-Some.command-is)
 
-pub returns-in-Ok : goal.returns-in-Ok
-returns-in-Ok g c =
+pub returns : goal.returns
+returns g c =
     let w = world_of c.args.campaign.now in
     let line = c.args.line in
     let words = c.in-Some.command.now in
@@ -22,6 +22,6 @@ returns-in-Ok g c =
     let behind = command_behind line c.in-Some.seat words (subst (λ l. IsScriptLine l c.in-Some.seat words) c.bytes.ensures c.in-Some.ensures.text) in
     let front : c.length_before-front.result ≡ length line - length words = search rules in
     let command : drop c.length_before-front.result line ≡ words = ap (λ n. drop n line) front ∙ behind.is in
-    let made : c.in-Ok.entry ≡ entry_of w c.in-Some.seat (drop c.length_before-front.result line) = search rules in
+    let made : c.in_ok-entry.entry ≡ entry_of w c.in-Some.seat (drop c.length_before-front.result line) = search rules in
     let within : nat_lt c.in-Some.seat (length w.seats) ≡ true = grind (arith, nat_tests, c.if-number-seats.false, c.number.ensures.value, c.requires, seats_of_replay c.args.campaign.now.origin c.args.campaign.now.history) in
-    entry_found w line c.in-Some.seat words (drop c.length_before-front.result line) c.in-Ok.entry parts within made command
+    entry_found w line c.in-Some.seat words (drop c.length_before-front.result line) c.in_ok-entry.entry parts within made command
