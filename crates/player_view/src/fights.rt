@@ -30,7 +30,8 @@ fn add_entry(
     entry: &Entry,
     list: &mut Vec<(TokenId, i16)>,
 ) -> Result<(), Memory>
-    ensures { OnOk result (list.new.items ≡ list.old.items ++ (if stands_among gm tokens.now entry.now.id then entry_text entry.now ∷ [] else [])) }
+    ensures { OnOk result (list.new.items ≡ list.old.items ++
+        (if stands_among gm tokens.now entry.now.id then entry_text entry.now ∷ [] else [])) }
 {
     if stands_in(gm, tokens, &entry.id) && list.push((entry.id, entry.value)).is_err() {
         return Err(Memory);

@@ -43,7 +43,8 @@ pub fn field_on<E: Eye>(
 
 /// Keeps a field for an id.
 pub fn keep_field(fields: &mut Fields, id: TokenId, field: CellSet) -> Result<(), Memory>
-    ensures { OnOk result ((other : TokenId) → field_at other fields.new ≡ (if id_eq id other then Some field else field_at other fields.old)) }
+    ensures { OnOk result ((other : TokenId) → field_at other fields.new
+        ≡ (if id_eq id other then Some field else field_at other fields.old)) }
 {
     match fields.put(id, field) {
         Ok(()) => Ok(()),

@@ -143,19 +143,14 @@ fn exposed_to(alloc: Global, scene: &Scene, seat: SeatNo, map: &GridMap) -> Resu
 pub(crate) fn room_for<T>(alloc: Global, count: usize) -> Result<Vec<T>, Memory>
     ensures { IfOk result (λ list. list.items ≡ []) }
 {
-    match Vec::with_capacity(alloc, count) {
-        Ok(list) => Ok(list),
-        Err(_) => Err(Memory),
-    }
+    Ok(Vec::with_capacity(alloc, count)?)
 }
 
 fn push_letter(list: &mut Vec<(Cell, u8)>, letter: (Cell, u8)) -> Result<(), Memory>
     ensures { OnOk result (list.new.items ≡ list.old.items ++ letter ∷ []) }
 {
-    match list.push(letter) {
-        Ok(()) => Ok(()),
-        Err(_) => Err(Memory),
-    }
+    list.push(letter)?;
+    Ok(())
 }
 
 /// Adds the letters of the run's cells.
@@ -296,10 +291,8 @@ fn add_map(
 fn push_map(list: &mut Vec<MapView>, view: MapView) -> Result<(), Memory>
     ensures { OnOk result (list.new.items ≡ list.old.items ++ view ∷ []) }
 {
-    match list.push(view) {
-        Ok(()) => Ok(()),
-        Err(_) => Err(Memory),
-    }
+    list.push(view)?;
+    Ok(())
 }
 
 /// The maps that the seat is shown; letters are taken from older views of maps with the same letters, where they serve,

@@ -32,10 +32,8 @@ fn add_prop(props: &Props, place: usize, list: &mut Vec<(Tag, Text)>) -> Result<
 fn push_prop(list: &mut Vec<(Tag, Text)>, prop: (Tag, Text)) -> Result<(), Memory>
     ensures { OnOk result (list.new.items ≡ list.old.items ++ prop ∷ []) }
 {
-    match list.push(prop) {
-        Ok(()) => Ok(()),
-        Err(_) => Err(Memory),
-    }
+    list.push(prop)?;
+    Ok(())
 }
 
 /// The names with their values.
@@ -57,10 +55,8 @@ fn add_owner(owners: Owners, number: u8, list: &mut Vec<SeatNo>) -> Result<(), M
         unreachable!();
     };
     if owners.has(seat) {
-        match list.push(seat) {
-            Ok(()) => Ok(()),
-            Err(_) => Err(Memory),
-        }
+        list.push(seat)?;
+        Ok(())
     } else {
         Ok(())
     }
@@ -232,7 +228,8 @@ fn has_token(scene: &Scene, seat: SeatNo, token: &Token, views: &MapViews) -> bo
 }
 
 fn passes_has_token(scene: &Scene, seat: SeatNo, token: &Token, views: &MapViews) -> bool
-    ensures { result ≡ (owns scene.now seat token.now || (token.now.visible && is_open_in token.now (find (λ view. bytes_eq view.name token.now.map) views.now))) }
+    ensures { result ≡ (owns scene.now seat token.now || (token.now.visible && is_open_in token.now
+        (find (λ view. bytes_eq view.name token.now.map) views.now))) }
 {
     owns(scene, seat, token) || token.visible && is_open_in(token, views)
 }
@@ -248,7 +245,8 @@ fn add_token(
     requires place { place < length scene.now.tokens }
     requires views { views.now ≡ map (map_view scene.now seat) (filter (has_map seat) scene.now.maps) }
     requires so_far { list.old.items ≡ map (token_view scene.now seat) (filter (has_token scene.now seat) (take place scene.now.tokens)) }
-    ensures { OnOk result (list.new.items ≡ map (token_view scene.now seat) (filter (has_token scene.now seat) (take (place + 1) scene.now.tokens))) }
+    ensures { OnOk result (list.new.items ≡ map (token_view scene.now seat)
+        (filter (has_token scene.now seat) (take (place + 1) scene.now.tokens))) }
 {
     let token = token_at(scene, place);
     if !has_token(scene, seat, token, views) {
@@ -262,10 +260,8 @@ fn add_token(
 fn push_token(list: &mut Vec<TokenView>, view: TokenView) -> Result<(), Memory>
     ensures { OnOk result (list.new.items ≡ list.old.items ++ view ∷ []) }
 {
-    match list.push(view) {
-        Ok(()) => Ok(()),
-        Err(_) => Err(Memory),
-    }
+    list.push(view)?;
+    Ok(())
 }
 
 /// The tokens that the seat, with these maps in its view, is shown.

@@ -27,8 +27,10 @@ impl Disc {
 
     /// The rows, of so many, outside of which no cell stands that is in both discs.
     pub(crate) fn common_rows(&self, other: &Disc, count: u8) -> (u8, u8)
-        ensures first { (y : ℕ) → self.now.middle.y ≤ 2 * y + 1 + self.now.halves → other.now.middle.y ≤ 2 * y + 1 + other.now.halves → result.0 ≤ y }
-        ensures past { (y : ℕ) → y < count → 2 * y + 1 ≤ self.now.middle.y + self.now.halves → 2 * y + 1 ≤ other.now.middle.y + other.now.halves → y < result.1 }
+        ensures first { (y : ℕ) → self.now.middle.y ≤ 2 * y + 1 + self.now.halves → other.now.middle.y ≤ 2 * y + 1 + other.now.halves
+            → result.0 ≤ y }
+        ensures past { (y : ℕ) → y < count → 2 * y + 1 ≤ self.now.middle.y + self.now.halves
+            → 2 * y + 1 ≤ other.now.middle.y + other.now.halves → y < result.1 }
         ensures bound { result.1 ≤ count }
     {
         let (self_first, self_past) = self.rows(count);

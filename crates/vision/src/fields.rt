@@ -88,7 +88,8 @@ impl Fields {
     /// The field comes back for want of memory alone, and the fields are then as before.
     pub fn put(&mut self, id: TokenId, field: CellSet) -> Result<(), CellSet>
         ensures value { OnOk result (self.new ≡ with_field id field self.old) }
-        ensures told { OnOk result ((other : TokenId) → field_at other self.new ≡ (if id_eq id other then Some field else field_at other self.old)) }
+        ensures told { OnOk result ((other : TokenId) → field_at other self.new
+            ≡ (if id_eq id other then Some field else field_at other self.old)) }
         ensures back { IfErr result (λ set. set ≡ field) }
         ensures unchanged { OnErr result (self.new ≡ self.old) }
     {
@@ -107,7 +108,8 @@ impl Fields {
     pub fn share(&mut self, id: TokenId, from: &Fields) -> Result<(), Memory>
         requires { IsSome (field_at id from.now) }
         ensures value { OnOk result (IfSome (field_at id from.now) (λ field. self.new ≡ with_field id field self.old)) }
-        ensures told { OnOk result ((other : TokenId) → field_at other self.new ≡ (if id_eq id other then field_at id from.now else field_at other self.old)) }
+        ensures told { OnOk result ((other : TokenId) → field_at other self.new
+            ≡ (if id_eq id other then field_at id from.now else field_at other self.old)) }
         ensures unchanged { OnErr result (self.new ≡ self.old) }
     {
         let shared = from.shared(&id)?;
@@ -129,7 +131,8 @@ impl Fields {
     #[tactic(auto, using(crate::proofs::FieldLemmas::looked_up, crate::proofs::FieldLemmas::ties))]
     fn put_shared(&mut self, id: TokenId, field: SharedField) -> Result<(), Memory>
         ensures value { OnOk result (self.new ≡ with_field id field self.old) }
-        ensures told { OnOk result ((other : TokenId) → field_at other self.new ≡ (if id_eq id other then Some field else field_at other self.old)) }
+        ensures told { OnOk result ((other : TokenId) → field_at other self.new
+            ≡ (if id_eq id other then Some field else field_at other self.old)) }
         ensures unchanged { OnErr result (self.new ≡ self.old) }
     {
         match self.fields.insert(id, field) {
