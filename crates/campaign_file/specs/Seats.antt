@@ -28,6 +28,12 @@ tags book d = do
   items ← field (codes "tags") (list 0 (most_tags book.seat)) d
   under (codes "tags") (each (λ place. used_tag) 0 book items)
 
+-- the book with the tags and the macros of its seat
+abbrev pub filled : Book → Data → Result Book BadCampaign
+filled book d = do
+  tagged ← tags book d
+  macros tagged d
+
 -- ---- seats
 
 abbrev pub seat_keys : List (List ℕ)
@@ -42,6 +48,13 @@ seat_book place d = do
   drawn ← field (codes "drawn") (whole 0 (drawn_limit - 1)) d
   book ← tags (fresh_book place key seed drawn) d
   macros book d
+
+-- the book, and the scene with what is exposed to the seat at a place, which says nothing else
+abbrev pub beside_fog : ℕ → Scene → Data → Book → Result (Book × Scene) BadCampaign
+beside_fog place s d book = do
+  exposed ← fog place s d
+  no_others ← only seat_keys d
+  Ok (book, exposed)
 
 -- the book of the seat at a place, and the scene with what is exposed to it
 unfoldable pub seat : ℕ → Scene → Data → Result (Book × Scene) BadCampaign

@@ -1,5 +1,5 @@
 //! A seat's macros.
-ghost use Rattle.std.specs.Prelude.{◌≡◌, IfOk, codes};
+ghost use Rattle.std.specs.Prelude.{◌≡◌, OnOk, codes};
 ghost use Rattle.serde_json.specs.View.{view, members_view};
 ghost use Rattle.json_fields.specs.Objects.{Gives};
 ghost use Rattle.macro_parse.specs.Answers.{macro_of};
@@ -19,15 +19,15 @@ const MOST_MACROS: usize = 32;
 /// How many bytes the text of a macro has at most.
 const MOST_BYTES: usize = 2000;
 
-/// The book with the macros of its seat.
+/// Reads the macros of the book's seat.
 #[tactic(auto, unfolding(crate::specs::Macros::macros))]
 pub(crate) fn read_macros(
     alloc: Global,
     value: &Value,
-    book: SeatBook,
-) -> Result<SeatBook, FileFault>
-    ensures exact { Gives Fails (λ b. b) result (macros_lem book (view value.now)) }
-    ensures rest { IfOk result (λ b. unfilled b ≡ unfilled book) }
+    book: &mut SeatBook,
+) -> Result<(), FileFault>
+    ensures exact { Gives Fails (λ u. book.new) result (macros_lem book.old (view value.now)) }
+    ensures rest { OnOk result (unfilled book.new ≡ unfilled book.old) }
 {
     let members = fields::members(alloc, value, "macros", MOST_MACROS)?;
     each_macro(alloc, members, book)
@@ -36,31 +36,26 @@ pub(crate) fn read_macros(
 fn each_macro(
     alloc: Global,
     members: &Map<String, Value>,
-    mut book: SeatBook,
-) -> Result<SeatBook, FileFault>
-    ensures exact { Gives Fails (λ b. b) result
-        (under (codes "macros") (each_member with_read book (members_view members.now.entries))) }
-    ensures rest { IfOk result (λ b. unfilled b ≡ unfilled book) }
+    book: &mut SeatBook,
+) -> Result<(), FileFault>
+    ensures exact { Gives Fails (λ u. book.new) result
+        (under (codes "macros") (each_member with_read book.old (members_view members.now.entries))) }
+    ensures rest { OnOk result (unfilled book.new ≡ unfilled book.old) }
 {
     for (key, value) in members {
-        book = match with_macro(alloc, key.as_str(), value, book) {
-            Ok(next) => next,
+        match read_one(alloc, key.as_str(), value, book) {
+            Ok(()) => {}
             Err(fault) => return Err(fault.under_member(alloc, "macros", key.as_str())),
-        };
+        }
     }
-    Ok(book)
+    Ok(())
 }
 
-/// The book with one macro more.
+/// Reads a macro into the book.
 #[tactic(auto, unfolding(crate::specs::Macros::with_read))]
-fn with_macro(
-    alloc: Global,
-    key: &str,
-    value: &Value,
-    mut book: SeatBook,
-) -> Result<SeatBook, FileFault>
-    ensures exact { Gives Fails (λ b. b) result (with_read key.now book (view value.now)) }
-    ensures rest { IfOk result (λ b. unfilled b ≡ unfilled book) }
+fn read_one(alloc: Global, key: &str, value: &Value, book: &mut SeatBook) -> Result<(), FileFault>
+    ensures exact { Gives Fails (λ u. book.new) result (with_read key.now book.old (view value.now)) }
+    ensures rest { OnOk result (unfilled book.new ≡ unfilled book.old) }
 {
     let name = fields::tag_key(alloc, key)?;
     let text = match kinds::text(value, 0, MOST_BYTES) {
@@ -70,7 +65,7 @@ fn with_macro(
     check_spelling(alloc, text)?;
     let text = Text::copy(alloc, text)?;
     match book.set_macro(name, text) {
-        Ok(()) => Ok(book),
+        Ok(()) => Ok(()),
         Err(BookFault::MacroLimit) => Err(broken(alloc, Rule::Range)),
         Err(BookFault::Memory) => Err(FileFault::Memory),
     }

@@ -1,12 +1,13 @@
 //! Seats.
-ghost use Rattle.std.specs.Prelude.{◌≡◌, ◌≤◌, ◌+◌, length, IfOk, codes, [], Some, option_map};
+ghost use Rattle.std.specs.Prelude.{◌≡◌, ◌≤◌, ◌+◌, length, IfOk, OnOk, codes, [], Some, option_map};
 ghost use Rattle.serde_json.specs.View.{view, items_view};
 ghost use Rattle.json_fields.specs.Objects.{Gives};
 ghost use Rattle.campaign_json.specs.Reading.{Fails, under, each};
 ghost use Rattle.campaign_scene.specs.Kept.{kept};
 ghost use Rattle.campaign_file.specs.Campaign.{players_in};
 ghost use Rattle.campaign_file.specs.Macros.{unfilled};
-ghost use Rattle.campaign_file.specs.Seats.{seat as seat_lem, seat_book as seat_book_lem, seated, seats as seats_lem, tags as tags_lem, used_tag, IsFreshAt, AreFreshFrom, IsOpening};
+ghost use Rattle.seats.specs.Book.{Book};
+ghost use Rattle.campaign_file.specs.Seats.{seat as seat_lem, seat_book as seat_book_lem, beside_fog, filled, seated, seats as seats_lem, tags as tags_lem, used_tag, IsFreshAt, AreFreshFrom, IsOpening};
 
 use crate::macros::read_macros;
 use campaign_json::fields::{self, check_object, check_only};
@@ -79,9 +80,18 @@ fn read_seat(
     ensures kept { IfOk result (λ r. kept r.1 ≡ kept scene) }
 {
     let book = read_book(alloc, seat, value)?;
+    let scene = exposed(alloc, seat, value, scene)?;
+    Ok((book, scene))
+}
+
+/// The scene with what is exposed to the seat, of which the value says nothing else.
+fn exposed(alloc: Global, seat: SeatNo, value: &Value, scene: Scene) -> Result<Scene, FileFault>
+    ensures exact { (book : Book) → Gives Fails (λ s. (book, s)) result (beside_fog seat scene (view value.now) book) }
+    ensures kept { IfOk result (λ s. kept s ≡ kept scene) }
+{
     let scene = read_fog(alloc, seat, value, scene)?;
     check_only(alloc, value, &SEAT_KEYS)?;
-    Ok((book, scene))
+    Ok(scene)
 }
 
 /// The book of a seat where nobody sat yet.
@@ -94,46 +104,55 @@ fn read_book(alloc: Global, seat: SeatNo, value: &Value) -> Result<SeatBook, Fil
     let key = fields::text(alloc, value, "key", 1, 64)?;
     let seed = fields::seed(alloc, value, "seed")?;
     let drawn = fields::whole(alloc, value, "drawn", 0, MOST_DRAWN)?;
-    let book = SeatBook::new(alloc, seat, Text::copy(alloc, key)?, seed, drawn);
-    let book = read_tags(alloc, value, book)?;
+    let mut book = SeatBook::new(alloc, seat, Text::copy(alloc, key)?, seed, drawn);
+    fill_book(alloc, value, &mut book)?;
+    Ok(book)
+}
+
+/// Reads the tags and the macros of the book's seat.
+fn fill_book(alloc: Global, value: &Value, book: &mut SeatBook) -> Result<(), FileFault>
+    ensures exact { Gives Fails (λ u. book.new) result (filled book.old (view value.now)) }
+    ensures rest { OnOk result (unfilled book.new ≡ unfilled book.old) }
+{
+    read_tags(alloc, value, book)?;
     read_macros(alloc, value, book)
 }
 
-/// The book with the tags that its seat used.
+/// Reads the tags that the book's seat used.
 #[tactic(auto, unfolding(crate::specs::Seats::tags))]
-fn read_tags(alloc: Global, value: &Value, book: SeatBook) -> Result<SeatBook, FileFault>
-    ensures exact { Gives Fails (λ b. b) result (tags_lem book (view value.now)) }
-    ensures rest { IfOk result (λ b. unfilled b ≡ unfilled book) }
+fn read_tags(alloc: Global, value: &Value, book: &mut SeatBook) -> Result<(), FileFault>
+    ensures exact { Gives Fails (λ u. book.new) result (tags_lem book.old (view value.now)) }
+    ensures rest { OnOk result (unfilled book.new ≡ unfilled book.old) }
 {
     let values = fields::list(alloc, value, "tags", 0, most_tags(book.seat()))?;
     each_tag(alloc, values, book)
 }
 
-fn each_tag(alloc: Global, values: &[Value], mut book: SeatBook) -> Result<SeatBook, FileFault>
-    ensures exact { Gives Fails (λ b. b) result
-        (under (codes "tags") (each (λ place. used_tag) 0 book (items_view values.now))) }
-    ensures rest { IfOk result (λ b. unfilled b ≡ unfilled book) }
+fn each_tag(alloc: Global, values: &[Value], book: &mut SeatBook) -> Result<(), FileFault>
+    ensures exact { Gives Fails (λ u. book.new) result
+        (under (codes "tags") (each (λ place. used_tag) 0 book.old (items_view values.now))) }
+    ensures rest { OnOk result (unfilled book.new ≡ unfilled book.old) }
 {
     for (place, value) in values.iter().enumerate() {
-        book = match read_tag(alloc, value, book) {
-            Ok(next) => next,
+        match read_tag(alloc, value, book) {
+            Ok(()) => {}
             Err(fault) => return Err(fault.under_item(alloc, "tags", place)),
-        };
+        }
     }
-    Ok(book)
+    Ok(())
 }
 
 #[tactic(auto, unfolding(crate::specs::Seats::used_tag))]
-fn read_tag(alloc: Global, value: &Value, mut book: SeatBook) -> Result<SeatBook, FileFault>
-    ensures exact { Gives Fails (λ b. b) result (used_tag book (view value.now)) }
-    ensures rest { IfOk result (λ b. unfilled b ≡ unfilled book) }
+fn read_tag(alloc: Global, value: &Value, book: &mut SeatBook) -> Result<(), FileFault>
+    ensures exact { Gives Fails (λ u. book.new) result (used_tag book.old (view value.now)) }
+    ensures rest { OnOk result (unfilled book.new ≡ unfilled book.old) }
 {
     let name = match kinds::tag(value) {
         Ok(name) => name,
         Err(rule) => return Err(broken(alloc, rule)),
     };
     match book.use_tag(name) {
-        Ok(()) => Ok(book),
+        Ok(()) => Ok(()),
         Err(TagFault::TagUsed) => Err(broken(alloc, Rule::Twice)),
         Err(TagFault::TagsSpent) => Err(broken(alloc, Rule::Range)),
         Err(TagFault::Memory) => Err(FileFault::Memory),

@@ -1,5 +1,5 @@
 -- Tokens while they are read: what belongs to a scene.
-use Rattle.std.proofs.Common.{◌≡◌, ℕ, ◌≤◌, true, ◌&&◌, List, Option, Some, refl, ap, ◌∙◌, arith}
+use Rattle.std.proofs.Common.{◌≡◌, ℕ, ◌≤◌, true, ◌&&◌, List, Option, Some, ap, ◌∙◌, arith}
 use Rattle.maps.proofs.NameLemmas.{and_first, both}
 use Rattle.cells.specs.Cells.{Extent}
 use Rattle.cells.specs.declared.cell.Cell.{Cell}

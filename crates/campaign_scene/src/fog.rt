@@ -1,5 +1,5 @@
 //! What is exposed to the seats.
-ghost use Rattle.std.specs.Prelude.{◌≡◌, ◌<◌, true, Some, IfOk, codes};
+ghost use Rattle.std.specs.Prelude.{◌≡◌, ◌<◌, true, Some, IfOk, OnOk, codes};
 ghost use Rattle.serde_json.specs.View.{view, items_view, members_view};
 ghost use Rattle.json_fields.specs.Objects.{Gives};
 ghost use Rattle.world.specs.Rules.{is_player as is_player_lem};
@@ -17,17 +17,25 @@ use std::alloc::Global;
 use world::Scene;
 
 /// The scene with what is exposed to the seat.
-#[tactic(auto, unfolding(crate::specs::Fog::fog))]
 pub fn read_fog(
     alloc: Global,
     seat: SeatNo,
     value: &Value,
-    scene: Scene,
+    mut scene: Scene,
 ) -> Result<Scene, FileFault>
     ensures exact { Gives Fails (λ s. s) result (fog_lem seat scene (view value.now)) }
     ensures kept { IfOk result (λ s. kept s ≡ kept scene) }
 {
-    if is_player(&scene, seat) {
+    add_fog(alloc, seat, value, &mut scene)?;
+    Ok(scene)
+}
+
+#[tactic(auto, unfolding(crate::specs::Fog::fog))]
+fn add_fog(alloc: Global, seat: SeatNo, value: &Value, scene: &mut Scene) -> Result<(), FileFault>
+    ensures exact { Gives Fails (λ u. scene.new) result (fog_lem seat scene.old (view value.now)) }
+    ensures kept { OnOk result (kept scene.new ≡ kept scene.old) }
+{
+    if is_player(scene, seat) {
         fog_of_player(alloc, seat, value, scene)
     } else {
         no_fog(alloc, value, scene)
@@ -41,12 +49,12 @@ fn is_player(scene: &Scene, seat: SeatNo) -> bool
 }
 
 #[tactic(auto, unfolding(crate::specs::Fog::no_fog))]
-fn no_fog(alloc: Global, value: &Value, scene: Scene) -> Result<Scene, FileFault>
-    ensures exact { Gives Fails (λ s. s) result (no_fog_lem scene (view value.now)) }
-    ensures kept { IfOk result (λ s. kept s ≡ kept scene) }
+fn no_fog(alloc: Global, value: &Value, scene: &mut Scene) -> Result<(), FileFault>
+    ensures exact { Gives Fails (λ u. scene.new) result (no_fog_lem scene.old (view value.now)) }
+    ensures kept { OnOk result (kept scene.new ≡ kept scene.old) }
 {
     fields::members(alloc, value, "fog", 0)?;
-    Ok(scene)
+    Ok(())
 }
 
 #[tactic(auto, unfolding(crate::specs::Fog::fog_of_player))]
@@ -54,11 +62,11 @@ fn fog_of_player(
     alloc: Global,
     seat: SeatNo,
     value: &Value,
-    scene: Scene,
-) -> Result<Scene, FileFault>
-    requires { is_player_lem scene.fog.players seat ≡ true }
-    ensures exact { Gives Fails (λ s. s) result (fog_of_player_lem seat scene (view value.now)) }
-    ensures kept { IfOk result (λ s. kept s ≡ kept scene) }
+    scene: &mut Scene,
+) -> Result<(), FileFault>
+    requires { is_player_lem scene.old.fog.players seat ≡ true }
+    ensures exact { Gives Fails (λ u. scene.new) result (fog_of_player_lem seat scene.old (view value.now)) }
+    ensures kept { OnOk result (kept scene.new ≡ kept scene.old) }
 {
     let members = fields::entries(alloc, value, "fog")?;
     each_map(alloc, seat, members, scene)
@@ -68,20 +76,20 @@ fn each_map(
     alloc: Global,
     seat: SeatNo,
     members: &Map<String, Value>,
-    mut scene: Scene,
-) -> Result<Scene, FileFault>
-    requires { is_player_lem scene.fog.players seat ≡ true }
-    ensures exact { Gives Fails (λ s. s) result
-        (under (codes "fog") (each_member (fog_of_map_lem seat) scene (members_view members.now.entries))) }
-    ensures kept { IfOk result (λ s. kept s ≡ kept scene) }
+    scene: &mut Scene,
+) -> Result<(), FileFault>
+    requires { is_player_lem scene.old.fog.players seat ≡ true }
+    ensures exact { Gives Fails (λ u. scene.new) result
+        (under (codes "fog") (each_member (fog_of_map_lem seat) scene.old (members_view members.now.entries))) }
+    ensures kept { OnOk result (kept scene.new ≡ kept scene.old) }
 {
     for (key, value) in members {
-        scene = match fog_of_map(alloc, seat, key.as_str(), value, scene) {
-            Ok(next) => next,
+        match fog_of_map(alloc, seat, key.as_str(), value, scene) {
+            Ok(()) => {}
             Err(fault) => return Err(fault.under_member(alloc, "fog", key.as_str())),
-        };
+        }
     }
-    Ok(scene)
+    Ok(())
 }
 
 #[tactic(auto, unfolding(crate::specs::Fog::fog_of_map))]
@@ -90,11 +98,11 @@ fn fog_of_map(
     seat: SeatNo,
     key: &str,
     value: &Value,
-    scene: Scene,
-) -> Result<Scene, FileFault>
-    requires { is_player_lem scene.fog.players seat ≡ true }
-    ensures exact { Gives Fails (λ s. s) result (fog_of_map_lem seat key.now scene (view value.now)) }
-    ensures kept { IfOk result (λ s. kept s ≡ kept scene) }
+    scene: &mut Scene,
+) -> Result<(), FileFault>
+    requires { is_player_lem scene.old.fog.players seat ≡ true }
+    ensures exact { Gives Fails (λ u. scene.new) result (fog_of_map_lem seat key.now scene.old (view value.now)) }
+    ensures kept { OnOk result (kept scene.new ≡ kept scene.old) }
 {
     let Ok(name) = Tag::read(key.as_bytes()) else {
         return Err(broken(alloc, Rule::Cross));
@@ -113,20 +121,20 @@ fn each_run(
     seat: SeatNo,
     name: Tag,
     values: &[Value],
-    mut scene: Scene,
-) -> Result<Scene, FileFault>
-    requires { is_player_lem scene.fog.players seat ≡ true }
-    ensures exact { Gives Fails (λ s. s) result
-        (each (λ place. run_lem seat name) 0 scene (items_view values.now)) }
-    ensures kept { IfOk result (λ s. kept s ≡ kept scene) }
+    scene: &mut Scene,
+) -> Result<(), FileFault>
+    requires { is_player_lem scene.old.fog.players seat ≡ true }
+    ensures exact { Gives Fails (λ u. scene.new) result
+        (each (λ place. run_lem seat name) 0 scene.old (items_view values.now)) }
+    ensures kept { OnOk result (kept scene.new ≡ kept scene.old) }
 {
     for (place, value) in values.iter().enumerate() {
-        scene = match read_run(alloc, seat, name, value, scene) {
-            Ok(next) => next,
+        match read_run(alloc, seat, name, value, scene) {
+            Ok(()) => {}
             Err(fault) => return Err(fault.under_place(alloc, place)),
-        };
+        }
     }
-    Ok(scene)
+    Ok(())
 }
 
 #[tactic(auto, unfolding(crate::specs::Fog::run))]
@@ -135,14 +143,14 @@ fn read_run(
     seat: SeatNo,
     name: Tag,
     value: &Value,
-    scene: Scene,
-) -> Result<Scene, FileFault>
-    requires { is_player_lem scene.fog.players seat ≡ true }
-    ensures exact { Gives Fails (λ s. s) result (run_lem seat name scene (view value.now)) }
-    ensures kept { IfOk result (λ s. kept s ≡ kept scene) }
+    scene: &mut Scene,
+) -> Result<(), FileFault>
+    requires { is_player_lem scene.old.fog.players seat ≡ true }
+    ensures exact { Gives Fails (λ u. scene.new) result (run_lem seat name scene.old (view value.now)) }
+    ensures kept { OnOk result (kept scene.new ≡ kept scene.old) }
 {
     let run = run_numbers(alloc, value)?;
-    exposed_at(alloc, seat, name, run, scene)
+    expose_run(alloc, seat, name, run, scene)
 }
 
 /// The row of a run, its first column and its last.
@@ -157,18 +165,18 @@ fn run_numbers(alloc: Global, value: &Value) -> Result<(i64, i64, i64), FileFaul
     Ok((y, x0, x1))
 }
 
-/// The scene with a row's cells from one column to another exposed to the player.
+/// Exposes a row's cells from one column to another to the player.
 #[tactic(auto, unfolding(crate::specs::Fog::exposed_at))]
-fn exposed_at(
+fn expose_run(
     alloc: Global,
     seat: SeatNo,
     name: Tag,
     run: (i64, i64, i64),
-    mut scene: Scene,
-) -> Result<Scene, FileFault>
-    requires { is_player_lem scene.fog.players seat ≡ true }
-    ensures exact { Gives Fails (λ s. s) result (exposed_at_lem seat name run.0 run.1 run.2 scene) }
-    ensures kept { IfOk result (λ s. kept s ≡ kept scene) }
+    scene: &mut Scene,
+) -> Result<(), FileFault>
+    requires { is_player_lem scene.old.fog.players seat ≡ true }
+    ensures exact { Gives Fails (λ u. scene.new) result (exposed_at_lem seat name run.0 run.1 run.2 scene.old) }
+    ensures kept { OnOk result (kept scene.new ≡ kept scene.old) }
 {
     let Some(grid) = scene.maps().get(name) else {
         return Err(broken(alloc, Rule::Cross));
@@ -177,7 +185,7 @@ fn exposed_at(
         return Err(broken(alloc, Rule::Cross));
     };
     scene.expose(seat, name, rect);
-    Ok(scene)
+    Ok(())
 }
 
 /// The cells of row `y` from column `x0` to column `x1` of a map of that size.

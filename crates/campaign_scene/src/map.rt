@@ -1,5 +1,5 @@
 //! Maps: their names, sizes, modes and letters.
-ghost use Rattle.std.specs.Prelude.{◌≡◌, ◌<◌, ◌≤◌, true, false, IfOk, IfErr, None, Some, codes, length};
+ghost use Rattle.std.specs.Prelude.{◌≡◌, ◌<◌, ◌≤◌, true, false, IfOk, IfErr, OnOk, None, Some, codes, length};
 ghost use Rattle.std.specs.List.{list_all};
 ghost use Rattle.serde_json.specs.View.{view, items_view};
 ghost use Rattle.json_fields.specs.Objects.{Gives};
@@ -10,7 +10,7 @@ ghost use Rattle.world.specs.Rules.{size_of};
 ghost use Rattle.campaign_json.specs.Kinds.{only};
 ghost use Rattle.campaign_json.specs.Reading.{Fails, here, under, each, field};
 ghost use Rattle.campaign_scene.specs.Kept.{kept};
-ghost use Rattle.campaign_scene.specs.Maps.{frame, lettered, row as row_lem, row_letters as row_letters_lem, with_blank as with_blank_lem, rows as rows_lem, map_keys, new_name as new_name_lem, trail as trail_lem, heading as heading_lem, map as map_lem, maps as maps_lem};
+ghost use Rattle.campaign_scene.specs.Maps.{frame, lettered, row as row_lem, row_letters as row_letters_lem, with_blank, rows as rows_lem, map_keys, new_name as new_name_lem, trail as trail_lem, heading as heading_lem, map as map_lem, maps as maps_lem};
 
 use crate::wall::read_walls;
 use campaign_json::fields::{self, check_object, check_only};
@@ -41,15 +41,28 @@ struct Heading {
 }
 
 /// The scene with the maps of a campaign of that format.
-#[tactic(auto, unfolding(crate::specs::Maps::maps))]
 pub fn read_maps(
     alloc: Global,
     format: Format,
     value: &Value,
-    scene: Scene,
+    mut scene: Scene,
 ) -> Result<Scene, FileFault>
     ensures exact { Gives Fails (λ s. s) result (maps_lem format scene (view value.now)) }
     ensures kept { IfOk result (λ s. kept s ≡ kept scene) }
+{
+    add_maps(alloc, format, value, &mut scene)?;
+    Ok(scene)
+}
+
+#[tactic(auto, unfolding(crate::specs::Maps::maps))]
+fn add_maps(
+    alloc: Global,
+    format: Format,
+    value: &Value,
+    scene: &mut Scene,
+) -> Result<(), FileFault>
+    ensures exact { Gives Fails (λ u. scene.new) result (maps_lem format scene.old (view value.now)) }
+    ensures kept { OnOk result (kept scene.new ≡ kept scene.old) }
 {
     let values = fields::list(alloc, value, "maps", 0, 8)?;
     each_map(alloc, format, values, scene)
@@ -59,35 +72,39 @@ fn each_map(
     alloc: Global,
     format: Format,
     values: &[Value],
-    mut scene: Scene,
-) -> Result<Scene, FileFault>
-    ensures exact { Gives Fails (λ s. s) result
-        (under (codes "maps") (each (λ place. map_lem format) 0 scene (items_view values.now))) }
-    ensures kept { IfOk result (λ s. kept s ≡ kept scene) }
+    scene: &mut Scene,
+) -> Result<(), FileFault>
+    ensures exact { Gives Fails (λ u. scene.new) result
+        (under (codes "maps") (each (λ place. map_lem format) 0 scene.old (items_view values.now))) }
+    ensures kept { OnOk result (kept scene.new ≡ kept scene.old) }
 {
     for (place, value) in values.iter().enumerate() {
-        scene = match read_map(alloc, format, value, scene) {
-            Ok(next) => next,
+        match read_map(alloc, format, value, scene) {
+            Ok(()) => {}
             Err(fault) => return Err(fault.under_item(alloc, "maps", place)),
-        };
+        }
     }
-    Ok(scene)
+    Ok(())
 }
 
 #[tactic(auto, unfolding(crate::specs::Maps::map))]
-fn read_map(alloc: Global, format: Format, value: &Value, scene: Scene) -> Result<Scene, FileFault>
-    ensures exact { Gives Fails (λ s. s) result (map_lem format scene (view value.now)) }
-    ensures kept { IfOk result (λ s. kept s ≡ kept scene) }
+fn read_map(
+    alloc: Global,
+    format: Format,
+    value: &Value,
+    scene: &mut Scene,
+) -> Result<(), FileFault>
+    ensures exact { Gives Fails (λ u. scene.new) result (map_lem format scene.old (view value.now)) }
+    ensures kept { OnOk result (kept scene.new ≡ kept scene.old) }
 {
-    let heading = read_heading(alloc, format, value, &scene)?;
+    let heading = read_heading(alloc, format, value, scene)?;
     let name = heading.name;
     let size = heading.size;
-    let scene = with_blank(&heading, scene)?;
-    let scene = read_rows(alloc, name, size, value, scene)?;
-    let scene = read_walls(alloc, name, WallKind::Vbl, value, scene)?;
-    let scene = read_walls(alloc, name, WallKind::Mbl, value, scene)?;
-    check_keys(alloc, format, value)?;
-    Ok(scene)
+    add_blank(&heading, scene)?;
+    read_rows(alloc, name, size, value, scene)?;
+    read_walls(alloc, name, WallKind::Vbl, value, scene)?;
+    read_walls(alloc, name, WallKind::Mbl, value, scene)?;
+    check_keys(alloc, format, value)
 }
 
 /// The heading of a new map.
@@ -138,14 +155,14 @@ fn check_keys(alloc: Global, format: Format, value: &Value) -> Result<(), FileFa
     }
 }
 
-/// The scene with a new map of that heading, of a name that no map has.
+/// Adds a map of that heading, of a name that no map has.
 #[tactic(auto, using(crate::proofs::Maps::blank_size))]
-fn with_blank(heading: &Heading, mut scene: Scene) -> Result<Scene, FileFault>
-    requires { map_fault scene.maps heading.now.name ≡ None }
-    ensures value { IfOk result (λ s. s ≡ with_blank_lem heading.now scene) }
+fn add_blank(heading: &Heading, scene: &mut Scene) -> Result<(), FileFault>
+    requires { map_fault scene.old.maps heading.now.name ≡ None }
+    ensures value { OnOk result (scene.new ≡ with_blank heading.now scene.old) }
     ensures memory { IfErr result (λ fault. fault ≡ FileFault.Memory) }
-    ensures kept { IfOk result (λ s. kept s ≡ kept scene) }
-    ensures size { IfOk result (λ s. size_of heading.now.name s.maps ≡ Some heading.now.size) }
+    ensures kept { OnOk result (kept scene.new ≡ kept scene.old) }
+    ensures size { OnOk result (size_of heading.now.name scene.new.maps ≡ Some heading.now.size) }
 {
     let name = heading.name;
     match scene.add_map(name, heading.size) {
@@ -155,7 +172,7 @@ fn with_blank(heading: &Heading, mut scene: Scene) -> Result<Scene, FileFault>
     scene.set_mode(name, heading.mode);
     scene.set_shown(name, heading.shown);
     scene.set_trail(name, heading.trail);
-    Ok(scene)
+    Ok(())
 }
 
 /// The name of a new map.
@@ -184,18 +201,18 @@ fn checked_name(value: &Value, scene: &Scene) -> Result<Tag, Rule>
     Ok(name)
 }
 
-/// The scene with the letters of the map of that name, which is of that size.
+/// Reads the letters of the map of that name, which is of that size.
 #[tactic(auto, unfolding(crate::specs::Maps::rows))]
 fn read_rows(
     alloc: Global,
     name: Tag,
     size: Size,
     value: &Value,
-    scene: Scene,
-) -> Result<Scene, FileFault>
-    requires { size_of name scene.maps ≡ Some size }
-    ensures exact { Gives Fails (λ s. s) result (rows_lem name size scene (view value.now)) }
-    ensures kept { IfOk result (λ s. frame name s ≡ frame name scene) }
+    scene: &mut Scene,
+) -> Result<(), FileFault>
+    requires { size_of name scene.old.maps ≡ Some size }
+    ensures exact { Gives Fails (λ u. scene.new) result (rows_lem name size scene.old (view value.now)) }
+    ensures kept { OnOk result (frame name scene.new ≡ frame name scene.old) }
 {
     let rows = usize::from(size.h());
     let values = fields::list(alloc, value, "rows", rows, rows)?;
@@ -207,22 +224,22 @@ fn each_row(
     name: Tag,
     size: Size,
     values: &[Value],
-    mut scene: Scene,
-) -> Result<Scene, FileFault>
-    requires there { size_of name scene.maps ≡ Some size }
+    scene: &mut Scene,
+) -> Result<(), FileFault>
+    requires there { size_of name scene.old.maps ≡ Some size }
     requires count { length values.now ≤ size.h }
-    ensures exact { Gives Fails (λ s. s) result
-        (under (codes "rows") (each (row_lem name size.w) 0 scene (items_view values.now))) }
-    ensures kept { IfOk result (λ s. frame name s ≡ frame name scene) }
+    ensures exact { Gives Fails (λ u. scene.new) result
+        (under (codes "rows") (each (row_lem name size.w) 0 scene.old (items_view values.now))) }
+    ensures kept { OnOk result (frame name scene.new ≡ frame name scene.old) }
 {
     let _height = size.h();
     for (place, value) in values.iter().enumerate() {
-        scene = match read_row(alloc, name, size, place as u8, value, scene) {
-            Ok(next) => next,
+        match read_row(alloc, name, size, place as u8, value, scene) {
+            Ok(()) => {}
             Err(fault) => return Err(fault.under_item(alloc, "rows", place)),
-        };
+        }
     }
-    Ok(scene)
+    Ok(())
 }
 
 #[tactic(auto, unfolding(crate::specs::Maps::row))]
@@ -232,15 +249,18 @@ fn read_row(
     size: Size,
     y: u8,
     value: &Value,
-    scene: Scene,
-) -> Result<Scene, FileFault>
-    requires there { size_of name scene.maps ≡ Some size }
+    scene: &mut Scene,
+) -> Result<(), FileFault>
+    requires there { size_of name scene.old.maps ≡ Some size }
     requires row { y < size.h }
-    ensures exact { Gives Fails (λ s. s) result (row_lem name size.w y scene (view value.now)) }
-    ensures kept { IfOk result (λ s. frame name s ≡ frame name scene) }
+    ensures exact { Gives Fails (λ u. scene.new) result (row_lem name size.w y scene.old (view value.now)) }
+    ensures kept { OnOk result (frame name scene.new ≡ frame name scene.old) }
 {
     match row_letters(value, size) {
-        Ok(letters) => Ok(with_letters(name, size, y, letters, scene)),
+        Ok(letters) => {
+            set_letters(name, size, y, letters, scene);
+            Ok(())
+        }
         Err(rule) => Err(broken(alloc, rule)),
     }
 }
@@ -266,14 +286,14 @@ fn are_letters(letters: &[u8]) -> bool
     letters.iter().all(|letter| is_letter(*letter))
 }
 
-/// The scene with these letters in row `y` of the map of that name, which is of that size.
-fn with_letters(name: Tag, size: Size, y: u8, letters: &[u8], mut scene: Scene) -> Scene
-    requires there { size_of name scene.maps ≡ Some size }
+/// Sets row `y` of the map of that name, which is of that size, to these letters.
+fn set_letters(name: Tag, size: Size, y: u8, letters: &[u8], scene: &mut Scene)
+    requires there { size_of name scene.old.maps ≡ Some size }
     requires row { y < size.h }
     requires count { length letters.now ≤ size.w }
     requires good { list_all is_letter_lem letters.now ≡ true }
-    ensures value { result ≡ lettered name y 0 scene letters.now }
-    ensures kept { frame name result ≡ frame name scene }
+    ensures value { scene.new ≡ lettered name y 0 scene.old letters.now }
+    ensures kept { frame name scene.new ≡ frame name scene.old }
 {
     let _width = size.w();
     for (x, letter) in letters.iter().enumerate() {
@@ -285,5 +305,4 @@ fn with_letters(name: Tag, size: Size, y: u8, letters: &[u8], mut scene: Scene) 
         };
         scene.set_ground(name, cell, *letter);
     }
-    scene
 }

@@ -2,13 +2,14 @@
 ghost use Rattle.std.specs.Prelude.{◌≡◌, IfOk, OnOk, Some, true, false, codes};
 ghost use Rattle.serde_json.specs.View.{view, items_view};
 ghost use Rattle.json_fields.specs.Objects.{Gives};
-ghost use Rattle.tokens.specs.Tokens.{has_token};
+ghost use Rattle.tokens.specs.Tokens.{has_token, put};
+ghost use Rattle.tokens.specs.declared.token.Token.{Token as TokenLem};
 ghost use Rattle.world.specs.Rules.{belongs, fits, size_of, are_players, is_known};
 ghost use Rattle.world.specs.World.{is_used as is_used_lem};
 ghost use Rattle.campaign_json.specs.Kinds.{only};
 ghost use Rattle.campaign_json.specs.Reading.{Fails, here, under, each, field};
 ghost use Rattle.campaign_scene.specs.Kept.{kept_by};
-ghost use Rattle.campaign_scene.specs.Tokens.{may_be_made, new_id as new_id_lem, map_name as map_name_lem, name_or_null as name_or_null_lem, type_name as type_name_lem, cell as cell_lem, owner as owner_lem, owners as owners_lem, bare_token as bare_token_lem, marked as marked_lem, described as described_lem, token as token_lem, token_keys, tokens as tokens_lem};
+ghost use Rattle.campaign_scene.specs.Tokens.{may_be_made, new_id as new_id_lem, map_name as map_name_lem, name_or_null as name_or_null_lem, type_name as type_name_lem, cell as cell_lem, owner as owner_lem, owners as owners_lem, bare_token as bare_token_lem, marked as marked_lem, with_marks, described as described_lem, with_described, token as token_lem, token_keys, tokens as tokens_lem};
 
 use crate::property::read_properties;
 use campaign_json::fields::{self, check_count, check_object, check_only};
@@ -27,16 +28,47 @@ const TOKEN_KEYS: [&str; 13] = [
     "own", "secret",
 ];
 
+/// What a token's value says of its layer, its owners and its types.
+#[derive(Drop)]
+struct Marks {
+    layer: Layer,
+    owners: Owners,
+    visible: bool,
+    sight: Option<Tag>,
+    light: Option<Tag>,
+}
+
+/// What it says of its properties.
+#[derive(Drop)]
+struct TokenProps {
+    public: Props,
+    own: Props,
+    secret: Props,
+}
+
 /// The scene with the tokens of the campaign, whose seats have these books.
-#[tactic(auto, unfolding(crate::specs::Tokens::tokens))]
 pub fn read_tokens(
     alloc: Global,
     books: &[SeatBook],
     value: &Value,
-    scene: Scene,
+    mut scene: Scene,
 ) -> Result<Scene, FileFault>
     ensures exact { Gives Fails (λ s. s) result (tokens_lem books.now scene (view value.now)) }
     ensures kept { IfOk result (λ s. kept_by books.now s ≡ kept_by books.now scene) }
+{
+    add_tokens(alloc, books, value, &mut scene)?;
+    Ok(scene)
+}
+
+#[tactic(auto, unfolding(crate::specs::Tokens::tokens))]
+fn add_tokens(
+    alloc: Global,
+    books: &[SeatBook],
+    value: &Value,
+    scene: &mut Scene,
+) -> Result<(), FileFault>
+    ensures exact { Gives Fails (λ u. scene.new) result (tokens_lem books.now scene.old (view value.now)) }
+    ensures kept { OnOk result (kept_by books.now scene.new ≡ kept_by books.now scene.old) }
 {
     let values = fields::items(alloc, value, "tokens")?;
     each_token(alloc, books, values, scene)
@@ -46,39 +78,56 @@ fn each_token(
     alloc: Global,
     books: &[SeatBook],
     values: &[Value],
-    mut scene: Scene,
-) -> Result<Scene, FileFault>
-    ensures exact { Gives Fails (λ s. s) result
-        (under (codes "tokens") (each (λ place. token_lem books.now) 0 scene (items_view values.now))) }
-    ensures kept { IfOk result (λ s. kept_by books.now s ≡ kept_by books.now scene) }
+    scene: &mut Scene,
+) -> Result<(), FileFault>
+    ensures exact { Gives Fails (λ u. scene.new) result
+        (under (codes "tokens") (each (λ place. token_lem books.now) 0 scene.old (items_view values.now))) }
+    ensures kept { OnOk result (kept_by books.now scene.new ≡ kept_by books.now scene.old) }
 {
     for (place, value) in values.iter().enumerate() {
-        scene = match read_token(alloc, books, value, scene) {
-            Ok(next) => next,
+        match read_token(alloc, books, value, scene) {
+            Ok(()) => {}
             Err(fault) => return Err(fault.under_item(alloc, "tokens", place)),
-        };
+        }
     }
-    Ok(scene)
+    Ok(())
 }
 
-#[tactic(auto, using(crate::proofs::Tokens::kept_with), unfolding(crate::specs::Tokens::token))]
+#[tactic(auto, using(crate::proofs::Tokens::kept_with))]
 fn read_token(
     alloc: Global,
     books: &[SeatBook],
     value: &Value,
-    mut scene: Scene,
-) -> Result<Scene, FileFault>
-    ensures exact { Gives Fails (λ s. s) result (token_lem books.now scene (view value.now)) }
-    ensures kept { IfOk result (λ s. kept_by books.now s ≡ kept_by books.now scene) }
+    scene: &mut Scene,
+) -> Result<(), FileFault>
+    ensures exact { Gives Fails (λ u. scene.new) result (token_lem books.now scene.old (view value.now)) }
+    ensures kept { OnOk result (kept_by books.now scene.new ≡ kept_by books.now scene.old) }
 {
-    let token = bare_token(alloc, books, &scene, value)?;
-    let token = marked(alloc, &scene, token, value)?;
-    let token = described(alloc, &scene, token, value)?;
-    let token = alone(alloc, token, value)?;
+    let token = new_token(alloc, books, scene, value)?;
     match scene.make(token) {
-        Ok(()) => Ok(scene),
+        Ok(()) => Ok(()),
         Err(_) => Err(FileFault::Memory),
     }
+}
+
+/// The token of a value, which may be made.
+#[tactic(auto, unfolding(crate::specs::Tokens::token))]
+fn new_token(
+    alloc: Global,
+    books: &[SeatBook],
+    scene: &Scene,
+    value: &Value,
+) -> Result<Token, FileFault>
+    ensures exact { Gives Fails (λ t. record scene.now { tokens = put t scene.now.tokens }) result
+        (token_lem books.now scene.now (view value.now)) }
+    ensures fitting { IfOk result (λ t. belongs scene.now t ≡ true) }
+    ensures used { IfOk result (λ t. is_used_lem books.now t.id ≡ true) }
+    ensures absent { IfOk result (λ t. has_token t.id scene.now.tokens ≡ false) }
+{
+    let token = bare_token(alloc, books, scene, value)?;
+    let token = marked(alloc, scene, token, value)?;
+    let token = described(alloc, scene, token, value)?;
+    alone(alloc, token, value)
 }
 
 /// The token, of which the value says nothing else.
@@ -126,24 +175,61 @@ fn bare_token(
     })
 }
 
+/// The layer, the owners and the types of a token.
+#[tactic(auto, unfolding(crate::specs::Tokens::marked))]
+fn read_marks(alloc: Global, scene: &Scene, value: &Value) -> Result<Marks, FileFault>
+    ensures exact { (t : TokenLem) → Gives Fails (with_marks t) result (marked_lem scene.now t (view value.now)) }
+    ensures owners { IfOk result (λ m. are_players scene.now.fog.players m.owners ≡ true) }
+    ensures sight { IfOk result (λ m. is_known scene.now.sights m.sight ≡ true) }
+    ensures light { IfOk result (λ m. is_known scene.now.lights m.light ≡ true) }
+{
+    let layer = fields::layer(alloc, value, "layer")?;
+    let owners = read_owners(alloc, scene, value)?;
+    let visible = fields::boolean(alloc, value, "visible")?;
+    let sight = sight(alloc, scene, value)?;
+    let light = light(alloc, scene, value)?;
+    Ok(Marks {
+        layer,
+        owners,
+        visible,
+        sight,
+        light,
+    })
+}
+
 /// The token with its layer, owners and types.
-#[tactic(auto, using(crate::proofs::Tokens::marked_belongs), unfolding(crate::specs::Tokens::marked))]
+#[tactic(auto, using(crate::proofs::Tokens::marked_belongs))]
 fn marked(alloc: Global, scene: &Scene, mut token: Token, value: &Value) -> Result<Token, FileFault>
     requires { belongs scene.now token ≡ true }
     ensures exact { Gives Fails (λ t. t) result (marked_lem scene.now token (view value.now)) }
     ensures fitting { IfOk result (λ t. belongs scene.now t ≡ true) }
     ensures id { IfOk result (λ t. t.id ≡ token.id) }
 {
-    token.layer = fields::layer(alloc, value, "layer")?;
-    token.owners = read_owners(alloc, scene, value)?;
-    token.visible = fields::boolean(alloc, value, "visible")?;
-    token.sight = sight(alloc, scene, value)?;
-    token.light = light(alloc, scene, value)?;
+    let marks = read_marks(alloc, scene, value)?;
+    token.layer = marks.layer;
+    token.owners = marks.owners;
+    token.visible = marks.visible;
+    token.sight = marks.sight;
+    token.light = marks.light;
     Ok(token)
 }
 
-/// The token with its properties.
+/// The properties of a token.
 #[tactic(auto, unfolding(crate::specs::Tokens::described))]
+fn read_all_properties(alloc: Global, value: &Value) -> Result<TokenProps, FileFault>
+    ensures { (t : TokenLem) → Gives Fails (with_described t) result (described_lem t (view value.now)) }
+{
+    let public = read_properties(alloc, value, "props")?;
+    let own = read_properties(alloc, value, "own")?;
+    let secret = read_properties(alloc, value, "secret")?;
+    Ok(TokenProps {
+        public,
+        own,
+        secret,
+    })
+}
+
+/// The token with its properties.
 fn described(
     alloc: Global,
     scene: &Scene,
@@ -155,9 +241,10 @@ fn described(
     ensures fitting { IfOk result (λ t. belongs scene.now t ≡ true) }
     ensures id { IfOk result (λ t. t.id ≡ token.id) }
 {
-    token.public = read_properties(alloc, value, "props")?;
-    token.own = read_properties(alloc, value, "own")?;
-    token.secret = read_properties(alloc, value, "secret")?;
+    let described = read_all_properties(alloc, value)?;
+    token.public = described.public;
+    token.own = described.own;
+    token.secret = described.secret;
     Ok(token)
 }
 

@@ -1,5 +1,5 @@
 //! The types of lights and sights.
-ghost use Rattle.std.specs.Prelude.{◌≡◌, IfOk, codes};
+ghost use Rattle.std.specs.Prelude.{◌≡◌, IfOk, OnOk, codes};
 ghost use Rattle.serde_json.specs.View.{view, members_view};
 ghost use Rattle.json_fields.specs.Objects.{Gives};
 ghost use Rattle.campaign_json.specs.Reading.{Fails, here, under, each_member};
@@ -18,15 +18,28 @@ use world::Scene;
 const MOST_TYPES: usize = 32;
 
 /// The scene with the light types of a campaign of that format.
-#[tactic(auto, unfolding(crate::specs::Types::lights))]
 pub fn read_lights(
     alloc: Global,
     format: Format,
     value: &Value,
-    scene: Scene,
+    mut scene: Scene,
 ) -> Result<Scene, FileFault>
     ensures exact { Gives Fails (λ s. s) result (lights_lem format scene (view value.now)) }
     ensures kept { IfOk result (λ s. kept s ≡ kept scene) }
+{
+    add_lights(alloc, format, value, &mut scene)?;
+    Ok(scene)
+}
+
+#[tactic(auto, unfolding(crate::specs::Types::lights))]
+fn add_lights(
+    alloc: Global,
+    format: Format,
+    value: &Value,
+    scene: &mut Scene,
+) -> Result<(), FileFault>
+    ensures exact { Gives Fails (λ u. scene.new) result (lights_lem format scene.old (view value.now)) }
+    ensures kept { OnOk result (kept scene.new ≡ kept scene.old) }
 {
     let members = fields::members(alloc, value, "lights", MOST_TYPES)?;
     each_light(alloc, format, members, scene)
@@ -36,19 +49,19 @@ fn each_light(
     alloc: Global,
     format: Format,
     members: &Map<String, Value>,
-    mut scene: Scene,
-) -> Result<Scene, FileFault>
-    ensures exact { Gives Fails (λ s. s) result
-        (under (codes "lights") (each_member (light_lem format) scene (members_view members.now.entries))) }
-    ensures kept { IfOk result (λ s. kept s ≡ kept scene) }
+    scene: &mut Scene,
+) -> Result<(), FileFault>
+    ensures exact { Gives Fails (λ u. scene.new) result
+        (under (codes "lights") (each_member (light_lem format) scene.old (members_view members.now.entries))) }
+    ensures kept { OnOk result (kept scene.new ≡ kept scene.old) }
 {
     for (key, value) in members {
-        scene = match read_light(alloc, format, key.as_str(), value, scene) {
-            Ok(next) => next,
+        match read_light(alloc, format, key.as_str(), value, scene) {
+            Ok(()) => {}
             Err(fault) => return Err(fault.under_member(alloc, "lights", key.as_str())),
-        };
+        }
     }
-    Ok(scene)
+    Ok(())
 }
 
 #[tactic(auto, unfolding(crate::specs::Types::light))]
@@ -57,10 +70,10 @@ fn read_light(
     format: Format,
     key: &str,
     value: &Value,
-    mut scene: Scene,
-) -> Result<Scene, FileFault>
-    ensures exact { Gives Fails (λ s. s) result (light_lem format key.now scene (view value.now)) }
-    ensures kept { IfOk result (λ s. kept s ≡ kept scene) }
+    scene: &mut Scene,
+) -> Result<(), FileFault>
+    ensures exact { Gives Fails (λ u. scene.new) result (light_lem format key.now scene.old (view value.now)) }
+    ensures kept { OnOk result (kept scene.new ≡ kept scene.old) }
 {
     let name = fields::tag_key(alloc, key)?;
     let radius = match radius(format, value) {
@@ -68,7 +81,7 @@ fn read_light(
         Err(rule) => return Err(broken(alloc, rule)),
     };
     match scene.set_light_type(name, radius) {
-        Ok(()) => Ok(scene),
+        Ok(()) => Ok(()),
         Err(LightFault::Memory) => Err(FileFault::Memory),
         Err(_) => Err(broken(alloc, Rule::Range)),
     }
@@ -100,10 +113,18 @@ fn is_radius_in(format: Format, radius: i64) -> bool
 }
 
 /// The scene with the sight types of the campaign.
-#[tactic(auto, unfolding(crate::specs::Types::sights))]
-pub fn read_sights(alloc: Global, value: &Value, scene: Scene) -> Result<Scene, FileFault>
+pub fn read_sights(alloc: Global, value: &Value, mut scene: Scene) -> Result<Scene, FileFault>
     ensures exact { Gives Fails (λ s. s) result (sights_lem scene (view value.now)) }
     ensures kept { IfOk result (λ s. kept s ≡ kept scene) }
+{
+    add_sights(alloc, value, &mut scene)?;
+    Ok(scene)
+}
+
+#[tactic(auto, unfolding(crate::specs::Types::sights))]
+fn add_sights(alloc: Global, value: &Value, scene: &mut Scene) -> Result<(), FileFault>
+    ensures exact { Gives Fails (λ u. scene.new) result (sights_lem scene.old (view value.now)) }
+    ensures kept { OnOk result (kept scene.new ≡ kept scene.old) }
 {
     let members = fields::members(alloc, value, "sights", MOST_TYPES)?;
     each_sight(alloc, members, scene)
@@ -112,30 +133,30 @@ pub fn read_sights(alloc: Global, value: &Value, scene: Scene) -> Result<Scene, 
 fn each_sight(
     alloc: Global,
     members: &Map<String, Value>,
-    mut scene: Scene,
-) -> Result<Scene, FileFault>
-    ensures exact { Gives Fails (λ s. s) result
-        (under (codes "sights") (each_member sight_lem scene (members_view members.now.entries))) }
-    ensures kept { IfOk result (λ s. kept s ≡ kept scene) }
+    scene: &mut Scene,
+) -> Result<(), FileFault>
+    ensures exact { Gives Fails (λ u. scene.new) result
+        (under (codes "sights") (each_member sight_lem scene.old (members_view members.now.entries))) }
+    ensures kept { OnOk result (kept scene.new ≡ kept scene.old) }
 {
     for (key, value) in members {
-        scene = match read_sight(alloc, key.as_str(), value, scene) {
-            Ok(next) => next,
+        match read_sight(alloc, key.as_str(), value, scene) {
+            Ok(()) => {}
             Err(fault) => return Err(fault.under_member(alloc, "sights", key.as_str())),
-        };
+        }
     }
-    Ok(scene)
+    Ok(())
 }
 
 #[tactic(auto, unfolding(crate::specs::Types::sight))]
-fn read_sight(alloc: Global, key: &str, value: &Value, mut scene: Scene) -> Result<Scene, FileFault>
-    ensures exact { Gives Fails (λ s. s) result (sight_lem key.now scene (view value.now)) }
-    ensures kept { IfOk result (λ s. kept s ≡ kept scene) }
+fn read_sight(alloc: Global, key: &str, value: &Value, scene: &mut Scene) -> Result<(), FileFault>
+    ensures exact { Gives Fails (λ u. scene.new) result (sight_lem key.now scene.old (view value.now)) }
+    ensures kept { OnOk result (kept scene.new ≡ kept scene.old) }
 {
     let name = fields::tag_key(alloc, key)?;
     let Sight { range, night, mult } = sight_of(alloc, value)?;
     match scene.set_sight_type(name, u32::from(range), u32::from(night), u32::from(mult)) {
-        Ok(()) => Ok(scene),
+        Ok(()) => Ok(()),
         Err(SightFault::Memory) => Err(FileFault::Memory),
         Err(_) => Err(broken(alloc, Rule::Range)),
     }

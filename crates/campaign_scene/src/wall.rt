@@ -1,5 +1,5 @@
 //! Walls.
-ghost use Rattle.std.specs.Prelude.{◌≡◌, IfOk};
+ghost use Rattle.std.specs.Prelude.{◌≡◌, OnOk};
 ghost use Rattle.serde_json.specs.View.{view, items_view};
 ghost use Rattle.json_fields.specs.Objects.{Gives};
 ghost use Rattle.names.specs.Words.{wall_word};
@@ -18,17 +18,17 @@ use std::alloc::Global;
 use topology::{MOST_WALLS, WallFault};
 use world::Scene;
 
-/// The scene with the walls of that kind of the map of that name.
+/// Reads the walls of that kind of the map of that name.
 #[tactic(auto, unfolding(crate::specs::Maps::walls))]
 pub(crate) fn read_walls(
     alloc: Global,
     name: Tag,
     kind: WallKind,
     value: &Value,
-    scene: Scene,
-) -> Result<Scene, FileFault>
-    ensures exact { Gives Fails (λ s. s) result (walls_lem name kind scene (view value.now)) }
-    ensures kept { IfOk result (λ s. kept s ≡ kept scene) }
+    scene: &mut Scene,
+) -> Result<(), FileFault>
+    ensures exact { Gives Fails (λ u. scene.new) result (walls_lem name kind scene.old (view value.now)) }
+    ensures kept { OnOk result (kept scene.new ≡ kept scene.old) }
 {
     let values = fields::list(alloc, value, kind.word(), 0, MOST_WALLS)?;
     each_wall(alloc, name, kind, values, scene)
@@ -39,19 +39,19 @@ fn each_wall(
     name: Tag,
     kind: WallKind,
     values: &[Value],
-    mut scene: Scene,
-) -> Result<Scene, FileFault>
-    ensures exact { Gives Fails (λ s. s) result
-        (under (wall_word kind) (each (λ place. wall_lem name kind) 0 scene (items_view values.now))) }
-    ensures kept { IfOk result (λ s. kept s ≡ kept scene) }
+    scene: &mut Scene,
+) -> Result<(), FileFault>
+    ensures exact { Gives Fails (λ u. scene.new) result
+        (under (wall_word kind) (each (λ place. wall_lem name kind) 0 scene.old (items_view values.now))) }
+    ensures kept { OnOk result (kept scene.new ≡ kept scene.old) }
 {
     for (place, value) in values.iter().enumerate() {
-        scene = match read_wall(alloc, name, kind, value, scene) {
-            Ok(next) => next,
+        match read_wall(alloc, name, kind, value, scene) {
+            Ok(()) => {}
             Err(fault) => return Err(fault.under_item(alloc, kind.word(), place)),
-        };
+        }
     }
-    Ok(scene)
+    Ok(())
 }
 
 #[tactic(auto, unfolding(crate::specs::Maps::wall))]
@@ -60,13 +60,13 @@ fn read_wall(
     name: Tag,
     kind: WallKind,
     value: &Value,
-    scene: Scene,
-) -> Result<Scene, FileFault>
-    ensures exact { Gives Fails (λ s. s) result (wall_lem name kind scene (view value.now)) }
-    ensures kept { IfOk result (λ s. kept s ≡ kept scene) }
+    scene: &mut Scene,
+) -> Result<(), FileFault>
+    ensures exact { Gives Fails (λ u. scene.new) result (wall_lem name kind scene.old (view value.now)) }
+    ensures kept { OnOk result (kept scene.new ≡ kept scene.old) }
 {
     let (first, second) = wall_ends(alloc, value)?;
-    walled_at(alloc, name, kind, first, second, scene)
+    add_wall(alloc, name, kind, first, second, scene)
 }
 
 /// The coordinates of a wall's ends.
@@ -82,18 +82,18 @@ fn wall_ends(alloc: Global, value: &Value) -> Result<((i64, i64), (i64, i64)), F
     Ok(((ax, ay), (bx, by)))
 }
 
-/// The scene with a wall between two points more.
+/// Adds a wall between two points.
 #[tactic(auto, unfolding(crate::specs::Maps::walled_at))]
-fn walled_at(
+fn add_wall(
     alloc: Global,
     name: Tag,
     kind: WallKind,
     first: (i64, i64),
     second: (i64, i64),
-    mut scene: Scene,
-) -> Result<Scene, FileFault>
-    ensures exact { Gives Fails (λ s. s) result (walled_at_lem name kind first second scene) }
-    ensures kept { IfOk result (λ s. kept s ≡ kept scene) }
+    scene: &mut Scene,
+) -> Result<(), FileFault>
+    ensures exact { Gives Fails (λ u. scene.new) result (walled_at_lem name kind first second scene.old) }
+    ensures kept { OnOk result (kept scene.new ≡ kept scene.old) }
 {
     let Some(grid) = scene.maps().get(name) else {
         return Err(broken(alloc, Rule::Cross));
@@ -106,7 +106,7 @@ fn walled_at(
         return Err(broken(alloc, Rule::Cross));
     };
     match scene.add_wall(name, kind, a, b) {
-        Ok(()) => Ok(scene),
+        Ok(()) => Ok(()),
         Err(fault) => Err(wall_breach(alloc, fault)),
     }
 }

@@ -13,4 +13,4 @@ fog_of_map-requires c = ap (λ k. is_player k.0 c.args.seat) c.loop-key.invarian
 pub loop-key-preserved : goal.loop-key-preserved
 loop-key-preserved c =
     let step = rest_more deref_pair c.loop-key.key-iterator c.next.new.self c.next.result _ c.in-Some.is c.next.ensures.steps in
-    member_more (fog_of_map c.args.seat) kept c.args.members.now.entries c.args.scene c.loop-key.key-iterator c.next.new.self c.loop-key.scene c.in-Ok.next c.in-Some.key.now c.in-Some.value.now c.loop-key.invariant step (rw c.as_str.ensures.value at c.in-Ok.ensures.exact) c.in-Ok.ensures.kept
+    member_more (fog_of_map c.args.seat) kept c.args.members.now.entries c.args.scene.now c.loop-key.key-iterator c.next.new.self c.loop-key.scene c.fog_of_map.new.scene c.in-Some.key.now c.in-Some.value.now c.loop-key.invariant step (rw c.as_str.ensures.value at c.in-Ok.ensures.exact) c.in-Ok.ensures.kept

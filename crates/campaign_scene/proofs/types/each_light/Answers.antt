@@ -8,4 +8,4 @@ use Rattle.campaign_scene.proofs.types.each_light.Goals as goal
 pub loop-key-preserved : goal.loop-key-preserved
 loop-key-preserved c =
     let step = rest_more deref_pair c.loop-key.key-iterator c.next.new.self c.next.result _ c.in-Some.is c.next.ensures.steps in
-    member_more (light c.args.format) kept c.args.members.now.entries c.args.scene c.loop-key.key-iterator c.next.new.self c.loop-key.scene c.in-Ok.next c.in-Some.key.now c.in-Some.value.now c.loop-key.invariant step (rw c.as_str.ensures.value at c.in-Ok.ensures.exact) c.in-Ok.ensures.kept
+    member_more (light c.args.format) kept c.args.members.now.entries c.args.scene.now c.loop-key.key-iterator c.next.new.self c.loop-key.scene c.read_light.new.scene c.in-Some.key.now c.in-Some.value.now c.loop-key.invariant step (rw c.as_str.ensures.value at c.in-Ok.ensures.exact) c.in-Ok.ensures.kept
