@@ -1,12 +1,12 @@
 -- Entries are read back from their bytes, and bytes that are an entry's are those of the entry that is read.
-use Rattle.std.proofs.Common.{◌≡◌, ◌≤◌, ◌<◌, ◌^◌, ◌==◌, inl, inr, ℕ, suc, ◌+◌, List, [], ◌∷◌, ◌++◌, length, get_or, take, drop, refl, sym, ◌∙◌, ap, subst, arith, append_assoc, length-append, length-drop, take-append-drop, Option, Some, None, true, false, Bool}
+use Rattle.std.proofs.Common.{◌≡◌, ◌≤◌, ◌<◌, ◌^◌, inl, inr, ℕ, suc, ◌+◌, List, [], ◌∷◌, ◌++◌, length, get_or, take, drop, refl, sym, ◌∙◌, ap, arith, append_assoc, length-append, length-drop, take-append-drop, Option, Some, None, true, false}
 use Rattle.std.specs.Prelude.{IfSome}
 use Rattle.std.specs.Int.{w64, to_be_bytes, from_be_bytes}
 use Rattle.std.proofs.lemmas.Nat.{from_be_bytes-to_be_bytes_8, be_bytes_8}
 use Rattle.std.proofs.lemmas.Bool.{cases_eq, cases_lt}
 use Rattle.std.proofs.lemmas.Bool.Decides.{nat_tests}
-use Rattle.std.proofs.lemmas.List.{take_at, drop_at, append-nil, length-take, drop-drop, get_or-take, get_or-drop, get_or_past}
-use Rattle.crash_log.specs.Entries.{entry_bytes, entry_of, kind_of, join_of, leave_of, taken_of, cut_of, flag, InRange, Fits}
+use Rattle.std.proofs.lemmas.List.{take_at, drop_at, length-take, drop-drop, get_or-take, get_or-drop, get_or_past}
+use Rattle.crash_log.specs.Entries.{entry_bytes, entry_of, kind_of, join_of, leave_of, taken_of, cut_of, InRange}
 use Rattle.campaign_law.specs.declared.entry.Entry.{Entry}
 use Rattle.campaign_law.specs.declared.entry.Entry.TheVariants.{Join, Line, Leave, Taken, Cut}
 

@@ -1,11 +1,11 @@
 -- The reading of a log: calls that change nothing, and what the bytes that were read say of a gate.
-use Rattle.std.proofs.Common.{◌≡◌, ◌≢◌, ◌≤◌, ◌<◌, ◌^◌, ◌⊎◌, inl, inr, ⊎_elim, ℕ, zero, suc, ◌+◌, ◌-◌, min, List, [], ◌∷◌, ◌++◌, length, get_or, take, drop, refl, sym, ◌∙◌, ap, subst, arith, append_assoc, length-append, length-drop, take-append-drop, Option, Some, None}
+use Rattle.std.proofs.Common.{◌≡◌, ◌≤◌, ◌<◌, ◌^◌, ◌⊎◌, inr, ⊎_elim, ℕ, zero, suc, ◌+◌, ◌-◌, min, List, [], ◌∷◌, ◌++◌, length, get_or, take, drop, refl, sym, ◌∙◌, ap, arith, append_assoc, length-append, length-drop, take-append-drop, Some, None}
 use Rattle.std.specs.Int.{w32, to_be_bytes, from_be_bytes}
 use Rattle.std.proofs.lemmas.Nat.{from_be_bytes-to_be_bytes_4}
-use Rattle.std.proofs.lemmas.List.{take_at, drop_at, drop_more, drop-drop, take_all, length-take, drop_all}
-use Rattle.crash_log.specs.Disk.{Stays, Elapses, LeavesOnly, NoMore}
+use Rattle.std.proofs.lemmas.List.{take_at, drop_at, drop_more, drop-drop, take_all, drop_all}
+use Rattle.crash_log.specs.Disk.{Stays, Elapses}
 use Rattle.crash_log.specs.Entries.{entry_bytes, entry_of, Fits, InRange}
-use Rattle.crash_log.specs.Log.{sized_bytes, record_bytes, OpensBadRecord, IsBadGate}
+use Rattle.crash_log.specs.Log.{sized_bytes, OpensBadRecord, IsBadGate}
 use Rattle.crash_log.specs.Reading.{OnlyRead, OpensSize, HasRecord, IsGateFault, IsEntryFault, IsWantOrFault}
 use Rattle.crash_log.specs.declared.faults.LogFault.{LogFault}
 use Rattle.crash_log.specs.declared.faults.LogFault.TheVariants.{DiskFault, BadLog, Full, Memory}

@@ -1,9 +1,9 @@
 -- One more call joins those that a disk in memory did.
-use Rattle.std.proofs.Common.{◌≡◌, inl, inr, ⊎_elim, ℕ, ◌+◌, ◌-◌, ◌≤◌, max, List, [], ◌∷◌, ◌++◌, length, take, drop, refl, sym, ◌∙◌, ap, subst, arith, append_assoc, length-append, length-drop}
+use Rattle.std.proofs.Common.{◌≡◌, inl, inr, ⊎_elim, ℕ, ◌+◌, ◌-◌, ◌≤◌, List, [], ◌∷◌, ◌++◌, length, take, drop, refl, sym, ◌∙◌, ap, subst, arith, append_assoc, length-append, length-drop}
 use Rattle.std.proofs.lemmas.Bool.{cases_lt}
 use Rattle.std.proofs.lemmas.List.{take_at, drop_at, take-append-le, length-take}
-use Rattle.crash_log.specs.Disk.{Torn, Holds, Follows, Only, NoMore, Stays, Elapses}
-use Rattle.crash_log.specs.Memory.{FileState, MemoryDisk, settled, overlaid, after_call, after_calls, Reaches, IsImage, state_of, state_at, LeftSince, Passes, IsLeftAs, only_now}
+use Rattle.crash_log.specs.Disk.{Torn, Holds, Follows, Only, NoMore}
+use Rattle.crash_log.specs.Memory.{FileState, MemoryDisk, settled, overlaid, after_call, after_calls, Reaches, IsImage, state_of, state_at, Passes, IsLeftAs, only_now}
 use Rattle.crash_log.specs.declared.calls.Call.{Call}
 use Rattle.crash_log.proofs.Crash.{torn_refl}
 use Rattle.crash_log.specs.declared.calls.Call.TheVariants.{Asked, Wrote, Synced}

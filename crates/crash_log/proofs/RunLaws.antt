@@ -1,10 +1,10 @@
 -- Whatever a crash leaves in a run of calls on a log.
-use Rattle.std.proofs.Common.{◌≡◌, ◌≤◌, inl, inr, ⊎_elim, ℕ, zero, suc, List, [], ◌∷◌, ◌++◌, take, refl, sym, ◌∙◌, ap, subst, append_assoc, Ok, Err}
+use Rattle.std.proofs.Common.{◌≡◌, ◌≤◌, inl, inr, ⊎_elim, ℕ, suc, List, [], ◌∷◌, ◌++◌, take, refl, sym, ◌∙◌, ap, subst, append_assoc, Ok, Err}
 use Rattle.std.proofs.lemmas.List.{append-nil}
 use Rattle.campaign_law.specs.declared.entry.Entry.{Entry}
 use Rattle.crash_log.specs.declared.faults.LogFault.TheVariants.{DiskFault, BadLog, Full, Memory}
 use Rattle.crash_log.specs.Disk.{LeavesOnly}
-use Rattle.crash_log.specs.Log.{IsLog, IsBeforeOrAfter, HoldsLog}
+use Rattle.crash_log.specs.Log.{IsLog, IsNoneOrAll, HoldsLog}
 use Rattle.crash_log.specs.Runs.{LogCall, appends, reads, Reads, Runs, AppendsNone, IsInTurn, acknowledged, in_doubt, IsKept, KeptIsRead, OutlivesCrashes}
 use Rattle.crash_log.proofs.LogLaws.{log_same, log_not_bad}
 use Rattle.crash_log.proofs.Moments.{started, leaves_then, leaves_weaker}
@@ -13,22 +13,22 @@ use Rattle.crash_log.proofs.Moments.{started, leaves_then, leaves_weaker}
 
 acknowledged-none : (calls : List LogCall) → AppendsNone calls → acknowledged calls ≡ []
 acknowledged-none [] none = refl
-acknowledged-none (appends e answer ∷ calls) none = absurd none
+acknowledged-none (appends group answer ∷ calls) none = absurd none
 acknowledged-none (reads ∷ calls) none = acknowledged-none calls none
 
 in_doubt-none : (calls : List LogCall) → AppendsNone calls → in_doubt calls ≡ []
 in_doubt-none [] none = refl
-in_doubt-none (appends e answer ∷ calls) none = absurd none
+in_doubt-none (appends group answer ∷ calls) none = absurd none
 in_doubt-none (reads ∷ calls) none = in_doubt-none calls none
 
 none_first : (before since : List LogCall) → AppendsNone (before ++ since) → AppendsNone before
 none_first [] since none = tt
-none_first (appends e answer ∷ before) since none = none
+none_first (appends group answer ∷ before) since none = none
 none_first (reads ∷ before) since none = none_first before since none
 
 none_then : (before since : List LogCall) → AppendsNone (before ++ since) → AppendsNone since
 none_then [] since none = none
-none_then (appends e answer ∷ before) since none = absurd none
+none_then (appends group answer ∷ before) since none = absurd none
 none_then (reads ∷ before) since none = none_then before since none
 
 -- ---- what is kept
@@ -36,13 +36,13 @@ none_then (reads ∷ before) since none = none_then before since none
 kept_first : (text : List ℕ) (first : List Entry) (file : List ℕ) → IsLog text first file → IsKept text first [] file
 kept_first text first file log = inl (subst (λ (es : List Entry). IsLog text es file) (sym (append-nil first)) log)
 
-kept_one_more : (text : List ℕ) (first : List Entry) (e : Entry) (done : Unit {0}) (calls : List LogCall) (file : List ℕ) → IsKept text (first ++ e ∷ []) calls file → IsKept text first (appends e (Ok done) ∷ calls) file
-kept_one_more text first e done calls file (inl log) = inl (subst (λ (es : List Entry). IsLog text es file) (append_assoc first (e ∷ []) (acknowledged calls)) log)
-kept_one_more text first e done calls file (inr log) = inr (subst (λ (es : List Entry). IsLog text es file) (append_assoc first (e ∷ []) (acknowledged calls ++ in_doubt calls)) log)
+kept_more : (text : List ℕ) (first group : List Entry) (done : Unit {0}) (calls : List LogCall) (file : List ℕ) → IsKept text (first ++ group) calls file → IsKept text first (appends group (Ok done) ∷ calls) file
+kept_more text first group done calls file (inl log) = inl (subst (λ (es : List Entry). IsLog text es file) (append_assoc first group (acknowledged calls)) log)
+kept_more text first group done calls file (inr log) = inr (subst (λ (es : List Entry). IsLog text es file) (append_assoc first group (acknowledged calls ++ in_doubt calls) ∙ ap (λ (es : List Entry). first ++ es) (sym (append_assoc group (acknowledged calls) (in_doubt calls)))) log)
 
-kept_in_doubt : (text : List ℕ) (first : List Entry) (e : Entry) (calls : List LogCall) (file : List ℕ) → AppendsNone calls → IsBeforeOrAfter text first e file → IsKept text first (appends e (Err DiskFault) ∷ calls) file
-kept_in_doubt text first e calls file none (inl log) = inl (subst (λ (es : List Entry). IsLog text es file) (sym (ap (λ (es : List Entry). first ++ es) (acknowledged-none calls none) ∙ append-nil first)) log)
-kept_in_doubt text first e calls file none (inr log) = inr (subst (λ (es : List Entry). IsLog text es file) (sym (λ i. first ++ (acknowledged-none calls none i ++ e ∷ in_doubt-none calls none i))) log)
+kept_in_doubt : (text : List ℕ) (first group : List Entry) (calls : List LogCall) (file : List ℕ) → AppendsNone calls → IsNoneOrAll text first group file → IsKept text first (appends group (Err DiskFault) ∷ calls) file
+kept_in_doubt text first group calls file none (inl log) = inl (subst (λ (es : List Entry). IsLog text es file) (sym (ap (λ (es : List Entry). first ++ es) (acknowledged-none calls none) ∙ append-nil first)) log)
+kept_in_doubt text first group calls file none (inr log) = inr (subst (λ (es : List Entry). IsLog text es file) (sym ((λ i. first ++ (acknowledged-none calls none i ++ (group ++ in_doubt-none calls none i))) ∙ ap (λ (es : List Entry). first ++ es) (append-nil group))) log)
 
 -- what is kept is read as it was
 pub kept_is_read : KeptIsRead
@@ -77,7 +77,7 @@ module _ {D : Type 0} (seen : D → List ℕ) (may_leave : D → List ℕ → Ty
 
   quiet : (calls : List LogCall) (old new : D) (start end : ℕ) → AppendsNone calls → Runs seen may_leave moment left_since calls old start new end → LeavesOnly moment left_since old new (may_leave old)
   quiet [] old new start end none run = subst (λ d. LeavesOnly moment left_since old d (may_leave old)) (sym run.0) (started moment left_since may_leave old (may_leave old) (only_now old))
-  quiet (appends e answer ∷ calls) old new start end none run = absurd none
+  quiet (appends group answer ∷ calls) old new start end none run = absurd none
   quiet (reads ∷ calls) old new start end none run =
       leaves_then moment left_since may_leave old run.0 new (may_leave old) (may_leave run.0) run.2.0.any_moment (quiet calls run.0 new run.1 end none run.3)
       (left_now old run.0 (may_leave old) run.2.0.any_moment)
@@ -89,26 +89,26 @@ module _ {D : Type 0} (seen : D → List ℕ) (may_leave : D → List ℕ → Ty
       subst (λ d. LeavesOnly moment left_since old d (λ file. (n : ℕ) × IsKept text first (take n []) file)) (sym run.0)
       (started moment left_since may_leave old (λ file. (n : ℕ) × IsKept text first (take n []) file)
       (λ c left. (0, kept_first text first c (subst (IsLog text first) (sym (holds.durable c (only_now old c left))) holds.log))))
-  from_held text first (appends e (Ok done) ∷ calls) old new start end holds turn run =
-      leaves_then moment left_since may_leave old run.0 new (λ file. (n : ℕ) × IsKept text first (take n (appends e (Ok done) ∷ calls)) file)
-      (λ file. (n : ℕ) × IsKept text (first ++ e ∷ []) (take n calls) file)
-      (leaves_weaker moment left_since may_leave old run.0 (λ file. (n : ℕ) × IsKept text first (take n (appends e (Ok done) ∷ calls)) file) (IsBeforeOrAfter text first e) (run.2.any_moment text first holds)
-      (λ c. ⊎_elim (λ log. (0, kept_first text first c log)) (λ log. (1, kept_one_more text first e done [] c (kept_first text (first ++ e ∷ []) c log)))))
-      (from_held text (first ++ e ∷ []) calls run.0 new run.1 end (run.2.acknowledged text first holds) turn run.3)
-      (λ c kept. (suc kept.0, kept_one_more text first e done (take kept.0 calls) c kept.1))
-  from_held text first (appends e (Err DiskFault) ∷ calls) old new start end holds turn run =
-      leaves_weaker moment left_since may_leave old new (λ file. (n : ℕ) × IsKept text first (take n (appends e (Err DiskFault) ∷ calls)) file) (IsBeforeOrAfter text first e)
-      (leaves_then moment left_since may_leave old run.0 new (IsBeforeOrAfter text first e) (may_leave run.0) (run.2.any_moment text first holds) (quiet calls run.0 new run.1 end turn run.3)
-      (left_now old run.0 (IsBeforeOrAfter text first e) (run.2.any_moment text first holds)))
-      (λ c either. (1, kept_in_doubt text first e [] c tt either))
-  from_held text first (appends e (Err (BadLog at)) ∷ calls) old new start end holds turn run = absurd run.2.fault
-  from_held text first (appends e (Err Full) ∷ calls) old new start end holds turn run =
-      leaves_weaker moment left_since may_leave old new (λ file. (n : ℕ) × IsKept text first (take n (appends e (Err Full) ∷ calls)) file) (λ file. (n : ℕ) × IsKept text first (take n calls) file)
+  from_held text first (appends group (Ok done) ∷ calls) old new start end holds turn run =
+      leaves_then moment left_since may_leave old run.0 new (λ file. (n : ℕ) × IsKept text first (take n (appends group (Ok done) ∷ calls)) file)
+      (λ file. (n : ℕ) × IsKept text (first ++ group) (take n calls) file)
+      (leaves_weaker moment left_since may_leave old run.0 (λ file. (n : ℕ) × IsKept text first (take n (appends group (Ok done) ∷ calls)) file) (IsNoneOrAll text first group) (run.2.any_moment text first holds)
+      (λ c. ⊎_elim (λ log. (0, kept_first text first c log)) (λ log. (1, kept_more text first group done [] c (kept_first text (first ++ group) c log)))))
+      (from_held text (first ++ group) calls run.0 new run.1 end (run.2.acknowledged text first holds) turn run.3)
+      (λ c kept. (suc kept.0, kept_more text first group done (take kept.0 calls) c kept.1))
+  from_held text first (appends group (Err DiskFault) ∷ calls) old new start end holds turn run =
+      leaves_weaker moment left_since may_leave old new (λ file. (n : ℕ) × IsKept text first (take n (appends group (Err DiskFault) ∷ calls)) file) (IsNoneOrAll text first group)
+      (leaves_then moment left_since may_leave old run.0 new (IsNoneOrAll text first group) (may_leave run.0) (run.2.any_moment text first holds) (quiet calls run.0 new run.1 end turn run.3)
+      (left_now old run.0 (IsNoneOrAll text first group) (run.2.any_moment text first holds)))
+      (λ c either. (1, kept_in_doubt text first group [] c tt either))
+  from_held text first (appends group (Err (BadLog at)) ∷ calls) old new start end holds turn run = absurd run.2.fault
+  from_held text first (appends group (Err Full) ∷ calls) old new start end holds turn run =
+      leaves_weaker moment left_since may_leave old new (λ file. (n : ℕ) × IsKept text first (take n (appends group (Err Full) ∷ calls)) file) (λ file. (n : ℕ) × IsKept text first (take n calls) file)
       (subst (λ d. LeavesOnly moment left_since d new (λ file. (n : ℕ) × IsKept text first (take n calls) file)) (run.2.unchanged refl)
       (from_held text first calls run.0 new run.1 end (held_at text first old run.0 start run.1 (run.2.unchanged refl) run.2.end_same holds) turn run.3))
       (λ c kept. (suc kept.0, kept.1))
-  from_held text first (appends e (Err Memory) ∷ calls) old new start end holds turn run =
-      leaves_weaker moment left_since may_leave old new (λ file. (n : ℕ) × IsKept text first (take n (appends e (Err Memory) ∷ calls)) file) (λ file. (n : ℕ) × IsKept text first (take n calls) file)
+  from_held text first (appends group (Err Memory) ∷ calls) old new start end holds turn run =
+      leaves_weaker moment left_since may_leave old new (λ file. (n : ℕ) × IsKept text first (take n (appends group (Err Memory) ∷ calls)) file) (λ file. (n : ℕ) × IsKept text first (take n calls) file)
       (subst (λ d. LeavesOnly moment left_since d new (λ file. (n : ℕ) × IsKept text first (take n calls) file)) (run.2.unchanged_memory refl)
       (from_held text first calls run.0 new run.1 end (held_at text first old run.0 start run.1 (run.2.unchanged_memory refl) run.2.end_same holds) turn run.3))
       (λ c kept. (suc kept.0, kept.1))
@@ -124,25 +124,25 @@ module _ {D : Type 0} (seen : D → List ℕ) (may_leave : D → List ℕ → Ty
   pub outlives : OutlivesCrashes seen may_leave moment left_since
   outlives text first [] since old mid new start middle end holds turn run then_run =
       from_held text first since mid new middle end (held_at text first old mid start middle run.0 run.1 holds) turn then_run
-  outlives text first (appends e (Ok done) ∷ before) since old mid new start middle end holds turn run then_run =
-      leaves_weaker moment left_since may_leave mid new (λ file. (n : ℕ) × IsKept text first (appends e (Ok done) ∷ (before ++ take n since)) file)
-      (λ file. (n : ℕ) × IsKept text (first ++ e ∷ []) (before ++ take n since) file)
-      (outlives text (first ++ e ∷ []) before since run.0 mid new run.1 middle end (run.2.acknowledged text first holds) turn run.3 then_run)
-      (λ c kept. (kept.0, kept_one_more text first e done (before ++ take kept.0 since) c kept.1))
-  outlives text first (appends e (Err DiskFault) ∷ before) since old mid new start middle end holds turn run then_run =
+  outlives text first (appends group (Ok done) ∷ before) since old mid new start middle end holds turn run then_run =
+      leaves_weaker moment left_since may_leave mid new (λ file. (n : ℕ) × IsKept text first (appends group (Ok done) ∷ (before ++ take n since)) file)
+      (λ file. (n : ℕ) × IsKept text (first ++ group) (before ++ take n since) file)
+      (outlives text (first ++ group) before since run.0 mid new run.1 middle end (run.2.acknowledged text first holds) turn run.3 then_run)
+      (λ c kept. (kept.0, kept_more text first group done (before ++ take kept.0 since) c kept.1))
+  outlives text first (appends group (Err DiskFault) ∷ before) since old mid new start middle end holds turn run then_run =
       let none = none_first before since turn in
       let first_quiet = quiet before run.0 mid run.1 middle none run.3 in
-      leaves_weaker moment left_since may_leave mid new (λ file. (n : ℕ) × IsKept text first (appends e (Err DiskFault) ∷ (before ++ take n since)) file) (may_leave mid)
+      leaves_weaker moment left_since may_leave mid new (λ file. (n : ℕ) × IsKept text first (appends group (Err DiskFault) ∷ (before ++ take n since)) file) (may_leave mid)
       (quiet since mid new middle end (none_then before since turn) then_run)
       (λ c now. (
         0,
-        kept_in_doubt text first e (before ++ []) c (subst AppendsNone (sym (append-nil before)) none)
-            (left_now old run.0 (IsBeforeOrAfter text first e) (run.2.any_moment text first holds) c (left_now run.0 mid (may_leave run.0) first_quiet c now)),
+        kept_in_doubt text first group (before ++ []) c (subst AppendsNone (sym (append-nil before)) none)
+            (left_now old run.0 (IsNoneOrAll text first group) (run.2.any_moment text first holds) c (left_now run.0 mid (may_leave run.0) first_quiet c now)),
       ))
-  outlives text first (appends e (Err (BadLog at)) ∷ before) since old mid new start middle end holds turn run then_run = absurd run.2.fault
-  outlives text first (appends e (Err Full) ∷ before) since old mid new start middle end holds turn run then_run =
+  outlives text first (appends group (Err (BadLog at)) ∷ before) since old mid new start middle end holds turn run then_run = absurd run.2.fault
+  outlives text first (appends group (Err Full) ∷ before) since old mid new start middle end holds turn run then_run =
       outlives text first before since run.0 mid new run.1 middle end (held_at text first old run.0 start run.1 (run.2.unchanged refl) run.2.end_same holds) turn run.3 then_run
-  outlives text first (appends e (Err Memory) ∷ before) since old mid new start middle end holds turn run then_run =
+  outlives text first (appends group (Err Memory) ∷ before) since old mid new start middle end holds turn run then_run =
       outlives text first before since run.0 mid new run.1 middle end (held_at text first old run.0 start run.1 (run.2.unchanged_memory refl) run.2.end_same holds) turn run.3 then_run
   outlives text first (reads ∷ before) since old mid new start middle end holds turn run then_run =
       outlives text first before since run.0 mid new run.1 middle end

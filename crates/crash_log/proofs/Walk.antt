@@ -1,11 +1,11 @@
 -- The walk over a log, gate by gate.
-use Rattle.std.proofs.Common.{◌≡◌, ◌≢◌, ◌≤◌, ◌<◌, ◌^◌, inl, inr, ℕ, ◌+◌, List, [], ◌∷◌, ◌++◌, length, take, drop, refl, sym, ◌∙◌, ap, subst, arith, append_assoc, length-append, take-append-drop, length-drop}
-use Rattle.std.specs.Prelude.{All, codes}
+use Rattle.std.proofs.Common.{◌≡◌, ◌≤◌, ◌<◌, ◌^◌, ℕ, ◌+◌, List, [], ◌∷◌, ◌++◌, length, take, drop, refl, sym, ◌∙◌, ap, subst, arith, append_assoc, length-append, take-append-drop, length-drop}
+use Rattle.std.specs.Prelude.{codes}
 use Rattle.std.specs.Int.{w32, to_be_bytes}
-use Rattle.std.proofs.lemmas.List.{take_at, drop_at, append-nil, take_all, drop-drop, take-append-le, drop-append-le}
+use Rattle.std.proofs.lemmas.List.{take_at, drop_at, take_all, drop-drop, take-append-le, drop-append-le}
 use Rattle.std.proofs.lemmas.List.Elements.{All-nil, All-push}
 use Rattle.crash_log.specs.Entries.{entry_bytes, Fits}
-use Rattle.crash_log.specs.Log.{head_bytes, record_bytes, open_part, IsLog, IsBadGate, HasBadGate, HasNoHead}
+use Rattle.crash_log.specs.Log.{head_bytes, record_bytes, open_part, IsLog, IsBadGate, HasBadGate}
 use Rattle.crash_log.specs.Reading.{HasHead, IsShut, HasRecord, IsReadTo, IsGateFault, IsRecordsFault}
 use Rattle.campaign_law.specs.declared.entry.Entry.{Entry}
 use Rattle.crash_log.specs.declared.faults.LogFault.{LogFault}

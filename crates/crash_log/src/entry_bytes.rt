@@ -1,16 +1,25 @@
 //! Entries as the bytes of a log, and back.
-ghost use Rattle.std.specs.Prelude.{◌≡◌, ◌≤◌, ◌<◌, ◌+◌, ◌^◌, ◌++◌, ◌∷◌, [], ℕ, length, IfOk, IfSome, OnOk};
+ghost use Rattle.std.specs.Prelude.{◌≡◌, ◌≤◌, ◌<◌, ◌+◌, ◌^◌, ◌++◌, ◌∷◌, [], ◌↔◌, ℕ, length, All, IfOk, IfSome, IsTrue, None, OnOk};
 ghost use Rattle.campaign_law.specs.declared.entry.Entry.TheVariants.{Join, Line};
 ghost use Rattle.std.specs.Int.{w32, w64, to_be_bytes, from_be_bytes};
-ghost use Rattle.crash_log.specs.Entries.{entry_bytes as entry_bytes_lem, entry_of, join_of, leave_of, taken_of, cut_of, InRange};
-ghost use Rattle.crash_log.specs.Log.{sized_bytes};
+ghost use Rattle.std.specs.List.{flat_map};
+ghost use Rattle.crash_log.specs.Entries.{entry_bytes as entry_bytes_lem, entry_of, join_of, leave_of, taken_of, cut_of, InRange, IsShort, Fits};
+ghost use Rattle.crash_log.specs.Log.{record_bytes};
 
+use crate::journal::GATE_LIMIT;
 use campaign_law::Entry;
 use names::{LineText, Memory, SeatNo};
 use std::alloc::{AllocError, Global};
 
 /// The most bytes of an entry.
 pub(crate) const ENTRY_BYTES: usize = 4_098;
+
+/// Whether the entry has no more bytes than a log takes.
+pub fn is_short(entry: &Entry) -> bool
+    ensures { IsTrue result ↔ IsShort entry.now }
+{
+    entry_size(entry) <= ENTRY_BYTES
+}
 
 /// How many bytes the entry has in a log.
 pub(crate) fn entry_size(entry: &Entry) -> usize
@@ -59,16 +68,47 @@ fn taken_size(seat: SeatNo, count: u64) -> usize
     10
 }
 
-/// What stands behind a gate: the entry's size, its bytes, and a closed gate.
-pub(crate) fn sealed(alloc: Global, entry: &Entry, size: u32) -> Result<Vec<u8>, Memory>
-    requires { size ≡ length (entry_bytes_lem entry.now) }
-    ensures { IfOk result (λ piece. piece.items ≡ sized_bytes entry.now ++ 0 ∷ []) }
+/// Where the next gate stands behind these entries, the first of which has its gate at this place; none, where that isn't below
+/// `GATE_LIMIT`.
+pub(crate) fn gate_behind(gate: u64, entries: &[Entry]) -> Option<u64>
+    requires place { gate < 2 ^ 30 }
+    requires short { All IsShort entries.now }
+    ensures place { IfSome result (λ next. next ≡ gate + length (flat_map record_bytes entries.now)) }
+    ensures low { IfSome result (λ next. next < 2 ^ 30) }
+    ensures fit { IfSome result (λ _. All Fits entries.now) }
+    ensures full { result ≡ None → 2 ^ 30 ≤ gate + length (flat_map record_bytes entries.now) }
 {
-    let mut piece = Vec::new(alloc);
-    added(&mut piece, &size.to_be_bytes())?;
-    add_entry(&mut piece, entry)?;
-    added(&mut piece, &[0])?;
-    Ok(piece)
+    let mut next = gate;
+    for entry in entries {
+        next = next + 5 + entry_size(entry) as u64;
+        if next >= GATE_LIMIT {
+            return None;
+        }
+    }
+    Some(next)
+}
+
+/// The entries as records, each behind an open gate, and a closed gate behind the last.
+pub(crate) fn sealed(alloc: Global, entries: &[Entry]) -> Result<Vec<u8>, Memory>
+    requires short { All IsShort entries.now }
+    ensures { IfOk result (λ group. group.items ≡ flat_map record_bytes entries.now ++ 0 ∷ []) }
+{
+    let mut group = Vec::new(alloc);
+    for entry in entries {
+        add_record(&mut group, entry)?;
+    }
+    added(&mut group, &[0])?;
+    Ok(group)
+}
+
+fn add_record(group: &mut Vec<u8>, entry: &Entry) -> Result<(), Memory>
+    requires { IsShort entry.now }
+    ensures { OnOk result (group.new.items ≡ group.old.items ++ record_bytes entry.now) }
+{
+    let size = entry_size(entry) as u32;
+    added(group, &[1])?;
+    added(group, &size.to_be_bytes())?;
+    add_entry(group, entry)
 }
 
 fn added(piece: &mut Vec<u8>, bytes: &[u8]) -> Result<(), Memory>

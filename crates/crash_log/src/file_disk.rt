@@ -15,14 +15,14 @@ use std::rt::Files;
 /// A file that is opened by its path, or made. It is locked, so that no other program writes to it meanwhile. After a sync that
 /// failed nothing more is asked of it until it is opened again, since the system may have dropped what was written.
 #[derive(Drop)]
-pub struct FileDisk<'rt, R> {
-    rt: &'rt R,
+pub struct FileDisk<R> {
+    rt: R,
     file: Option<File>,
     faults: u64,
 }
 
 // Contracts see the count of its faults.
-impl<'rt, R> Model for FileDisk<'rt, R> {
+impl<R> Model for FileDisk<R> {
     ghost use Rattle.std.specs.Prelude.{ℕ};
 
     ghost Value = { ℕ };
@@ -30,9 +30,9 @@ impl<'rt, R> Model for FileDisk<'rt, R> {
     ghost view = { λ d. d.faults };
 }
 
-impl<'rt, R> FileDisk<'rt, R> {
+impl<R> FileDisk<R> {
     /// A disk without a file, and without faults so far.
-    pub fn new(rt: &'rt R) -> FileDisk<'rt, R>
+    pub fn new(rt: R) -> FileDisk<R>
         ensures { result ≡ 0 }
     {
         FileDisk {
@@ -103,7 +103,7 @@ fn filled(file: &File, at: u64, piece: &mut [u8]) -> io::Result<usize>
     Ok(count)
 }
 
-impl<'rt, R: Files<File = File> + AllocGlobal> Disk for FileDisk<'rt, R> {
+impl<R: Files<File = File> + AllocGlobal> Disk for FileDisk<R> {
     ghost tells = { ⊥ };
 
     ghost seen = { λ _. [] };
@@ -125,7 +125,7 @@ impl<'rt, R: Files<File = File> + AllocGlobal> Disk for FileDisk<'rt, R> {
     fn open(&mut self, name: &str) -> Result<(), Failed> {
         // The lock on the file that it has is let go first: it may be the same one.
         self.file = None;
-        match opened(self.rt, name) {
+        match opened(&self.rt, name) {
             Ok(file) => {
                 self.file = Some(file);
                 Ok(())

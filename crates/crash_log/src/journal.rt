@@ -1,19 +1,20 @@
 //! A log on a disk: it is made, and entries are put behind it. An entry's gate is opened once the entry is safe.
-ghost use Rattle.std.specs.Prelude.{◌≡◌, ◌≤◌, ◌<◌, ◌+◌, ◌^◌, ◌++◌, ◌∷◌, [], ℕ, List, length, IfOk, IfErr, OnOk, OnErr, IsErrOf};
+ghost use Rattle.std.specs.Prelude.{◌≡◌, ◌≤◌, ◌<◌, ◌+◌, ◌^◌, ◌∷◌, [], length, All, IfOk, IfErr, IsOk, OnOk, OnErr, IsErrOf};
+ghost use Rattle.std.specs.List.{flat_map};
 ghost use Rattle.line_io.specs.Counts.{CountRose};
-ghost use Rattle.crash_log.specs.Disk.{Holds, LeavesOnly, Only, TornFrom};
-ghost use Rattle.crash_log.specs.Entries.{entry_bytes};
-ghost use Rattle.crash_log.specs.Log.{HoldsLog, IsDisks, IsShutAt, IsPut, IsShutOrPut, head_bytes};
+ghost use Rattle.crash_log.specs.Entries.{entry_bytes, IsShort};
+ghost use Rattle.crash_log.specs.Log.{HoldsLog, IsDisks, head_bytes, record_bytes};
 ghost use Rattle.crash_log.specs.Faults.{IsAppendFault, IsCreateFault};
-ghost use Rattle.crash_log.specs.Runs.{Acknowledges, LeavesBeforeOrAfter};
+ghost use Rattle.crash_log.specs.Runs.{Acknowledges, LeavesNoneOrAll};
 
 use crate::disk::Disk;
-use crate::entry_bytes::{entry_size, sealed};
+use crate::entry_bytes::{gate_behind, sealed};
 use crate::faults::LogFault;
 use campaign_law::Entry;
 use line_io::Failed;
 use std::alloc::Global;
 use std::marker::Model;
+use std::slice;
 
 /// What a log begins with.
 pub(crate) const MARK: [u8; 6] = *b"TTLOG1";
@@ -103,11 +104,11 @@ pub fn append<K: Disk>(
     requires journal { K.tells → IsDisks K.seen K.may_leave disk.old journal.old }
     requires short { length (entry_bytes entry.now) ≤ 4098 }
     ensures acknowledged { K.tells
-        → Acknowledges K.seen K.may_leave disk.old journal.old disk.new journal.new entry.now result }
+        → Acknowledges K.seen K.may_leave disk.old journal.old disk.new journal.new (entry.now ∷ []) result }
 
     // A crash at any moment of the call leaves the log from before it, with the entry or without.
     ensures any_moment { K.tells
-        → LeavesBeforeOrAfter K.seen K.may_leave K.moment K.left_since disk.old journal.old disk.new entry.now }
+        → LeavesNoneOrAll K.seen K.may_leave K.moment K.left_since disk.old journal.old disk.new (entry.now ∷ []) }
 
     ensures full { IsErrOf result LogFault.Full
         → 2 ^ 30 ≤ journal.old + 5 + length (entry_bytes entry.now) }
@@ -121,16 +122,53 @@ pub fn append<K: Disk>(
     ensures failed { IsErrOf result LogFault.DiskFault
         → CountRose (K.faults_of disk.old) (K.faults_of disk.new) }
 {
-    let size = entry_size(entry);
-    let gate = journal.end();
-    let next = gate + 5 + size as u64;
-    if next >= GATE_LIMIT {
-        return Err(LogFault::Full);
-    }
-    let piece = sealed(alloc, entry, size as u32)?;
+    append_all(alloc, disk, journal, slice::from_ref(entry))
+}
 
-    // The record has to be safe before its gate is opened.
-    disk.write_at(gate + 1, &piece)?;
+/// Puts a group of entries behind the log with two syncs, as `append` puts one. At Ok all of them are acknowledged. A crash leaves
+/// all of the group or none of it, and so does a fault. An empty group changes nothing.
+///
+/// `Full` exactly where the place of the gate behind the group isn't below `GATE_LIMIT`; a smaller group may fit.
+pub fn append_all<K: Disk>(
+    alloc: Global,
+    disk: &mut K,
+    journal: &mut Journal,
+    entries: &[Entry],
+) -> Result<(), LogFault>
+    requires journal { K.tells → IsDisks K.seen K.may_leave disk.old journal.old }
+    requires short { All IsShort entries.now }
+    ensures acknowledged { K.tells
+        → Acknowledges K.seen K.may_leave disk.old journal.old disk.new journal.new entries.now result }
+
+    // A crash at any moment of the call leaves the log from before it, with all of the group or with none of it.
+    ensures any_moment { K.tells
+        → LeavesNoneOrAll K.seen K.may_leave K.moment K.left_since disk.old journal.old disk.new entries.now }
+
+    ensures none { entries.now ≡ [] → IsOk result }
+    ensures unchanged_none { entries.now ≡ [] → disk.new ≡ disk.old }
+    ensures full { IsErrOf result LogFault.Full
+        → 2 ^ 30 ≤ journal.old + length (flat_map record_bytes entries.now) }
+    ensures is_full { 2 ^ 30 ≤ journal.old + length (flat_map record_bytes entries.now)
+        → IsErrOf result LogFault.Full }
+    ensures unchanged { IsErrOf result LogFault.Full → disk.new ≡ disk.old }
+    ensures unchanged_memory { IsErrOf result LogFault.Memory → disk.new ≡ disk.old }
+    ensures end { OnErr result (journal.new ≡ journal.old) }
+    ensures fault { IfErr result IsAppendFault }
+    ensures count { K.faults_of disk.old ≤ K.faults_of disk.new }
+    ensures failed { IsErrOf result LogFault.DiskFault
+        → CountRose (K.faults_of disk.old) (K.faults_of disk.new) }
+{
+    let gate = journal.end();
+    if entries.is_empty() {
+        return Ok(());
+    }
+    let Some(next) = gate_behind(gate, entries) else {
+        return Err(LogFault::Full);
+    };
+    let group = sealed(alloc, entries)?;
+
+    // The records have to be safe before the first of their gates is opened; the others are open already.
+    disk.write_at(gate + 1, &group[1..])?;
     disk.sync()?;
     disk.write_at(gate, &[1])?;
     disk.sync()?;

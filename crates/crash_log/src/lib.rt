@@ -18,9 +18,10 @@ mod tests;
 
 pub use calls::Call;
 pub use disk::Disk;
+pub use entry_bytes::is_short;
 pub use faults::LogFault;
 pub use file_disk::FileDisk;
-pub use journal::{GATE_LIMIT, Journal, TEXT_BYTES, append, create};
+pub use journal::{GATE_LIMIT, Journal, TEXT_BYTES, append, append_all, create};
 pub use mem_disk::MemDisk;
 pub use recovery::{Entries, Recovered, recover};
 
@@ -33,8 +34,8 @@ pub fn log_laws()
 
 /// The laws of the calls of a log, over each disk and each run of calls since a log was made or recovered. Whatever a crash leaves
 /// at any moment of it, inside a call too, is a log of the text: its entries are first those that the log had, then all that were
-/// acknowledged before that moment, in order, and besides at most one whose append was under way or answered `DiskFault`. Such a
-/// file is read as just these, and is bad at no place.
+/// acknowledged before that moment, in order, and besides all or none of at most one group whose append was under way or answered
+/// `DiskFault`. Such a file is read as just these, and is bad at no place.
 pub fn outlives_crashes<K: Disk>()
     ensures any_moment { OutlivesCrashes K.seen K.may_leave K.moment K.left_since }
     ensures read { KeptIsRead }

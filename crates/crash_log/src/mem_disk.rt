@@ -32,7 +32,14 @@ impl Model for MemDisk {
 
     ghost Value = { MemoryDisk };
 
-    ghost view = { λ d. record { start = d.start; calls = d.calls.items; failing = d.failing.items; stop = d.stop; made = d.made; faults = d.faults } };
+    ghost view = { λ d. record {
+      start = d.start;
+      calls = d.calls.items;
+      failing = d.failing.items;
+      stop = d.stop;
+      made = d.made;
+      faults = d.faults;
+    } };
 
     ghost invariant = { λ d. current d.start d.changed ≡ (after_calls d.calls.items (settled d.start)).seen };
 }
@@ -107,8 +114,10 @@ fn replay(
     seen: &mut Vec<u8>,
     safe: &mut Vec<u8>,
 ) -> Result<(), AllocError>
-    ensures seen { OnOk result ((ranges : List (ℕ × ℕ)) → seen.new.items ≡ (after_call call.now (record { seen = seen.old.items; synced = safe.old.items; pending = ranges })).seen) }
-    ensures safe { OnOk result ((ranges : List (ℕ × ℕ)) → safe.new.items ≡ (after_call call.now (record { seen = seen.old.items; synced = safe.old.items; pending = ranges })).synced) }
+    ensures seen { OnOk result ((ranges : List (ℕ × ℕ)) → seen.new.items
+        ≡ (after_call call.now (record { seen = seen.old.items; synced = safe.old.items; pending = ranges })).seen) }
+    ensures safe { OnOk result ((ranges : List (ℕ × ℕ)) → safe.new.items
+        ≡ (after_call call.now (record { seen = seen.old.items; synced = safe.old.items; pending = ranges })).synced) }
 {
     match call {
         Call::Asked => Ok(()),

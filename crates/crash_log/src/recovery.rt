@@ -148,7 +148,8 @@ fn read_records<K: Disk>(
 ) -> Result<(Vec<Entry>, u64), LogFault>
     requires short { length text.now ≤ 16777216 }
     requires head { K.tells → HasHead (K.seen disk.old) text.now }
-    ensures found { K.tells → IfOk result (λ r. IsLog text.now r.0.items (K.seen disk.old) × (r.1 ≡ length (open_part text.now r.0.items))) }
+    ensures found { K.tells → IfOk result (λ r. IsLog text.now r.0.items (K.seen disk.old)
+        × (r.1 ≡ length (open_part text.now r.0.items))) }
     ensures place { IfOk result (λ r. r.1 < 2 ^ 30) }
     ensures bad { K.tells → IfErr result (IsRecordsFault (K.seen disk.old)) }
     ensures read { K.tells → OnlyRead K.seen K.may_leave K.moment K.left_since disk.old disk.new }
@@ -190,7 +191,8 @@ fn read_record<K: Disk>(
 ) -> Result<Option<(Entry, u64)>, LogFault>
     requires place { gate < 2 ^ 30 }
     requires within { K.tells → gate ≤ length (K.seen disk.old) }
-    ensures shut { K.tells → IfOk result (λ r. MatchOption r (IsShut (drop gate (K.seen disk.old))) (λ p. HasRecord (drop gate (K.seen disk.old)) p.0)) }
+    ensures shut { K.tells → IfOk result (λ r. MatchOption r (IsShut (drop gate (K.seen disk.old)))
+        (λ p. HasRecord (drop gate (K.seen disk.old)) p.0)) }
     ensures next { K.tells → IfOk result (λ r. IfSome r (λ p. p.1 ≡ gate + 5 + length (entry_bytes p.0))) }
     ensures on { IfOk result (λ r. IfSome r (λ p. (gate < p.1) × (p.1 ≤ gate + 4103))) }
     ensures bad { K.tells → IfErr result (IsGateFault gate (drop gate (K.seen disk.old))) }
@@ -213,7 +215,8 @@ fn read_record<K: Disk>(
 fn open_gate<K: Disk>(disk: &mut K, gate: u64) -> Result<Option<usize>, LogFault>
     requires within { K.tells → gate ≤ length (K.seen disk.old) }
     ensures size { IfOk result (λ size. IfSome size (λ n. (2 ≤ n) × (n ≤ 4098))) }
-    ensures shut { K.tells → IfOk result (λ size. MatchOption size (IsShut (drop gate (K.seen disk.old))) (λ n. OpensSize (drop gate (K.seen disk.old)) n)) }
+    ensures shut { K.tells → IfOk result (λ size. MatchOption size (IsShut (drop gate (K.seen disk.old)))
+        (λ n. OpensSize (drop gate (K.seen disk.old)) n)) }
     ensures bad { K.tells → IfErr result (IsGateFault gate (drop gate (K.seen disk.old))) }
     ensures read { K.tells → OnlyRead K.seen K.may_leave K.moment K.left_since disk.old disk.new }
     ensures fault { IfErr result IsRecoverFault }

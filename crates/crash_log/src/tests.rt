@@ -47,8 +47,7 @@ fn put(rt: &impl Abort, alloc: Global, disk: &mut MemDisk, journal: &mut Journal
     ensures { IsTrue result → IsDisks (λ d. (state_of d).seen) (λ d c. IsImage (state_of d) c) disk.new journal.new }
 {
     let entry = sample(rt);
-    let size = entry_bytes::entry_size(&entry);
-    assert!(rt; size <= 4_098);
+    assert!(rt; is_short(&entry));
     match append(alloc, disk, journal, &entry) {
         Ok(()) => true,
         Err(fault) => {

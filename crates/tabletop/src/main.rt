@@ -98,7 +98,7 @@ fn main(rt: HostRuntime) -> ExitCode {
         }
         Ok(words) if asks_for_a_log(&words) => {
             let mut script = ReaderSource::new(rt.stdin());
-            let mut disk = FileDisk::new(&rt);
+            let mut disk = FileDisk::new(rt);
             tabletop_logged(
                 rt.alloc(),
                 &words,

@@ -1,8 +1,8 @@
-use Rattle.std.proofs.Common.{◌≡◌, ◌+◌, ◌<◌, ◌^◌, ◌++◌, ◌∷◌, [], ap, sym, ◌∙◌, length, take, drop, List, ℕ, arith, refl, subst}
+use Rattle.std.proofs.Common.{◌+◌, sym, length, drop, List, ℕ, arith, subst}
 use Rattle.crash_log.specs.Reading.{IsReadTo, HasRecord}
 use Rattle.campaign_law.specs.declared.entry.Entry.{Entry}
 use Rattle.crash_log.proofs.GateBytes.{none_read, then_read}
-use Rattle.crash_log.proofs.Walk.{walk_start, walk_on, gate_within}
+use Rattle.crash_log.proofs.Walk.{walk_start, walk_on}
 use Rattle.crash_log.proofs.recovery.read_records.Goals as goal
 
 pub records-init : goal.records-init

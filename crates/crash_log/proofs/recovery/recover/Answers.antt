@@ -1,4 +1,4 @@
-use Rattle.std.proofs.Common.{◌≡◌, ◌∙◌, subst}
+use Rattle.std.proofs.Common.{◌∙◌, subst}
 use Rattle.crash_log.specs.Log.{IsLog}
 use Rattle.crash_log.proofs.LogLaws.{log_not_bad}
 use Rattle.crash_log.proofs.recovery.recover.Goals as goal

@@ -1,4 +1,4 @@
-use Rattle.std.proofs.Common.{ap, ◌∙◌, ◌++◌, ◌∷◌, [], length, subst}
+use Rattle.std.proofs.Common.{ap, ◌∙◌, ◌++◌, ◌∷◌, []}
 use Rattle.crash_log.specs.Memory.{MemoryDisk}
 use Rattle.crash_log.specs.declared.calls.Call.TheVariants.{Asked}
 use Rattle.crash_log.proofs.Kept.{inv_push, stays_asked, passes_push, passes_same}

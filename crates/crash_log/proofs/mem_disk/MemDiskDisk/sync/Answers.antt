@@ -1,4 +1,4 @@
-use Rattle.std.proofs.Common.{ap, ◌∙◌, ◌++◌, ◌∷◌, [], length, subst}
+use Rattle.std.proofs.Common.{ap, ◌∙◌, ◌++◌, ◌∷◌, []}
 use Rattle.crash_log.specs.Memory.{MemoryDisk}
 use Rattle.crash_log.specs.declared.calls.Call.TheVariants.{Synced}
 use Rattle.crash_log.proofs.Kept.{inv_push, only_synced, seen_synced, no_more_synced, passes_push, passes_same}
