@@ -1,0 +1,13 @@
+//! A log beside a hall. Its keeper puts the history's entries behind a log on a disk, in order, and tells how many of them are safe
+//! from a crash. Threads act on the hall as if there were no log, and wait for the keeper before they tell of an entry.
+#![tactic(auto)]
+
+mod chronicle;
+mod closing;
+mod keeper;
+mod settling;
+
+pub use chronicle::Chronicle;
+pub use closing::close;
+pub use keeper::{Keeper, KeptFor};
+pub use settling::{Settling, settle};

@@ -1,0 +1,74 @@
+//! Waiting until entries are safe.
+ghost use Rattle.std.specs.Prelude.{◌≡◌, ◌≤◌, ◌++◌, OnOk};
+ghost use mathlib.Core.List.{IsPrefix};
+ghost use Rattle.turn_lock.specs.Pass.{IsPassOf};
+ghost use Rattle.evening_log.specs.Keeping.{group_of};
+
+use crate::chronicle::Chronicle;
+use crate::keeper::Keeper;
+use crash_log::{Disk, Entries, LogFault};
+use std::sync::Wait;
+use turn_lock::{Hall, Job, Pass};
+
+/// Puts a group of entries that the log lacks behind it, and has them. It waits for a turn of the other hall.
+pub struct Settling<'a, R: Wait> {
+    rt: &'a R,
+    answer: Result<Entries, LogFault>,
+}
+
+impl<'a, R: Wait, O: Chronicle + Drop, K: Disk> Job<Keeper<O, K>> for Settling<'a, R> {
+    ghost entries = { λ before after. group_of after.answer };
+
+    ghost ran = { λ origin before found after left. left ≡ found ++ group_of after.answer };
+
+    fn run(&mut self, keeper: &mut Keeper<O, K>) {
+        self.answer = keeper.settle(self.rt);
+    }
+}
+
+/// Waits until the log has as many entries as are wanted. At Ok they are safe from a crash.
+pub fn settle<O: Chronicle + Drop, K: Disk, R: Wait>(
+    rt: &R,
+    log: &Hall<Keeper<O, K>>,
+    pass: &mut Pass<Keeper<O, K>>,
+    want: u64,
+) -> Result<(), LogFault>
+    requires { IsPassOf log.now pass.old }
+    ensures hall { IsPassOf log.now pass.new }
+    ensures number { pass.new.number ≡ pass.old.number }
+    ensures front { IsPrefix pass.old.front pass.new.front }
+    ensures heard { pass.old.heard ≤ pass.new.heard }
+    ensures settled { OnOk result (want ≤ pass.new.heard) }
+{
+    for _ in rt.forever() {
+        if log.progress(pass) >= want {
+            return Ok(());
+        }
+        put_group(rt, log, pass)?;
+    }
+    unreachable!()
+}
+
+// One turn, in which a group is put behind the log.
+fn put_group<O: Chronicle + Drop, K: Disk, R: Wait>(
+    rt: &R,
+    log: &Hall<Keeper<O, K>>,
+    pass: &mut Pass<Keeper<O, K>>,
+) -> Result<(), LogFault>
+    requires { IsPassOf log.now pass.old }
+    ensures hall { IsPassOf log.now pass.new }
+    ensures number { pass.new.number ≡ pass.old.number }
+    ensures front { IsPrefix pass.old.front pass.new.front }
+    ensures heard { pass.new.heard ≡ pass.old.heard }
+{
+    let mut turn = Settling {
+        rt,
+        answer: Err(LogFault::Memory),
+    };
+    log.act_quietly(rt, pass, &mut turn);
+    let Settling { rt: _, answer } = turn;
+    match answer {
+        Ok(_) => Ok(()),
+        Err(fault) => Err(fault),
+    }
+}
