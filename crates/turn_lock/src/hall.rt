@@ -6,6 +6,7 @@ ghost use Rattle.turn_lock.specs.Seat.{IsSized, IsResting, hall_state, usher_sta
 ghost use Rattle.turn_lock.specs.SeatView.{first_view};
 
 use crate::object::{Job, Object};
+use crate::signals::{Acts, Sleepers};
 use crate::turns::{
     HallSeat, HallTable, close_table, join_seats, load_made, split_seat, turn, wait_made_past,
     wake_waiters,
@@ -23,6 +24,11 @@ use std::sync::Wait;
 #[derive(Drop)]
 pub struct Hall<O: Object> {
     table: HallTable<O>,
+    // Who waits for a turn.
+    for_turn: Sleepers,
+    // Who waits for a longer history.
+    for_more: Sleepers,
+    acts: Acts,
 }
 
 impl<O: Object> Model for Hall<O> {
@@ -144,7 +150,13 @@ impl<O: Object> Hall<O> {
             seat: split_seat(&table.shared, &mut seat),
             count: 1,
         };
-        (Hall { table }, usher, Pass { seat, number: 0 })
+        let hall = Hall {
+            table,
+            for_turn: Sleepers::new(),
+            for_more: Sleepers::new(),
+            acts: Acts::new(),
+        };
+        (hall, usher, Pass { seat, number: 0 })
     }
 
     /// Makes two passes of one. Both have its front and have heard of as much. The left has its
@@ -202,14 +214,15 @@ impl<O: Object> Hall<O> {
             (J.entries job.old job.new) (known pass.old) (known pass.new) }
         ensures within { OwnsWithin pass.new.front pass.new.own }
     {
-        self.act_quietly(rt, pass, job);
-        wake_waiters(&self.table.shared);
+        self.act_so(rt, pass, job, true);
+        wake_waiters(&self.table.shared, &self.for_more);
+        self.acts.wake();
     }
 
     /// Does what `act` does, and wakes nobody: who waits for a longer history sleeps on until a turn
     /// of `act`, or finds the entries when it is awake. For jobs whose entries nobody waits for, so
-    /// that they don't rouse every thread.
-    pub fn act_quietly<R: Wait, J: Job<O>>(&self, rt: &R, pass: &mut Pass<O>, job: &mut J)
+    /// that they don't rouse every thread. The answer is for `wait_act`.
+    pub fn act_quietly<R: Wait, J: Job<O>>(&self, rt: &R, pass: &mut Pass<O>, job: &mut J) -> u64
         requires { IsPassOf self.now pass.old }
         ensures hall { IsPassOf self.now pass.new }
         ensures number { pass.new.number ≡ pass.old.number }
@@ -218,7 +231,40 @@ impl<O: Object> Hall<O> {
             (J.entries job.old job.new) (known pass.old) (known pass.new) }
         ensures within { OwnsWithin pass.new.front pass.new.own }
     {
-        turn(&self.table.shared, rt, &mut pass.seat, job);
+        self.act_so(rt, pass, job, false)
+    }
+
+    /// Waits until there was a turn of `act` behind the turn of `act_quietly` that gave this answer, or one that it didn't find.
+    /// Quiet turns aren't waited for, whatever they enter.
+    pub fn wait_act<R: Wait>(&self, rt: &R, seen: u64) {
+        self.acts.wait(rt, seen);
+    }
+
+    // One turn, which wakes or is quiet.
+    fn act_so<R: Wait, J: Job<O>>(
+        &self,
+        rt: &R,
+        pass: &mut Pass<O>,
+        job: &mut J,
+        wakes: bool,
+    ) -> u64
+        requires { IsPassOf self.now pass.old }
+        ensures hall { IsPassOf self.now pass.new }
+        ensures number { pass.new.number ≡ pass.old.number }
+        ensures front { IsPrefix pass.old.front pass.new.front }
+        ensures turn { HasTurn (λ found left. J.ran self.now.origin job.old found job.new left)
+            (J.entries job.old job.new) (known pass.old) (known pass.new) }
+        ensures within { OwnsWithin pass.new.front pass.new.own }
+    {
+        turn(
+            &self.table.shared,
+            &self.for_turn,
+            &self.acts,
+            rt,
+            &mut pass.seat,
+            job,
+            wakes,
+        )
     }
 
     /// A length of the history, at least that of the pass's front and at least what it had heard
@@ -241,7 +287,13 @@ impl<O: Object> Hall<O> {
         ensures heard { pass.old.heard ≤ result }
         ensures past { known < result }
     {
-        wait_made_past(&self.table.shared, rt, &mut pass.seat, known)
+        wait_made_past(
+            &self.table.shared,
+            &self.for_more,
+            rt,
+            &mut pass.seat,
+            known,
+        )
     }
 
     /// Waits for its turn and gives the object. Its history begins with the pass's front and is at
@@ -253,7 +305,12 @@ impl<O: Object> Hall<O> {
         ensures heard { pass.heard ≤ length (O.history result) }
     {
         let (seat, _) = pass.into_parts();
-        let Self { table } = self;
-        close_table(table, rt, seat)
+        let Self {
+            table,
+            for_turn,
+            for_more: _,
+            acts: _,
+        } = self;
+        close_table(table, &for_turn, rt, seat)
     }
 }

@@ -12,6 +12,7 @@
 mod hall;
 mod object;
 mod order;
+mod signals;
 mod steps;
 mod turns;
 mod view;

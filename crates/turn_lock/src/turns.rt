@@ -7,6 +7,7 @@ ghost use Rattle.turn_lock.specs.Seat.{IsSized, hall_state, known_of, IsSeatOf, 
 
 use crate::object::{Job, Object};
 use crate::order::{BUSY, MADE, OBJECT, Order};
+use crate::signals::{Acts, Sleepers};
 use crate::steps::{
     AddEntries, CompareFronts, GiveObject, JoinSeats, LoadMade, PassTurn, SplitSeat, TakeObject,
     TakeTurn,
@@ -38,7 +39,12 @@ pub type HallTable<O> = Table<
 pub type HallSeat<O> = Seat<O, SeatView<<O as Object>::Entry, <O as Object>::Origin>>;
 
 /// Waits until no seat has the turn, and takes it.
-pub fn take_turn<O: Object, R: Wait>(shared: &SharedTable<O>, rt: &R, seat: &mut HallSeat<O>)
+pub fn take_turn<O: Object, R: Wait>(
+    shared: &SharedTable<O>,
+    sleepers: &Sleepers,
+    rt: &R,
+    seat: &mut HallSeat<O>,
+)
     requires sized { IsSized shared.now.table_id }
     requires table { seat.old.table_id ≡ shared.now.table_id }
     requires idle { (seat.old.me.0.turn ≡ false) × (seat.old.me.0.out ≡ false) }
@@ -51,7 +57,9 @@ pub fn take_turn<O: Object, R: Wait>(shared: &SharedTable<O>, rt: &R, seat: &mut
         if shared.compare_exchange::<TakeTurn>(seat, BUSY, 0, 1) == 0 {
             return;
         }
+        sleepers.add();
         shared.park(rt, BUSY, 1);
+        sleepers.remove();
     }
     unreachable!()
 }
@@ -104,10 +112,12 @@ pub fn add_entries<O: Object>(shared: &SharedTable<O>, seat: &mut HallSeat<O>, m
 }
 
 /// Wakes all that wait for a longer history.
-pub fn wake_waiters<O: Object>(shared: &SharedTable<O>)
+pub fn wake_waiters<O: Object>(shared: &SharedTable<O>, sleepers: &Sleepers)
     requires { IsSized shared.now.table_id }
 {
-    shared.wake_all(MADE);
+    if sleepers.any() {
+        shared.wake_all(MADE);
+    }
 }
 
 /// Puts the object back into its slot.
@@ -123,7 +133,7 @@ pub fn give_object<O: Object>(shared: &SharedTable<O>, seat: &mut HallSeat<O>)
 }
 
 /// Ends the turn.
-pub fn pass_turn<O: Object>(shared: &SharedTable<O>, seat: &mut HallSeat<O>)
+pub fn pass_turn<O: Object>(shared: &SharedTable<O>, sleepers: &Sleepers, seat: &mut HallSeat<O>)
     requires sized { IsSized shared.now.table_id }
     requires table { seat.old.table_id ≡ shared.now.table_id }
     requires turn { (seat.old.me.0.turn ≡ true) × (seat.old.me.0.out ≡ false) }
@@ -131,16 +141,21 @@ pub fn pass_turn<O: Object>(shared: &SharedTable<O>, seat: &mut HallSeat<O>)
     ensures passed { seat.new.me ≡ (without_turn seat.old.me.0, seat.old.me.1) }
 {
     shared.store::<PassTurn>(seat, BUSY, 0);
-    shared.wake_one(BUSY);
+    if sleepers.any() {
+        shared.wake_one(BUSY);
+    }
 }
 
-/// One turn of a seat, in which the job is run once.
+/// One turn of a seat, in which the job is run once. It is one of the acts where it wakes. How many of these there were when it began.
 pub fn turn<O: Object, R: Wait, J: Job<O>>(
     shared: &SharedTable<O>,
+    sleepers: &Sleepers,
+    acts: &Acts,
     rt: &R,
     seat: &mut HallSeat<O>,
     job: &mut J,
-)
+    wakes: bool,
+) -> u64
     requires sized { IsSized shared.now.table_id }
     requires hall { IsSeatOf (hall_state shared.now.table_id (O.origin shared.now.key.value)) seat.old }
     requires resting { IsResting seat.old.me }
@@ -150,12 +165,17 @@ pub fn turn<O: Object, R: Wait, J: Job<O>>(
     ensures turn { HasTurn (λ found left. J.ran (O.origin shared.now.key.value) job.old found job.new left)
         (J.entries job.old job.new) (known_of seat.old.me.0) (known_of seat.new.me.0) }
 {
-    take_turn(shared, rt, seat);
+    take_turn(shared, sleepers, rt, seat);
+    let seen = acts.count();
     take_object(shared, seat);
     let more = run_job(shared, seat, job);
     add_entries(shared, seat, more);
     give_object(shared, seat);
-    pass_turn(shared, seat);
+    if wakes {
+        acts.add();
+    }
+    pass_turn(shared, sleepers, seat);
+    seen
 }
 
 /// Loads the count of entries.
@@ -173,6 +193,7 @@ pub fn load_made<O: Object>(shared: &SharedTable<O>, seat: &mut HallSeat<O>) -> 
 /// Waits until the count of entries is past the known one.
 pub fn wait_made_past<O: Object, R: Wait>(
     shared: &SharedTable<O>,
+    sleepers: &Sleepers,
     rt: &R,
     seat: &mut HallSeat<O>,
     known: u64,
@@ -190,14 +211,21 @@ pub fn wait_made_past<O: Object, R: Wait>(
         if made > known {
             return made;
         }
+        sleepers.add();
         // A thread parks on the low 32 bits of a word.
         shared.park(rt, MADE, (made % (1 << 32)) as u32);
+        sleepers.remove();
     }
     unreachable!()
 }
 
 /// Waits for a turn, which never ends, and takes the table apart.
-pub fn close_table<O: Object, R: Wait>(table: HallTable<O>, rt: &R, mut seat: HallSeat<O>) -> O
+pub fn close_table<O: Object, R: Wait>(
+    table: HallTable<O>,
+    sleepers: &Sleepers,
+    rt: &R,
+    mut seat: HallSeat<O>,
+) -> O
     requires sized { IsSized table.shared.table_id }
     requires hall { IsSeatOf (hall_state table.shared.table_id (O.origin table.shared.key.value)) seat }
     requires idle { IsIdle seat.me }
@@ -205,7 +233,7 @@ pub fn close_table<O: Object, R: Wait>(table: HallTable<O>, rt: &R, mut seat: Ha
     ensures front { IsPrefix seat.me.0.front (O.history result) }
     ensures heard { seat.me.0.heard ≤ length (O.history result) }
 {
-    take_turn(&table.shared, rt, &mut seat);
+    take_turn(&table.shared, sleepers, rt, &mut seat);
     let mut closed = table.close_with(seat);
     let object = closed.take(OBJECT);
     closed.free();
