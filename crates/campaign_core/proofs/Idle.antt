@@ -12,7 +12,9 @@ use Rattle.campaign_law.specs.Outcome.{Outcome}
 use Rattle.campaign_law.specs.State.{Post, post_by}
 use Rattle.campaign_law.specs.Views.{change_line}
 use Rattle.campaign_law.specs.World.{addressed, lines_if_present, queued_lines, some_to_list}
-use Rattle.campaign_core.specs.Shown.{AreStill}
+use Rattle.campaign_core.specs.declared.reach.Reach.{Reach}
+use Rattle.campaign_core.specs.declared.reach.Reach.TheVariants.{Nobody}
+use Rattle.campaign_core.specs.Shown.{AreStill, reaches}
 use Rattle.campaign_core.specs.Sound.{IsSound}
 use Rattle.campaign_core.specs.Steps.{with_book}
 use Rattle.campaign_core.proofs.Lines.{same_lines}
@@ -26,9 +28,9 @@ idle_lines seat s o v v' silent same = by (is_joined s.book.state || false)
     by true = ap (λ ms. addressed seat ms ++ some_to_list (change_line v v')) silent ∙ ap (λ w. some_to_list (change_line v w)) same ∙ sym (same_lines v)
     by false = refl
 
-pub idle_post : (seat : ℕ) (acts same : Bool) (o : Outcome) (book : Option Book) (before after : Scene) (post : Post) → IsSound post → AreStill same o before after
-    → acts ≡ false → same ≡ true → o.messages ≡ [] → post ≡ post_by seat acts (with_book o book) (view_of before seat) (view_of after seat) post
-idle_post seat true same o book before after post sound still idle stays silent = cc
-idle_post seat false same o book before after post sound still idle stays silent =
+pub idle_post : (seat : ℕ) (acts : Bool) (reach : Reach) (o : Outcome) (book : Option Book) (before after : Scene) (post : Post) → IsSound post → AreStill reach o before after
+    → acts ≡ false → reach ≡ Nobody → o.messages ≡ [] → post ≡ post_by seat acts (with_book o book) (view_of before seat) (view_of after seat) post
+idle_post seat true reach o book before after post sound still idle stays silent = cc
+idle_post seat false reach o book before after post sound still idle stays silent =
     none_own seat false o book (view_of before seat) (view_of after seat) post sound idle
-    (idle_lines seat post.seat o (view_of before seat) (view_of after seat) silent (still.each seat (ap (λ b. b || not (marks o.done seat)) stays)))
+    (idle_lines seat post.seat o (view_of before seat) (view_of after seat) silent (still.each seat (ap (λ r. not (reaches r seat) || not (marks o.done seat)) stays)))

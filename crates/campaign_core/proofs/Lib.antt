@@ -3,6 +3,7 @@ pub mod Judging
 pub mod ViewsDecide
 pub mod Reports
 pub mod Walking
+pub mod UnseenScenes
 pub mod Nexts
 pub mod Bounds
 pub mod Following

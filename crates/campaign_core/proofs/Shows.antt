@@ -1,5 +1,5 @@
 -- The views that are kept, seat by seat.
-use Rattle.std.proofs.Common.{◌≡◌, ◌<◌, ◌≤◌, ◌+◌, ℕ, Bool, true, false, cond, ◌&&◌, ◌||◌, eqb, zero, suc, List, [], ◌∷◌, ◌++◌, length, drop, get_or, Some, None, refl, sym, ◌∙◌, ap, subst, arith, zero-add}
+use Rattle.std.proofs.Common.{◌≡◌, ◌<◌, ◌≤◌, ◌+◌, ◌⊎◌, inl, inr, ℕ, Bool, true, false, cond, ◌&&◌, ◌||◌, eqb, zero, suc, List, [], ◌∷◌, ◌++◌, length, drop, get_or, Some, None, refl, sym, ◌∙◌, ap, subst, arith, zero-add}
 use Rattle.std.specs.Prelude.{Option, option_map, slice_get, not}
 use Rattle.std.proofs.lemmas.Option.{slice_get-map}
 use Rattle.std.proofs.lemmas.Bool.Decides.{nat_tests}
@@ -14,7 +14,7 @@ use Rattle.view_marks.specs.Marks.{leaves_letters, marks}
 use Rattle.view_marks.proofs.Marked.{unmarked}
 use Rattle.view_marks.proofs.Letters.{leaves_letters as letters_are_left}
 use Rattle.world.specs.Scene.{Scene}
-use Rattle.player_view.specs.View.{view_of}
+use Rattle.player_view.specs.View.{is_gm, view_of}
 use Rattle.player_view.specs.Lettered.{SameLetters}
 use Rattle.player_view.specs.Tables.{HasTables}
 use Rattle.player_view.proofs.OlderLetters.{letters_stay}
@@ -32,11 +32,13 @@ use Rattle.campaign_law.proofs.ScenesOfWorlds.{tables_after}
 use Rattle.campaign_law.proofs.Seats.{joined_before}
 use Rattle.campaign_law.specs.Worlds.{FitsTogether}
 use Rattle.campaign_core.specs.declared.next.Changed.{Changed}
-use Rattle.campaign_core.specs.Changed.{IsChanged}
+use Rattle.campaign_core.specs.Changed.{IsChanged, reach_of}
+use Rattle.campaign_core.specs.declared.reach.Reach.{Reach}
+use Rattle.campaign_core.specs.declared.reach.Reach.TheVariants.{Master, Anybody}
 use Rattle.campaign_core.specs.Places.{Place, Standing, world_at}
 use Rattle.campaign_core.proofs.Cutting.{cut_step}
 use Rattle.campaign_core.proofs.Leaving.{leave_stays}
-use Rattle.campaign_core.specs.Shown.{AreShown, AreStill, IsShown, is_kept, is_none, view_made_in, made_or, made_view, new_view, view_then}
+use Rattle.campaign_core.specs.Shown.{AreShown, AreStill, IsShown, is_kept, reaches, view_made_in, made_or, made_view, new_view, view_then}
 
 -- ---- a seat that joins is due the full line
 
@@ -80,15 +82,25 @@ fit_at w e seat s at acts =
     let here : seat_at w (seat_of e) ≡ Some s = ap (seat_at w) (same_seat (seat_of e) seat acts) ∙ at in
     subst (λ o. IsFit s (outcome_at (asked_of w (seat_of e)) (report_of w e) o e)) (sym here) (outcome_fits (asked_of w (seat_of e)) (report_of w e) s e)
 
+-- a change that doesn't reach the seat is unseen, and the seat is a player's; or else the seat isn't marked
+unreached : (unseen : Bool) (seat : ℕ) (marked : Bool) → (not (reaches (cond unseen Master Anybody) seat) || not marked) ≡ true → ((unseen ≡ true) × (is_gm seat ≡ false)) ⊎ (marked ≡ false)
+unreached unseen seat false is = inr refl
+unreached true seat true is = by (is_gm seat) refl is
+  where
+    by : (gm : Bool) → is_gm seat ≡ gm → (not gm || false) ≡ true → ((true ≡ true) × (is_gm seat ≡ false)) ⊎ (true ≡ false)
+    by true e kept = let never : false ≡ true = kept in cc
+    by false e kept = inl (refl, e)
+unreached false seat true is = let no : false ≡ true = is in cc
+
 still_by : (w : World) (e : Entry) (fields : List (TokenId × Cells)) (changed : Option Changed) (seat : ℕ) → IsSettled w.scene → IsChanged w e fields changed
-    → is_kept (is_none changed) (outcome_of w e) seat ≡ true → view_of (scene_after w e) seat ≡ view_of w.scene seat
+    → is_kept (reach_of changed) (outcome_of w e) seat ≡ true → view_of (scene_after w e) seat ≡ view_of w.scene seat
 unfolding scene_after
 still_by w e fields None seat settled h is = ap (λ (s : Scene). view_of s seat) h
-still_by w e fields (Some changed) seat settled h is = unmarked (steps_of w e) (outcome_of w e).intents (seat_of e) w.scene (outcome_of w e).done seat settled (none_marked (marks (outcome_of w e).done seat) is)
+still_by w e fields (Some changed) seat settled h is = by (unreached changed.unseen seat (marks (outcome_of w e).done seat) is)
   where
-    none_marked : (b : Bool) → not b ≡ true → b ≡ false
-    none_marked true k = let no : false ≡ true = k in cc
-    none_marked false k = refl
+    by : ((changed.unseen ≡ true) × (is_gm seat ≡ false)) ⊎ (marks (outcome_of w e).done seat ≡ false) → view_of (scene_after w e) seat ≡ view_of w.scene seat
+    by (inl player) = ap (λ (s : Scene). view_of s seat) (sym h.0) ∙ h.3 player.0 seat player.1
+    by (inr off) = unmarked (steps_of w e) (outcome_of w e).intents (seat_of e) w.scene (outcome_of w e).done seat settled off
 
 same_letters : (w : World) (e : Entry) → leaves_letters (outcome_of w e).done ≡ true → SameLetters w.scene.maps (scene_after w e).maps
 unfolding scene_after
@@ -96,33 +108,33 @@ same_letters w e leaves = letters_are_left (steps_of w e) (outcome_of w e).inten
 
 -- a scene that stays, or a command that doesn't mark the seat; and letters that stay
 pub stays_in_view : (w : World) (e : Entry) (fields : List (TokenId × Cells)) (changed : Option Changed) → FitsTogether w → HasTables w.scene → IsSettled w.scene → IsChanged w e fields changed
-    → AreStill (is_none changed) (outcome_of w e) w.scene (scene_after w e)
+    → AreStill (reach_of changed) (outcome_of w e) w.scene (scene_after w e)
 stays_in_view w e fields changed fits tables settled h = record {
   each = λ seat is. still_by w e fields changed seat settled h is;
   letters = λ leaves. letters_stay w.scene (scene_after w e) tables (tables_after w e fits tables) (same_letters w e leaves);
 }
 
-one_stands : (w : World) (e : Entry) (kept : List KeptView) (made : List (Option View)) (same : Bool) (seat : ℕ) (o : Option Seat) → seat_at w seat ≡ o
-    → AreShown w kept → AreStill same (outcome_of w e) w.scene (scene_after w e)
-    → slice_get made seat ≡ option_map (λ s. made_view same (eqb (seat_of e) seat) (outcome_of w e) (scene_after w e) seat s) o
+one_stands : (w : World) (e : Entry) (kept : List KeptView) (made : List (Option View)) (reach : Reach) (seat : ℕ) (o : Option Seat) → seat_at w seat ≡ o
+    → AreShown w kept → AreStill reach (outcome_of w e) w.scene (scene_after w e)
+    → slice_get made seat ≡ option_map (λ s. made_view reach (eqb (seat_of e) seat) (outcome_of w e) (scene_after w e) seat s) o
     → was_joined (option_map (seat_after w e seat) o) ≡ true
     → view_then made kept seat ≡ Some (view_of (scene_after w e) seat)
-one_stands w e kept made same seat None at shown stays is joined = cc
-one_stands w e kept made same seat (Some s) at shown stays is joined =
+one_stands w e kept made reach seat None at shown stays is joined = cc
+one_stands w e kept made reach seat (Some s) at shown stays is joined =
     let out = outcome_of w e in
     let acts = eqb (seat_of e) seat in
     ap (λ m. made_or (view_made_in m) (view_at seat kept)) is
-    ∙ view_stands (is_kept same out seat) acts out w.scene (scene_after w e) seat (view_at seat kept) (is_joined s.book.state) (stays.each seat)
+    ∙ view_stands (is_kept reach out seat) acts out w.scene (scene_after w e) seat (view_at seat kept) (is_joined s.book.state) (stays.each seat)
     (λ j. shown.each seat (ap was_joined at ∙ j))
     (λ j. is_joined_then acts out s (λ yes. fit_at w e seat s at yes)
     (joined_before (length (queued_lines seat acts (Some s) out (view_of w.scene seat) (view_of (scene_after w e) seat))) (changed out acts s) joined) j)
 
-pub views_stand : (w : World) (e : Entry) (kept : List KeptView) (made : List (Option View)) (same : Bool) → AreShown w kept → AreStill same (outcome_of w e) w.scene (scene_after w e)
-    → made ≡ mapped_from (λ seat s. made_view same (eqb (seat_of e) seat) (outcome_of w e) (scene_after w e) seat s) 0 w.seats
+pub views_stand : (w : World) (e : Entry) (kept : List KeptView) (made : List (Option View)) (reach : Reach) → AreShown w kept → AreStill reach (outcome_of w e) w.scene (scene_after w e)
+    → made ≡ mapped_from (λ seat s. made_view reach (eqb (seat_of e) seat) (outcome_of w e) (scene_after w e) seat s) 0 w.seats
     → (seat : ℕ) → was_joined (seat_at (step w e) seat) ≡ true → view_then made kept seat ≡ Some (view_of (scene_after w e) seat)
-views_stand w e kept made same shown stays is seat joined =
-    let f : ℕ → Seat → Option View = λ n s. made_view same (eqb (seat_of e) n) (outcome_of w e) (scene_after w e) n s in
-    one_stands w e kept made same seat (seat_at w seat) refl shown stays
+views_stand w e kept made reach shown stays is seat joined =
+    let f : ℕ → Seat → Option View = λ n s. made_view reach (eqb (seat_of e) n) (outcome_of w e) (scene_after w e) n s in
+    one_stands w e kept made reach seat (seat_at w seat) refl shown stays
     (ap (λ xs. slice_get xs seat) is ∙ slice_get-mapped_from f 0 w.seats seat ∙ ap (λ n. option_map (f n) (slice_get w.seats seat)) (zero-add seat))
     (ap was_joined (sym (seat_at-after w e seat)) ∙ joined)
 

@@ -13,6 +13,8 @@ use Rattle.view_rules.specs.Asking.{asked_by}
 use Rattle.campaign_law.specs.Seat.{Seat, was_joined}
 use Rattle.campaign_law.specs.Outcome.{Outcome}
 use Rattle.campaign_law.specs.World.{World, seat_at}
+use Rattle.campaign_core.specs.declared.reach.Reach.{Reach}
+use Rattle.campaign_core.specs.declared.reach.Reach.TheVariants.{Nobody, Master, Anybody}
 
 -- the kept view of a seat that is Joined is what it sees
 abbrev pub IsShown : Scene → List KeptView → ℕ → Option Seat → Type 0
@@ -34,17 +36,19 @@ kept_view w seat = if was_joined (seat_at w seat) then Some (view_of w.scene sea
 abbrev pub new_view : Bool → Scene → ℕ → Option View
 new_view kept scene seat = if kept then None else Some (view_of scene seat)
 
--- the seat's view is known to stay: the scene is the same, or what was done doesn't mark the seat
-abbrev pub is_kept : Bool → Outcome → ℕ → Bool
-is_kept same o seat = same || not (marks o.done seat)
+-- what changed reaches the seat
+abbrev pub reaches : Reach → ℕ → Bool
+reaches Nobody seat = false
+reaches Master seat = is_gm seat
+reaches Anybody seat = true
+
+-- the seat's view is known to stay: what changed doesn't reach the seat, or what was done doesn't mark it
+abbrev pub is_kept : Reach → Outcome → ℕ → Bool
+is_kept reach o seat = not (reaches reach seat) || not (marks o.done seat)
 
 -- the view that an entry makes: of a seat that is Joined, where its view isn't known to stay; and of one that joins
-abbrev pub made_view : Bool → Bool → Outcome → Scene → ℕ → Seat → Option View
-made_view same acts o scene seat s = if is_joined s.book.state then new_view (is_kept same o seat) scene seat else new_view (not (acts && o.joins)) scene seat
-
-abbrev pub is_none : {A : Type 0} → Option A → Bool
-is_none None = true
-is_none (Some a) = false
+abbrev pub made_view : Reach → Bool → Outcome → Scene → ℕ → Seat → Option View
+made_view reach acts o scene seat s = if is_joined s.book.state then new_view (is_kept reach o seat) scene seat else new_view (not (acts && o.joins)) scene seat
 
 -- the view that was made, else the kept one
 abbrev pub made_or : Option View → Option View → Option View
@@ -61,6 +65,6 @@ view_then made kept seat = made_or (view_made_in (slice_get made seat)) (view_at
 
 -- each seat whose view is known to stay sees after the entry what it saw; and where what was done leaves the letters of
 -- the maps, they stay
-pub record AreStill (same : Bool) (o : Outcome) (before after : Scene) : Type 0 where
-  pub each : (seat : ℕ) → is_kept same o seat ≡ true → view_of after seat ≡ view_of before seat
+pub record AreStill (reach : Reach) (o : Outcome) (before after : Scene) : Type 0 where
+  pub each : (seat : ℕ) → is_kept reach o seat ≡ true → view_of after seat ≡ view_of before seat
   pub letters : leaves_letters o.done ≡ true → LettersStay before after

@@ -1,5 +1,5 @@
 //! A campaign as its callers see it: the world that it opened with, and its history.
-ghost use Rattle.std.specs.Prelude.{◌+◌, None, IfSome, ◌≡◌, ◌<◌, ◌≤◌, ◌++◌, ◌∷◌, [], ℕ, length, Some, IfOk, IsOk, OnOk, IfErr, OnErr, map, flat_map, drop, option_map, is_some, true, false, ◌-◌, vec_len, vec_capacity};
+ghost use Rattle.std.specs.Prelude.{◌+◌, None, IfSome, ◌≡◌, ◌<◌, ◌≤◌, ◌++◌, ◌∷◌, [], ℕ, length, Some, IfOk, IsOk, OnOk, IfErr, OnErr, map, flat_map, drop, slice_get, option_map, is_some, true, false, ◌-◌, vec_len, vec_capacity};
 ghost use Rattle.campaign_file.specs.Campaign.{IsOpening as IsOpeningList};
 ghost use Rattle.mails.specs.Texts.{tagged_text, text_of};
 ghost use Rattle.campaign_law.specs.Worlds.{opening_world, FitsTogether};
@@ -446,6 +446,13 @@ impl<E: Eye + Drop> Campaign<E> {
         };
         let joined = post.book.state().is_joined();
         heard(&self.said, seat, joined)
+    }
+
+    /// The entry at this place of the history; `None` exactly behind its end.
+    pub fn entry_at(&self, place: u64) -> Option<&Entry>
+        ensures { option_copied result ≡ slice_get self.now.history place }
+    {
+        self.history.get(place as usize)
     }
 
     /// The seat's state.

@@ -21,17 +21,19 @@ ghost use Rattle.campaign_core.specs.Leaving.{cut_due, due, frees as frees_lem};
 ghost use Rattle.campaign_core.specs.Taking.{count_in, is_taken};
 ghost use Rattle.campaign_core.specs.Sound.{AreSound};
 ghost use Rattle.campaign_law.specs.Law.{answer_of};
-ghost use Rattle.campaign_core.specs.Changed.{IsChanged, scene_in, fields_in};
+ghost use Rattle.campaign_core.specs.Changed.{IsChanged, reach_of as reach_of_lem, scene_in, fields_in};
+ghost use Rattle.view_marks.specs.Unseen.{is_unseen as is_unseen_lem};
 ghost use Rattle.campaign_core.specs.Glances.{AreGlances, ViewsFit};
 ghost use Rattle.campaign_core.specs.Looking.{looks_at};
 ghost use Rattle.campaign_core.specs.Walked.{IsWalked, looks_on_way};
 ghost use Rattle.campaign_core.specs.Steps.{with_book};
 ghost use Rattle.campaign_core.specs.Prepared.{IsPrepared};
-ghost use Rattle.campaign_core.specs.Shown.{AreShown, is_none, made_or, made_view, view_then};
+ghost use Rattle.campaign_core.specs.Shown.{AreShown, made_or, made_view, view_then};
 
 use crate::boxed::Boxed;
 use crate::deciding::decide;
 use crate::queues::{Glances, NextSeats, next_seats};
+use crate::reach::Reach;
 use crate::state::{NextPost, State};
 use campaign_law::{Answer, Entry};
 use cells::CellSet;
@@ -44,6 +46,7 @@ use seats::SeatBook;
 use std::alloc::Global;
 use topology::Eye;
 use view_keep::Keep;
+use view_marks::is_unseen;
 use views::View;
 use vision::Fields;
 use world::Scene;
@@ -55,6 +58,8 @@ pub(crate) struct Changed {
     pub(crate) scene: Scene,
     pub(crate) fields: Option<Fields>,
     pub(crate) seen: Vec<CellSet>,
+    /// Players see and are shown what they saw and were shown before; then nothing of it stands in `seen`.
+    pub(crate) unseen: bool,
 }
 
 /// All that an entry makes, before any of it is put in its place.
@@ -168,17 +173,23 @@ fn walk<E: Eye>(
     }
 }
 
-/// The scene in which what players see is exposed to them, and what they see.
+/// The scene in which what players see is exposed to them, and what they see; with `unseen` it is known to be exposed to them
+/// already, and nothing is looked for.
 fn settled(
     alloc: Global,
     scene: Scene,
+    unseen: bool,
     next: &Option<Fields>,
     fields: &Fields,
 ) -> Result<(Scene, Vec<CellSet>), Memory>
-    requires { AreKept scene (unwrap_or next.now fields.now) }
+    requires kept { AreKept scene (unwrap_or next.now fields.now) }
+    requires unseen { unseen ≡ true → IsSettled scene }
     ensures scene { IfOk result (λ r. r.0 ≡ settled_lem scene) }
     ensures seen { IfOk result (λ r. AreSeen r.0 r.1.items) }
 {
+    if unseen {
+        return Ok((scene, Vec::new(alloc)));
+    }
     match next {
         Some(next) => settled_by(alloc, scene, next),
         None => settled_by(alloc, scene, fields),
@@ -197,6 +208,14 @@ fn settled_by(
     serve(&scene, fields);
     let seen = settle(alloc, &mut scene, fields)?;
     Ok((scene, seen))
+}
+
+/// Whether the command, which takes this way, changes a hidden token alone.
+fn is_unseen_by(scene: &Scene, command: &Command, way: &Option<Way>) -> bool
+    ensures command { result ≡ true → is_unseen_lem scene.now (Some command.now) ≡ true }
+    ensures way { result ≡ true → way.now ≡ None }
+{
+    way.is_none() && is_unseen(scene, command)
 }
 
 /// The scene after the entry with its fields; none, where the entry leaves it as it is.
@@ -234,13 +253,15 @@ pub(crate) fn changed_scene<E: Eye>(
     };
     // The table tells with its length that no id is there twice.
     let _count = scene.tokens().len();
+    let unseen = is_unseen_by(before, command, &way);
     let fields = next_fields(alloc, &scene, command, keep.fields(), eye)?;
     walk(alloc, &mut scene, &way, &fields, keep.fields(), eye)?;
-    let after = settled(alloc, scene, &fields, keep.fields())?;
+    let after = settled(alloc, scene, unseen, &fields, keep.fields())?;
     let changed = Changed {
         scene: after.0,
         fields,
         seen: after.1,
+        unseen,
     };
     Boxed::some(alloc, changed)
 }
@@ -271,7 +292,7 @@ pub(crate) fn seats_after(
       scene = scene_in state.now.scene changed.now;
     } ≡ state_after (law state.now) entry.now) }
     ensures views { IfOk result (λ n. n.views.items ≡ mapped_from
-        (λ seat p. made_view (is_none changed.now) (seat_of entry.now == seat) (outcome_of (world_at state.now) entry.now)
+        (λ seat p. made_view (reach_of_lem changed.now) (seat_of entry.now == seat) (outcome_of (world_at state.now) entry.now)
         (scene_after (world_at state.now) entry.now) seat p.seat) 0 state.now.posts) }
 {
     let glances = glances(state, keep, entry, changed);
@@ -292,7 +313,7 @@ fn glances<'s>(
     ensures before { result.before.now ≡ state.now.scene }
     ensures keep { result.keep.now ≡ keep.now }
     ensures after { result.after.now ≡ scene_in state.now.scene changed.now }
-    ensures same { result.same ≡ is_none changed.now }
+    ensures reach { result.reach ≡ reach_of_lem changed.now }
 {
     let _entry = entry;
     match changed {
@@ -308,7 +329,7 @@ fn glances_still<'s>(state: &'s State, keep: &'s Keep) -> Glances<'s>
     ensures before { result.before.now ≡ state.now.scene }
     ensures keep { result.keep.now ≡ keep.now }
     ensures after { result.after.now ≡ state.now.scene }
-    ensures same { result.same ≡ true }
+    ensures reach { result.reach ≡ Reach.Nobody }
 {
     let scene = state.scene();
     let fields = keep.fields();
@@ -319,7 +340,18 @@ fn glances_still<'s>(state: &'s State, keep: &'s Keep) -> Glances<'s>
         after: scene,
         fields,
         seen: &[],
-        same: true,
+        reach: Reach::Nobody,
+    }
+}
+
+/// Whom the change reaches.
+fn reach_of(changed: &Changed) -> Reach
+    ensures { result ≡ reach_of_lem (Some changed.now) }
+{
+    if changed.unseen {
+        Reach::Master
+    } else {
+        Reach::Anybody
     }
 }
 
@@ -332,7 +364,7 @@ fn glances_at<'s>(state: &'s State, keep: &'s Keep, changed: &'s Changed) -> Gla
     ensures before { result.before.now ≡ state.now.scene }
     ensures keep { result.keep.now ≡ keep.now }
     ensures after { result.after.now ≡ changed.now.scene }
-    ensures same { result.same ≡ false }
+    ensures reach { result.reach ≡ reach_of_lem (Some changed.now) }
 {
     let fields = match &changed.fields {
         Some(fields) => fields,
@@ -346,7 +378,7 @@ fn glances_at<'s>(state: &'s State, keep: &'s Keep, changed: &'s Changed) -> Gla
         after: &changed.scene,
         fields,
         seen: changed.seen.as_slice(),
-        same: false,
+        reach: reach_of(changed),
     }
 }
 

@@ -6,10 +6,10 @@ use Rattle.campaign_law.specs.Outcome.{Outcome}
 use Rattle.campaign_law.specs.World.{World, seat_at, step, scene_after, steps_of, outcome_of}
 use Rattle.campaign_law.specs.Law.{answer_of}
 use Rattle.campaign_law.proofs.Lists.{length-mapped_from, mapped_from-map}
-use Rattle.campaign_core.specs.Changed.{IsChanged}
+use Rattle.campaign_core.specs.Changed.{IsChanged, reach_of}
 use Rattle.campaign_core.specs.Places.{Place, posted, world_at}
 use Rattle.campaign_core.specs.Steps.{with_book}
-use Rattle.campaign_core.specs.Shown.{is_none, view_then}
+use Rattle.campaign_core.specs.Shown.{view_then}
 use Rattle.campaign_core.proofs.Laws.{world_law}
 use Rattle.campaign_core.proofs.Shows.{stays_in_view, views_stand}
 use Rattle.campaign_core.proofs.next.made_by.Goals as goal
@@ -23,7 +23,7 @@ returns-clause-prepared g c =
     let posts = length-map c.args.state.now.posts posted in
     let nexts = c.in_ok-nexts.ensures.count in
     let views = ap length c.in_ok-nexts.ensures.views ∙ length-mapped_from _ 0 c.args.state.now.posts in
-    let seen = views_stand w e c.args.keep.now.views p.views.items (is_none c.in_ok-changed.changed) c.requires.views
+    let seen = views_stand w e c.args.keep.now.views p.views.items (reach_of c.in_ok-changed.changed) c.requires.views
     (stays_in_view w e c.args.keep.now.fields c.in_ok-changed.changed c.requires.fits c.requires.tables c.requires.settled c.in_ok-changed.ensures.changed)
     (c.in_ok-nexts.ensures.views ∙ sym (mapped_from-map _ (λ (x : Place). x.seat) 0 c.args.state.now.posts)) in
     record {

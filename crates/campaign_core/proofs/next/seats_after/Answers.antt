@@ -1,4 +1,4 @@
-use Rattle.std.proofs.Common.{map, Bool, ◌∙◌, sym, ap, subst, eqb}
+use Rattle.std.proofs.Common.{map, ◌∙◌, sym, ap, subst, eqb}
 use Rattle.std.specs.Prelude.{option_map, slice_get}
 use Rattle.player_view.specs.View.{view_of}
 use Rattle.view_keep.specs.Kept.{Kept}
@@ -9,9 +9,10 @@ use Rattle.campaign_law.specs.State.{post_by}
 use Rattle.campaign_core.specs.Places.{Place, posted, put_all, world_at}
 use Rattle.campaign_core.specs.Sound.{AreSound}
 use Rattle.campaign_core.proofs.Laws.{stated_law}
-use Rattle.campaign_core.specs.Changed.{scene_in}
+use Rattle.campaign_core.specs.Changed.{reach_of, scene_in}
 use Rattle.campaign_core.specs.Steps.{with_book}
-use Rattle.campaign_core.specs.Shown.{AreStill, IsShown, is_none, made_view}
+use Rattle.campaign_core.specs.declared.reach.Reach.{Reach}
+use Rattle.campaign_core.specs.Shown.{AreStill, IsShown, made_view}
 use Rattle.campaign_core.proofs.Nexts.{stands, if_ok}
 use Rattle.campaign_core.specs.Glances.{ViewsFit}
 use Rattle.campaign_core.proofs.Following.{views_fit}
@@ -50,7 +51,7 @@ returns-clause-state c = if_ok c.next_seats.result _ _ (λ n is. stated_law c.ar
 pub returns-clause-views : goal.returns-clause-views
 unfolding with_book
 returns-clause-views c = if_ok c.next_seats.result _ _ (λ n is. is
-    ∙ (λ i. mapped_from (λ seat (p : Place). made_view (c.glances-glances.ensures.same i) (eqb (c.seat.ensures i) seat) (c.requires.outcome i)
+    ∙ (λ i. mapped_from (λ seat (p : Place). made_view (c.glances-glances.ensures.reach i) (eqb (c.seat.ensures i) seat) (c.requires.outcome i)
     ((c.glances-glances.ensures.after ∙ stands (world_at c.args.state.now) c.args.entry.now c.args.keep.now.fields c.args.changed.now c.requires.changed) i) seat p.seat) 0 (c.posts.ensures.value i))) c.next_seats.ensures.views
 
 pub next_seats-requires-clause-still : goal.next_seats-requires-clause-still
@@ -58,10 +59,10 @@ unfolding with_book
 next_seats-requires-clause-still c =
     let w = world_at c.args.state.now in
     let after = c.glances-glances.ensures.after ∙ stands w c.args.entry.now c.args.keep.now.fields c.args.changed.now c.requires.changed in
-    let still : AreStill c.glances-glances.result.same (with_book c.args.outcome.now c.args.book) c.glances-glances.result.before.now c.glances-glances.result.after.now =
-    subst (λ (b : Bool). AreStill b (with_book c.args.outcome.now c.args.book) c.glances-glances.result.before.now c.glances-glances.result.after.now) (sym c.glances-glances.ensures.same)
-    (subst (λ (o : Outcome). AreStill (is_none c.args.changed.now) o c.glances-glances.result.before.now c.glances-glances.result.after.now) (sym c.requires.outcome)
-    (subst (λ (s : Scene). AreStill (is_none c.args.changed.now) (outcome_of w c.args.entry.now) s c.glances-glances.result.after.now) (sym c.glances-glances.ensures.before)
-    (subst (AreStill (is_none c.args.changed.now) (outcome_of w c.args.entry.now) c.args.state.now.scene) (sym after)
+    let still : AreStill c.glances-glances.result.reach (with_book c.args.outcome.now c.args.book) c.glances-glances.result.before.now c.glances-glances.result.after.now =
+    subst (λ (r : Reach). AreStill r (with_book c.args.outcome.now c.args.book) c.glances-glances.result.before.now c.glances-glances.result.after.now) (sym c.glances-glances.ensures.reach)
+    (subst (λ (o : Outcome). AreStill (reach_of c.args.changed.now) o c.glances-glances.result.before.now c.glances-glances.result.after.now) (sym c.requires.outcome)
+    (subst (λ (s : Scene). AreStill (reach_of c.args.changed.now) (outcome_of w c.args.entry.now) s c.glances-glances.result.after.now) (sym c.glances-glances.ensures.before)
+    (subst (AreStill (reach_of c.args.changed.now) (outcome_of w c.args.entry.now) c.args.state.now.scene) (sym after)
     (stays_in_view w c.args.entry.now c.args.keep.now.fields c.args.changed.now c.requires.fits c.requires.tables c.requires.settled c.requires.changed)))) in
     record { each = still.each; letters = still.letters }

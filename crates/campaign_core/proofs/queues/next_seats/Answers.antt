@@ -14,7 +14,7 @@ use Rattle.campaign_core.proofs.queues.next_seats.Goals as goal
 
 pub loop-post-init : goal.loop-post-init
 loop-post-init c =
-    let h : ℕ → Place → Option View = λ seat p. made_view c.args.glances.now.same (eqb c.args.actor seat) c.args.outcome.now c.args.glances.now.after.now seat p.seat in
+    let h : ℕ → Place → Option View = λ seat p. made_view c.args.glances.now.reach (eqb c.args.actor seat) c.args.outcome.now c.args.glances.now.after.now seat p.seat in
     record {
       place = refl;
       book = first_left c.args.actor c.args.book;
@@ -30,7 +30,7 @@ next_seat-requires-clause-sound c = c.requires.sound c.loop-post.post-index (pos
 pub loop-post-preserved : goal.loop-post-preserved
 loop-post-preserved c =
     let f : ℕ → Post → Post = λ seat post. post_by seat (eqb c.args.actor seat) (with_book c.args.outcome.now c.args.book) (view_of c.args.glances.now.before.now seat) (view_of c.args.glances.now.after.now seat) post in
-    let h : ℕ → Place → Option View = λ seat p. made_view c.args.glances.now.same (eqb c.args.actor seat) c.args.outcome.now c.args.glances.now.after.now seat p.seat in
+    let h : ℕ → Place → Option View = λ seat p. made_view c.args.glances.now.reach (eqb c.args.actor seat) c.args.outcome.now c.args.glances.now.after.now seat p.seat in
     let seat = c.in-Some.seat in
     let post = posted c.post-item.result in
     let at : eqb c.args.actor c.loop-post.number ≡ c.eq-acts.result = ap (eqb c.args.actor) (sym c.in-Some.ensures.value) ∙ sym c.eq-acts.ensures in
@@ -47,7 +47,7 @@ loop-post-preserved c =
           c.in_ok-add_seat.ensures.nexts c.loop-post.invariant.made;
       views = mapped_on h c.loop-post.number c.loop-post.post-index c.args.posts.now c.post-item.result c.loop-post.next.views.items _ _ c.in_ok-made.made.view c.loop-post-test.true (sym c.post-item.is)
           c.in_ok-add_seat.ensures.views
-          (c.in_ok-made.ensures.view ∙ ap (λ b. made_view c.args.glances.now.same b c.args.outcome.now c.args.glances.now.after.now seat c.post-item.result.seat) c.eq-acts.ensures
+          (c.in_ok-made.ensures.view ∙ ap (λ b. made_view c.args.glances.now.reach b c.args.outcome.now c.args.glances.now.after.now seat c.post-item.result.seat) c.eq-acts.ensures
           ∙ ap (λ n. h n c.post-item.result) c.in-Some.ensures.value)
           c.loop-post.invariant.views;
     }

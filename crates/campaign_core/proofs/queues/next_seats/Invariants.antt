@@ -15,5 +15,5 @@ invariant-loop-post l = record {
   book : l.book ≡ book_left l.actor l.number l.fn.book;
   count : length l.next.nexts.items ≡ l.post-index;
   made : AreMade (λ seat post. post_by seat (eqb l.actor seat) (with_book l.outcome l.fn.book) (view_of l.glances.before.now seat) (view_of l.glances.after.now seat) post) l.next.nexts.items l.post-index (map posted l.posts);
-  views : l.next.views.items ++ mapped_from (λ seat p. made_view l.glances.same (eqb l.actor seat) l.outcome l.glances.after.now seat p.seat) l.number (drop l.post-index l.posts) ≡ mapped_from (λ seat p. made_view l.glances.same (eqb l.actor seat) l.outcome l.glances.after.now seat p.seat) 0 l.posts;
+  views : l.next.views.items ++ mapped_from (λ seat p. made_view l.glances.reach (eqb l.actor seat) l.outcome l.glances.after.now seat p.seat) l.number (drop l.post-index l.posts) ≡ mapped_from (λ seat p. made_view l.glances.reach (eqb l.actor seat) l.outcome l.glances.after.now seat p.seat) 0 l.posts;
 }
