@@ -363,4 +363,8 @@ impl Disk for MemDisk {
     fn faults(&self) -> u64 {
         self.faults
     }
+
+    fn now(&self) -> u64 {
+        self.calls.len() as u64
+    }
 }
