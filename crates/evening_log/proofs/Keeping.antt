@@ -135,32 +135,30 @@ module _ {D : Type 0} (seen : D → List ℕ) (may_leave : D → List ℕ → Ty
         subst (λ (s : Bool). KeepsMore seen may_leave moment left_since group (Err fault) old end new end_after s) (sym stuck_is)
         (puts_fault group old new end end_after fault (subst (λ (es : List Entry). LeavesNoneOrAll seen may_leave moment left_since old end new es) same leaves) full memory end_is append_fault)
 
-  -- a log that has just the front
-  starts : (only_now : (disk : D) (c : List ℕ) → left_since disk (moment disk) c → may_leave disk c) (text : List ℕ) (front : List Entry) (disk : D) (end : ℕ)
-      → HoldsLog seen may_leave disk end text front → KeepsDisk seen may_leave moment left_since text front (length front) (moment disk) (length front) false disk end
-  starts only_now text front disk end held =
-      let whole : take (length front) front ≡ front = take_all (length front) front (omega arith) in
-      let now : (c : List ℕ) → may_leave disk c → LeavesPart text (length front) front c =
+  -- a log that has the first `recovered` entries of the front
+  starts : (only_now : (disk : D) (c : List ℕ) → left_since disk (moment disk) c → may_leave disk c) (text : List ℕ) (front : List Entry) (recovered : ℕ) (disk : D) (end : ℕ)
+      → recovered ≤ length front → HoldsLog seen may_leave disk end text (take recovered front) → KeepsDisk seen may_leave moment left_since text front recovered (moment disk) recovered false disk end
+  starts only_now text front recovered disk end within held =
+      let now : (c : List ℕ) → may_leave disk c → LeavesPart text recovered front c =
       λ c may. record {
-        count = length front;
+        count = recovered;
         least_is = omega arith;
-        within = omega arith;
-        is = subst (λ es. IsLog text es c) (sym whole) (subst (λ file. IsLog text front file) (sym (held.durable c may)) held.log);
+        within = within;
+        is = subst (λ file. IsLog text (take recovered front) file) (sym (held.durable c may)) held.log;
       }
       in
       record {
-        holds = λ free. subst (λ es. HoldsLog seen may_leave disk end text es) (sym whole) held;
+        holds = λ free. held;
         now = now;
         began = omega arith;
         since = λ c left. now c (only_now disk c left);
       }
 
   pub starts_at : (only_now : (disk : D) (c : List ℕ) → left_since disk (moment disk) c → may_leave disk c) (text : List ℕ) (front : List Entry) (recovered start : ℕ) (disk : D) (end : ℕ)
-      → recovered ≡ length front → start ≡ moment disk
-      → HoldsLog seen may_leave disk end text front → KeepsDisk seen may_leave moment left_since text front recovered start recovered false disk end
-  starts_at only_now text front recovered start disk end count_is start_is held =
-      subst (λ (n : ℕ). KeepsDisk seen may_leave moment left_since text front n start n false disk end) (sym count_is)
-      (subst (λ (s : ℕ). KeepsDisk seen may_leave moment left_since text front (length front) s (length front) false disk end) (sym start_is) (starts only_now text front disk end held))
+      → recovered ≤ length front → start ≡ moment disk
+      → HoldsLog seen may_leave disk end text (take recovered front) → KeepsDisk seen may_leave moment left_since text front recovered start recovered false disk end
+  starts_at only_now text front recovered start disk end within start_is held =
+      subst (λ (s : ℕ). KeepsDisk seen may_leave moment left_since text front recovered s recovered false disk end) (sym start_is) (starts only_now text front recovered disk end within held)
 
 -- ---- a keeper
 

@@ -1,5 +1,5 @@
 //! The keeper of a log, and what its log keeps of the hall's history.
-ghost use Rattle.std.specs.Prelude.{◌≡◌, ◌++◌, length, false, All, IfOk};
+ghost use Rattle.std.specs.Prelude.{◌≡◌, ◌≤◌, ◌++◌, length, take, false, All, IfOk};
 ghost use Rattle.std.specs.Arc.{arc_value};
 ghost use Rattle.turn_lock.specs.Pass.{IsPassOf};
 ghost use Rattle.crash_log.specs.Log.{HoldsLog, IsDisks};
@@ -87,7 +87,7 @@ impl<O: Chronicle, K: Disk> Object for Keeper<O, K> {
 }
 
 impl<O: Chronicle + Drop, K: Disk> Keeper<O, K> {
-    /// A keeper of the hall's history by this pass, whose front the disk's log of this text has.
+    /// A keeper of the hall's history by this pass. The disk's log of this text has the first `recovered` entries of its front.
     pub fn new(
         alloc: Global,
         hall: Arc<Hall<O>>,
@@ -96,14 +96,13 @@ impl<O: Chronicle + Drop, K: Disk> Keeper<O, K> {
         journal: Journal,
         text: LineText,
         recovered: u64,
-        start: u64,
     ) -> Keeper<O, K>
         requires pass { IsPassOf (arc_value hall) pass }
-        requires recovered { recovered ≡ length pass.front }
-        requires holds { K.tells → HoldsLog K.seen K.may_leave disk journal text pass.front }
-        requires start { K.tells → start ≡ K.moment disk }
-        ensures { result ≡ record {
-          origin = record { hall = arc_value hall; text = text; recovered = recovered; start = start };
+        requires recovered { recovered ≤ length pass.front }
+        requires holds { K.tells → HoldsLog K.seen K.may_leave disk journal text (take recovered pass.front) }
+        ensures start { K.tells → result.origin.start ≡ K.moment disk }
+        ensures made { result ≡ record {
+          origin = record { hall = arc_value hall; text = text; recovered = recovered; start = result.origin.start };
           pass = pass;
           disk = disk;
           end = journal;
@@ -111,6 +110,7 @@ impl<O: Chronicle + Drop, K: Disk> Keeper<O, K> {
           stuck = false;
         } }
     {
+        let start = disk.now();
         Keeper {
             alloc,
             hall,
@@ -143,6 +143,19 @@ impl<O: Chronicle + Drop, K: Disk> Keeper<O, K> {
         )?;
         self.logged += group.list.len() as u64;
         Ok(group)
+    }
+
+    /// Whether the disk failed.
+    pub(crate) fn is_stuck(&self) -> bool {
+        self.stuck
+    }
+
+    /// Its disk.
+    pub fn into_disk(self) -> K
+        ensures disk { result ≡ self.disk }
+    {
+        let (_, disk) = self.into_parts();
+        disk
     }
 
     /// Its pass and its disk.

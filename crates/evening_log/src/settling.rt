@@ -1,5 +1,5 @@
 //! Waiting until entries are safe.
-ghost use Rattle.std.specs.Prelude.{◌≡◌, ◌≤◌, ◌++◌, OnOk};
+ghost use Rattle.std.specs.Prelude.{◌≡◌, ◌≤◌, ◌++◌, [], OnOk};
 ghost use mathlib.Core.List.{IsPrefix};
 ghost use Rattle.turn_lock.specs.Pass.{IsPassOf};
 ghost use Rattle.evening_log.specs.Keeping.{group_of};
@@ -71,4 +71,35 @@ fn put_group<O: Chronicle + Drop, K: Disk, R: Wait>(
         Ok(_) => Ok(()),
         Err(fault) => Err(fault),
     }
+}
+
+// Asks whether the disk failed.
+#[derive(Drop)]
+struct Asking {
+    stuck: bool,
+}
+
+impl<O: Chronicle + Drop, K: Disk> Job<Keeper<O, K>> for Asking {
+    ghost entries = { λ before after. [] };
+
+    ghost ran = { λ origin before found after left. left ≡ found };
+
+    fn run(&mut self, keeper: &mut Keeper<O, K>) {
+        self.stuck = keeper.is_stuck();
+    }
+}
+
+/// Whether the log's disk failed, so that nothing more is put behind it.
+pub(crate) fn is_stuck<O: Chronicle + Drop, K: Disk, R: Wait>(
+    rt: &R,
+    log: &Hall<Keeper<O, K>>,
+    pass: &mut Pass<Keeper<O, K>>,
+) -> bool
+    requires { IsPassOf log.now pass.old }
+    ensures hall { IsPassOf log.now pass.new }
+    ensures number { pass.new.number ≡ pass.old.number }
+{
+    let mut turn = Asking { stuck: false };
+    log.act_quietly(rt, pass, &mut turn);
+    turn.stuck
 }

@@ -1,6 +1,6 @@
 -- Where nobody else entered anything, no session of a hall is disturbed.
-use Rattle.std.proofs.Common.{◌≡◌, ◌<◌, ◌≤◌, ◌⊎◌, inl, inr, ℕ, zero, suc, Bool, true, false, List, [], ◌∷◌, ◌++◌, take, length, slice_get, All, refl, sym, ap, subst, ◌∙◌, arith, append_assoc}
-use Rattle.std.specs.Prelude.{◌==◌, ◌&&◌, Contains, Option, Some, None}
+use Rattle.std.proofs.Common.{◌≡◌, ◌<◌, ◌≤◌, ◌⊎◌, inl, inr, ℕ, zero, suc, true, false, List, [], ◌∷◌, ◌++◌, take, length, slice_get, All, refl, sym, ap, subst, ◌∙◌, arith, append_assoc}
+use Rattle.std.specs.Prelude.{◌==◌, Contains, Option, Some, None}
 use Rattle.std.specs.List.{AllByRecursion}
 use Rattle.std.specs.Arc.{arc_value}
 use Rattle.std.proofs.lemmas.List.{take-append-le}
@@ -15,10 +15,11 @@ use Rattle.seats.specs.declared.seat_state.SeatState.TheVariants.{Free, Joined, 
 use Rattle.campaign_law.specs.declared.entry.Entry.{Entry}
 use Rattle.campaign_law.specs.declared.entry.Entry.TheVariants.{Join, Line, Leave, Taken, Cut}
 use Rattle.campaign_law.specs.World.{World, outcome_of, replay}
-use Rattle.campaign_law.specs.Session.{standing_after, is_held_by, has_ended, IsSeated}
+use Rattle.campaign_law.specs.Law.{bytes_of}
+use Rattle.campaign_law.specs.Session.{standing_after, is_held_by, has_ended, session_at, IsSeated}
 use Rattle.campaign_law.proofs.SessionLaws.{still_held}
 use Rattle.turn_lock.specs.Pass.{HallState, PassState}
-use Rattle.turn_lock.proofs.Prefixes.{prefix_get}
+use Rattle.turn_lock.proofs.Prefixes.{prefix_get, prefix_length}
 use Rattle.line_io.specs.ReaderState.{ReaderState}
 use Rattle.session.specs.declared.sitting.Ended.{Ended}
 use Rattle.session.specs.declared.service.Sat.{Sat}
@@ -26,13 +27,18 @@ use Rattle.session.specs.Own.{StandsAt}
 use Rattle.session.specs.Heard.{IsReaders}
 use Rattle.session.specs.Written.{IsWriters}
 use Rattle.session.specs.Served.{IsUndisturbed, IsServed, is_of_session}
-use Rattle.session.specs.Sat.{HasSat, missing, refused, seated, IsSeatedSo}
+use Rattle.session.specs.Sat.{HasSat, missing, refused, seated}
 use Rattle.session.specs.Session.{HasServed, unread, strange, greeted}
+use Rattle.session.specs.Safely.{SaysSafely}
+use Rattle.session.specs.Safely as safely
 use Rattle.serving.specs.declared.sittings.Sitting.{Sitting}
-use Rattle.serving.specs.Runs.{HasRun, IsRunOf}
-use Rattle.serving.specs.Fates.{Fate, busy, sat, HoldsIn, own_of, owns_of}
-use Rattle.serving.specs.Served.{IsOf}
+use Rattle.serving.specs.Runs.{IsSafeRun}
+use Rattle.serving.specs.Fates.{Fate, busy, sat, HoldsIn, owns_of}
+use Rattle.serving.specs.Outside.{Outside}
+use Rattle.serving.specs.declared.serving_hall.Served.{Served}
+use Rattle.serving.specs.Served.{IsOf, Serves}
 use Rattle.serving.specs.Alone.{AreNewPasses, HaveNewPasses, NobodyElse, IsAccepted, WroteItsOwn, IsToldItsOwn}
+use Rattle.serving.specs.Safely.{NobodyElseFrom, WroteSafely, IsToldSafely}
 
 -- ---- what a session with this reader's number enters
 
@@ -105,14 +111,15 @@ no_place k c = absurd (let l = c.1 in omega (arith, l))
 front_take : {A : Type 0} (k : ℕ) (f h : List A) → IsPrefix f h → k ≤ length f → take k h ≡ take k f
 front_take k f h prefix le = ap (take k) (sym prefix.1) ∙ take-append-le k f prefix.0 le
 
--- what a session's passes got: nothing; a Join that was refused; or its Join and what stands behind it
-data GotPlaces (w : World) (G : List Entry) (r s : ℕ) (own : List ℕ) (ended : Ended) (before after : Option (List ℕ)) : Type 0 where
-  nothing : own ≡ [] → GotPlaces w G r s own ended before after
+-- What a session's passes got: nothing; a Join that was refused; or its Join and what stands behind it. `Wrote place seat` is what it wrote then, where it is
+-- undisturbed
+data GotPlaces (w : World) (G : List Entry) (r s : ℕ) (own : List ℕ) (Wrote : ℕ → ℕ → Type 0) : Type 0 where
+  nothing : own ≡ [] → GotPlaces w G r s own Wrote
   one_refused : (place seat : ℕ) (key : List ℕ) → own ≡ place ∷ [] → slice_get G place ≡ Some (Join seat key r s) → ((outcome_of (replay w (take place G)) (Join seat key r s)).refusal ≡ None → ⊥)
-      → GotPlaces w G r s own ended before after
+      → GotPlaces w G r s own Wrote
   joined : (place seat : ℕ) (key readers writers : List ℕ) → own ≡ place ∷ (readers ++ writers) → slice_get G place ≡ Some (Join seat key r s)
       → IsSeated w G place seat r s → All (StandsAt (IsBehindJoin w seat r s) G) (readers ++ writers)
-      → (IsUndisturbed w G (readers ++ writers) (record { seat = seat; place = place; reader = r; writer = s }) → WroteItsOwn w G place seat ended before after) → GotPlaces w G r s own ended before after
+      → (IsUndisturbed w G (readers ++ writers) (record { seat = seat; place = place; reader = r; writer = s }) → Wrote place seat) → GotPlaces w G r s own Wrote
 
 joined_longer : (w : World) (f h : List Entry) (place seat r s : ℕ) → IsPrefix f h → place < length f → IsSeated w f place seat r s → IsSeated w h place seat r s
 joined_longer w f h place seat r s prefix long is = record {
@@ -123,7 +130,7 @@ joined_longer w f h place seat r s prefix long is = record {
 }
 
 sat_places : (w : World) (G : List Entry) (seat : ℕ) (key : List ℕ) (p q s t : PassState Entry World) (text : Option (List ℕ)) (reader : ReaderState) (left before after : Option (List ℕ)) (m n : ℕ) (ended : Ended)
-    → HasSat w seat key p q s t text reader left before after m n ended → p.own ≡ [] → s.own ≡ [] → IsPrefix q.front G → IsPrefix t.front G → GotPlaces w G p.number s.number (q.own ++ t.own) ended before after
+    → HasSat w seat key p q s t text reader left before after m n ended → p.own ≡ [] → s.own ≡ [] → IsPrefix q.front G → IsPrefix t.front G → GotPlaces w G p.number s.number (q.own ++ t.own) (λ place seat. WroteItsOwn w G place seat ended before after)
 sat_places w G seat key p q s t text reader left before after m n ended (missing same_q same_t wrote rest end) reader_new writer_new first second =
     let one = same_q ∙ reader_new in
     let two = ap (λ x. x.own) same_t ∙ writer_new in
@@ -147,7 +154,7 @@ sat_places w G seat key p q s t text reader left before after m n ended (seated 
     (λ alone. record { output = did.output; written = did.has.written; front = (did.written alone).prefix; whole = did.whole alone; player = did.player })
 
 got_places : (w : World) (G : List Entry) (p q s t : PassState Entry World) (text left before after : Option (List ℕ)) (m n : ℕ) (ended : Ended)
-    → HasServed w p q s t text left before after m n ended → p.own ≡ [] → s.own ≡ [] → IsPrefix q.front G → IsPrefix t.front G → GotPlaces w G p.number s.number (q.own ++ t.own) ended before after
+    → HasServed w p q s t text left before after m n ended → p.own ≡ [] → s.own ≡ [] → IsPrefix q.front G → IsPrefix t.front G → GotPlaces w G p.number s.number (q.own ++ t.own) (λ place seat. WroteItsOwn w G place seat ended before after)
 got_places w G p q s t text left before after m n ended (unread reader stop real stops why same_q same_t wrote end) reader_new writer_new first second =
     let one = ap (λ x. x.own) same_q ∙ reader_new in
     let two = ap (λ x. x.own) same_t ∙ writer_new in
@@ -161,9 +168,9 @@ got_places w G p q s t text left before after m n ended (greeted seat key behind
 
 -- ---- one session among others
 
-module _ (w : World) (G : List Entry) (r s : ℕ) (own : List ℕ) (ended : Ended) (before after : Option (List ℕ)) where
+module _ (w : World) (G : List Entry) (base r s : ℕ) (own : List ℕ) (Wrote : ℕ → ℕ → Type 0) where
   -- all its entries are by its reader's number
-  entered_by : GotPlaces w G r s own ended before after → All (StandsAt (IsEnteredBy w r) G) own
+  entered_by : GotPlaces w G r s own Wrote → All (StandsAt (IsEnteredBy w r) G) own
   entered_by (nothing none) = subst (All (StandsAt (IsEnteredBy w r) G)) (sym none) (All-nil (StandsAt (IsEnteredBy w r) G))
   entered_by (one_refused place seat key is there never) =
       subst (All (StandsAt (IsEnteredBy w r) G)) (sym is)
@@ -173,14 +180,14 @@ module _ (w : World) (G : List Entry) (r s : ℕ) (own : List ℕ) (ended : Ende
       (All-cons (StandsAt (IsEnteredBy w r) G) place (readers ++ writers) (record { entry = Join seat key r s; there = there; lawful = refl })
       (stands_as (IsBehindJoin w seat r s) (IsEnteredBy w r) (by_number w seat r s) G (readers ++ writers) behind))
 
-  -- what stands at a place is its own, or another's by another number
+  -- what stands at a place from the base on is its own, or another's by another number
   abbrev IsApart : Type 0
-  IsApart = (k : ℕ) → k < length G → Contains own k ⊎ ((q : ℕ) × (q ≡ r → ⊥) × StandsAt (IsEnteredBy w q) G k)
+  IsApart = (k : ℕ) → base ≤ k → k < length G → Contains own k ⊎ ((q : ℕ) × (q ≡ r → ⊥) × StandsAt (IsEnteredBy w q) G k)
 
   module _ (apart : IsApart) where
     -- no other entered a Join of its number
-    no_other_join : (k seat : ℕ) (key : List ℕ) (writer : ℕ) → slice_get G k ≡ Some (Join seat key r writer) → Contains own k
-    no_other_join k seat key writer there = by_apart (apart k (slice_get_within G k (Join seat key r writer) there))
+    no_other_join : (k seat : ℕ) (key : List ℕ) (writer : ℕ) → base ≤ k → slice_get G k ≡ Some (Join seat key r writer) → Contains own k
+    no_other_join k seat key writer from there = by_apart (apart k from (slice_get_within G k (Join seat key r writer) there))
       where
         by_apart : Contains own k ⊎ ((q : ℕ) × (q ≡ r → ⊥) × StandsAt (IsEnteredBy w q) G k) → Contains own k
         by_apart (inl mine) = mine
@@ -215,8 +222,8 @@ module _ (w : World) (G : List Entry) (r s : ℕ) (own : List ℕ) (ended : Ende
       by_entry k q (Taken other count) held is law = same_reader k q other held is law
       by_entry k q (Cut other) held is law = absurd cc
 
-      own_alone : (k : ℕ) (e : Entry) → place < k → has_ended w (take k G) place seat ≡ false → slice_get G k ≡ Some e → is_of_session seat e ≡ true → Contains (readers ++ writers) k
-      own_alone k e late open_ there is = by_apart (apart k within)
+      own_alone : base ≤ place → (k : ℕ) (e : Entry) → place < k → has_ended w (take k G) place seat ≡ false → slice_get G k ≡ Some e → is_of_session seat e ≡ true → Contains (readers ++ writers) k
+      own_alone from k e late open_ there is = by_apart (apart k (omega (arith, from, late)) within)
         where
           within : k < length G
           within = slice_get_within G k e there
@@ -228,19 +235,19 @@ module _ (w : World) (G : List Entry) (r s : ℕ) (own : List ℕ) (ended : Ende
               let held = still_held w G place seat r s sits k late (omega (arith, within)) open_ in
               absurd (other.1 (by_entry k other.0 e held is (subst (IsEnteredBy w other.0 (take k G)) entry_is other.2.lawful)))
 
-      undisturbed : IsUndisturbed w G (readers ++ writers) (record { seat = seat; place = place; reader = r; writer = s })
-      undisturbed = record {
-        own_alone = own_alone;
-        once = λ k text late there. no_join_later k seat text r s (mine_later k late (no_other_join k seat text s there)) there;
+      undisturbed : base ≤ place → IsUndisturbed w G (readers ++ writers) (record { seat = seat; place = place; reader = r; writer = s })
+      undisturbed from = record {
+        own_alone = own_alone from;
+        once = λ k text late there. no_join_later k seat text r s (mine_later k late (no_other_join k seat text s (omega (arith, from, late)) there)) there;
       }
 
-    told_one : GotPlaces w G r s own ended before after → (place seat : ℕ) → IsAccepted w G place seat r s → WroteItsOwn w G place seat ended before after
-    told_one got place seat accepted = by_places got
+    told_one : GotPlaces w G r s own Wrote → (place seat : ℕ) → base ≤ place → IsAccepted w G place seat r s → Wrote place seat
+    told_one got place seat from accepted = by_places got
       where
         mine : Contains own place
-        mine = no_other_join place seat accepted.key s accepted.there
+        mine = no_other_join place seat accepted.key s from accepted.there
 
-        by_places : GotPlaces w G r s own ended before after → WroteItsOwn w G place seat ended before after
+        by_places : GotPlaces w G r s own Wrote → Wrote place seat
         by_places (nothing none) = absurd (no_place place (subst (λ l. Contains l place) none mine))
         by_places (one_refused there_ other key is there never) = absurd (by_place (one_place there_ place [] (subst (λ l. Contains l place) is mine)))
           where
@@ -252,12 +259,11 @@ module _ (w : World) (G : List Entry) (r s : ℕ) (own : List ℕ) (ended : Ende
             by_place (inr later) = no_place place later
         by_places (joined there_ other key readers writers is there sits behind wrote) = by_place (one_place there_ place (readers ++ writers) (subst (λ l. Contains l place) is mine))
           where
-            by_place : (there_ ≡ place) ⊎ Contains (readers ++ writers) place → WroteItsOwn w G place seat ended before after
+            by_place : (there_ ≡ place) ⊎ Contains (readers ++ writers) place → Wrote place seat
             by_place (inl same) =
                 let z : Some (Join other key r s) ≡ Some (Join seat accepted.key r s) = sym there ∙ ap (slice_get G) same ∙ accepted.there in
                 let seats : other ≡ seat = cc z in
-                subst (λ x. WroteItsOwn w G x seat ended before after) same
-                (subst (λ x. WroteItsOwn w G there_ x ended before after) seats (wrote (undisturbed there_ other key readers writers is sits behind)))
+                subst (λ x. Wrote x seat) same (subst (Wrote there_) seats (wrote (undisturbed there_ other key readers writers is sits behind (omega (arith, from, same)))))
             by_place (inr later) = absurd (no_join_later there_ other key readers writers is sits behind place seat accepted.key r s later accepted.there)
 
 -- ---- all sessions
@@ -291,9 +297,9 @@ below_next w G low reader writer front own first next mine below k there = by_ow
     by_own (inr here) = (reader, omega (arith, next), All-contains (StandsAt (IsEnteredBy w reader) G) own k mine here)
 
 -- so what one session entered stands apart from all else
-apart_from : (w : World) (G : List Entry) (low r writer : ℕ) (front own later : List ℕ) → low ≤ r → r < writer → AreBelow w G low front → AreFrom w G (suc writer) later → ((k : ℕ) → k < length G → Contains (front ++ (own ++ later)) k)
-    → (k : ℕ) → k < length G → Contains own k ⊎ ((q : ℕ) × (q ≡ r → ⊥) × StandsAt (IsEnteredBy w q) G k)
-apart_from w G low r writer front own later first next below more whole k within = by_front (Contains-append_cases front (own ++ later) k (whole k within))
+apart_from : (w : World) (G : List Entry) (base low r writer : ℕ) (front own later : List ℕ) → low ≤ r → r < writer → AreBelow w G low front → AreFrom w G (suc writer) later → ((k : ℕ) → base ≤ k → k < length G → Contains (front ++ (own ++ later)) k)
+    → (k : ℕ) → base ≤ k → k < length G → Contains own k ⊎ ((q : ℕ) × (q ≡ r → ⊥) × StandsAt (IsEnteredBy w q) G k)
+apart_from w G base low r writer front own later first next below more whole k from within = by_front (Contains-append_cases front (own ++ later) k (whole k from within))
   where
     by_behind : Contains own k ⊎ Contains later k → Contains own k ⊎ ((q : ℕ) × (q ≡ r → ⊥) × StandsAt (IsEnteredBy w q) G k)
     by_behind (inl mine) = inl mine
@@ -309,25 +315,31 @@ apart_from w G low r writer front own later first next below more whole k within
         inr (one.0, (λ same. absurd (omega (arith, first, bound, same))), one.2)
     by_front (inr here) = by_behind (Contains-append_cases own later k here)
 
-module _ {R In Out : Type 0} (hall : HallState World) (G : List Entry) (left : In → Option (List ℕ)) (written : Out → Option (List ℕ)) (in_faults : In → ℕ) (out_faults : Out → ℕ) where
+-- ---- what each session of a hall wrote
+
+module _ {R In Out : Type 0} (hall : HallState World) (G : List Entry) (base : ℕ) (Did : Sitting R In Out → (In × Out) × Sat → Type 0) (Wrote : Sitting R In Out → (In × Out) × Sat → ℕ → ℕ → Type 0) where
   abbrev GotNow : Fate R In Out → Type 0
   GotNow (busy ends) = Unit {0}
-  GotNow (sat sitting done) = GotPlaces hall.origin G sitting.reader.number sitting.writer.number (done.1.reader.own ++ done.1.writer.own) done.1.ended (written sitting.output) (written done.0.1)
+  GotNow (sat sitting done) = GotPlaces hall.origin G sitting.reader.number sitting.writer.number (done.1.reader.own ++ done.1.writer.own) (Wrote sitting done)
 
   abbrev ToldNow : Fate R In Out → Type 0
   ToldNow (busy ends) = Unit {0}
-  ToldNow (sat sitting done) = (place seat : ℕ) → IsAccepted hall.origin G place seat sitting.reader.number sitting.writer.number → WroteItsOwn hall.origin G place seat done.1.ended (written sitting.output) (written done.0.1)
+  ToldNow (sat sitting done) = (place seat : ℕ) → base ≤ place → IsAccepted hall.origin G place seat sitting.reader.number sitting.writer.number → Wrote sitting done place seat
 
-  got_one : (low : ℕ) (sitting : Sitting R In Out) (done : (In × Out) × Sat) → HoldsIn (IsRunOf left written in_faults out_faults) G (sat sitting done) → arc_value sitting.hall ≡ hall → AreNewPasses low sitting.reader sitting.writer → ∥ GotNow (sat sitting done) ∥₁
-  got_one low sitting done holds same new = ∥∥₁_map holds.0 (λ did.
-      subst (λ h. GotPlaces h.origin G sitting.reader.number sitting.writer.number (done.1.reader.own ++ done.1.writer.own) done.1.ended (written sitting.output) (written done.0.1)) same
-      (got_places (arc_value sitting.hall).origin G sitting.reader done.1.reader sitting.writer done.1.writer _ _ _ _ _ _ _ did.served new.reader_new new.writer_new holds.1 holds.2))
+  -- the same, where it is not told how
+  abbrev IsTold : Fate R In Out → Type 0
+  IsTold (busy ends) = Unit {0}
+  IsTold (sat sitting done) = (place seat : ℕ) → base ≤ place → IsAccepted hall.origin G place seat sitting.reader.number sitting.writer.number → ∥ Wrote sitting done place seat ∥₁
 
-  got_all : (fates : List (Fate R In Out)) (low high : ℕ) → AllByRecursion (HoldsIn (IsRunOf left written in_faults out_faults) G) fates → AllByRecursion (IsOf hall) fates → HaveNewPasses low fates high → ∥ AllByRecursion GotNow fates ∥₁
-  got_all [] low high each shared new = ∣ tt ∣₁
-  got_all (busy ends ∷ fates) low high each shared new = ∥∥₁_map (got_all fates low high each.1 shared.1 new) (λ rest. (tt, rest))
-  got_all (sat sitting done ∷ fates) low high each shared new =
-      ∥∥₁_map₂ (got_one low sitting done each.0 shared.0 new.0) (got_all fates (suc sitting.writer.number) high each.1 shared.1 new.1) (λ one rest. (one, rest))
+  -- what a session did says so of the places that it got
+  abbrev Gets : Type 0
+  Gets = (low : ℕ) (sitting : Sitting R In Out) (done : (In × Out) × Sat) → Did sitting done → arc_value sitting.hall ≡ hall → AreNewPasses low sitting.reader sitting.writer → IsPrefix done.1.reader.front G → IsPrefix done.1.writer.front G → GotNow (sat sitting done)
+
+  got_all : Gets → (fates : List (Fate R In Out)) (low high : ℕ) → AllByRecursion (HoldsIn Did G) fates → AllByRecursion (IsOf hall) fates → HaveNewPasses low fates high → ∥ AllByRecursion GotNow fates ∥₁
+  got_all gets [] low high each shared new = ∣ tt ∣₁
+  got_all gets (busy ends ∷ fates) low high each shared new = ∥∥₁_map (got_all gets fates low high each.1 shared.1 new) (λ rest. (tt, rest))
+  got_all gets (sat sitting done ∷ fates) low high each shared new =
+      ∥∥₁_map₂ each.0.0 (got_all gets fates (suc sitting.writer.number) high each.1 shared.1 new.1) (λ did rest. (gets low sitting done did shared.0 new.0 each.0.1 each.0.2, rest))
 
   -- what later sessions entered is by later numbers
   entered_later : (fates : List (Fate R In Out)) (low high : ℕ) → AllByRecursion GotNow fates → HaveNewPasses low fates high → AreFrom hall.origin G low (owns_of fates)
@@ -336,31 +348,130 @@ module _ {R In Out : Type 0} (hall : HallState World) (G : List Entry) (left : I
   entered_later (sat sitting done ∷ fates) low high got new k there =
       let own = done.1.reader.own ++ done.1.writer.own in
       from_next hall.origin G low sitting.reader.number sitting.writer.number own (owns_of fates) new.0.from_low new.0.next
-      (entered_by hall.origin G sitting.reader.number sitting.writer.number own done.1.ended (written sitting.output) (written done.0.1) got.0) (entered_later fates (suc sitting.writer.number) high got.1 new.1) k there
+      (entered_by hall.origin G base sitting.reader.number sitting.writer.number own (Wrote sitting done) got.0) (entered_later fates (suc sitting.writer.number) high got.1 new.1) k there
 
   told_all : (fates : List (Fate R In Out)) (front : List ℕ) (low high : ℕ) → AreBelow hall.origin G low front → AllByRecursion GotNow fates → HaveNewPasses low fates high
-      → ((k : ℕ) → k < length G → Contains (front ++ owns_of fates) k) → AllByRecursion ToldNow fates
+      → ((k : ℕ) → base ≤ k → k < length G → Contains (front ++ owns_of fates) k) → AllByRecursion ToldNow fates
   told_all [] front low high below got new whole = tt
   told_all (busy ends ∷ fates) front low high below got new whole = (tt, told_all fates front low high below got.1 new whole)
   told_all (sat sitting done ∷ fates) front low high below got new whole =
       let own = done.1.reader.own ++ done.1.writer.own in
       let r = sitting.reader.number in
       let s = sitting.writer.number in
-      let mine = entered_by hall.origin G r s own done.1.ended (written sitting.output) (written done.0.1) got.0 in (
-        told_one hall.origin G r s own done.1.ended (written sitting.output) (written done.0.1)
-            (apart_from hall.origin G low r s front own (owns_of fates) new.0.from_low new.0.next below (entered_later fates (suc s) high got.1 new.1) whole) got.0,
+      let mine = entered_by hall.origin G base r s own (Wrote sitting done) got.0 in (
+        told_one hall.origin G base r s own (Wrote sitting done)
+            (apart_from hall.origin G base low r s front own (owns_of fates) new.0.from_low new.0.next below (entered_later fates (suc s) high got.1 new.1) whole) got.0,
         told_all fates (front ++ own) (suc s) high (below_next hall.origin G low r s front own new.0.from_low new.0.next mine below) got.1 new.1
-            (subst (λ l. (k : ℕ) → k < length G → Contains l k) (sym (append_assoc front own (owns_of fates))) whole),
+            (subst (λ l. (k : ℕ) → base ≤ k → k < length G → Contains l k) (sym (append_assoc front own (owns_of fates))) whole),
       )
 
-  tells : (fates : List (Fate R In Out)) → ∥ AllByRecursion ToldNow fates ∥₁ → AllByRecursion (IsToldItsOwn hall.origin G written) fates
+  tells : (fates : List (Fate R In Out)) → ∥ AllByRecursion ToldNow fates ∥₁ → AllByRecursion IsTold fates
   tells [] told = tt
   tells (busy ends ∷ fates) told = (tt, tells fates (∥∥₁_map told (λ all. all.1)))
-  tells (sat sitting done ∷ fates) told = ((λ place seat accepted. ∥∥₁_map told (λ all. all.0 place seat accepted)), tells fates (∥∥₁_map told (λ all. all.1)))
+  tells (sat sitting done ∷ fates) told = ((λ place seat from accepted. ∥∥₁_map told (λ all. all.0 place seat from accepted)), tells fates (∥∥₁_map told (λ all. all.1)))
 
-  pub told_alone : (fates : List (Fate R In Out)) (low high : ℕ) → All (IsOf hall) fates → All (HoldsIn (IsRunOf left written in_faults out_faults) G) fates → HaveNewPasses low fates high → NobodyElse G fates
+  -- where nobody else entered anything from the base on, each session wrote so for a Join of its own from there on
+  told_from : Gets → (fates : List (Fate R In Out)) (low high : ℕ) → All (IsOf hall) fates → All (HoldsIn Did G) fates → HaveNewPasses low fates high → NobodyElseFrom base G fates → All IsTold fates
+  told_from gets fates low high shared each new nobody =
+      All-from_recursion IsTold fates
+      (tells fates (∥∥₁_map (got_all gets fates low high (recursion_from_All (HoldsIn Did G) fates each) (recursion_from_All (IsOf hall) fates shared) new)
+      (λ got. told_all fates [] low high (λ k none. absurd (no_place k none)) got new nobody)))
+
+-- ---- and that it told of no entry before it was safe
+
+and_safely : (Safe : ℕ → Type 0) (w : World) (G : List Entry) (p q s t : PassState Entry World) (ended : Ended) (before after : Option (List ℕ)) → SaysSafely Safe w p q s t before after → p.own ≡ [] → s.own ≡ [] → IsPrefix q.front G → IsPrefix t.front G
+    → GotPlaces w G p.number s.number (q.own ++ t.own) (λ place seat. WroteItsOwn w G place seat ended before after)
+    → GotPlaces w G p.number s.number (q.own ++ t.own) (λ place seat. IsAccepted w G place seat p.number s.number → WroteItsOwn w G place seat ended before after × WroteSafely Safe w G place seat before after)
+and_safely Safe w G p q s t ended before after says reader_new writer_new first second (nothing none) = nothing none
+and_safely Safe w G p q s t ended before after says reader_new writer_new first second (one_refused place seat key is there never) = one_refused place seat key is there never
+and_safely Safe w G p q s t ended before after says reader_new writer_new first second (joined place seat key readers writers is there sits behind wrote) =
+    joined place seat key readers writers is there sits behind (λ alone accepted. (wrote alone, by_says says alone accepted))
+  where
+    same_own : (xs ys : List ℕ) → q.own ≡ xs → t.own ≡ ys → xs ++ ys ≡ place ∷ (readers ++ writers)
+    same_own xs ys one two = sym (λ i. one i ++ two i) ∙ is
+
+    by_says : SaysSafely Safe w p q s t before after → IsUndisturbed w G (readers ++ writers) (record { seat = seat; place = place; reader = p.number; writer = s.number }) → IsAccepted w G place seat p.number s.number
+        → WroteSafely Safe w G place seat before after
+    by_says (safely.silent same) alone accepted = inl same
+    by_says (safely.strange same_q same_t safe) alone accepted = absurd (cc (same_own [] [] (ap (λ x. x.own) same_q ∙ reader_new) (ap (λ x. x.own) same_t ∙ writer_new)))
+    by_says (safely.refused other here text refusal entered cause same_t safe) alone accepted =
+        let e = Join other text p.number s.number in
+        let z : here ∷ [] ≡ place ∷ (readers ++ writers) = same_own (here ∷ []) [] (entered.own ∙ ap (λ l. l ++ here ∷ []) reader_new) (ap (λ x. x.own) same_t ∙ writer_new) in
+        let same : here ≡ place = cc z in
+        let within = slice_get_within q.front here e entered.there in
+        let found = front_take here q.front G first (omega (arith, within)) in
+        let at : Some e ≡ Some (Join seat accepted.key p.number s.number) = sym (prefix_get q.front G here e first entered.there) ∙ ap (slice_get G) same ∙ accepted.there in
+        let entry : e ≡ Join seat accepted.key p.number s.number = cc at in
+        let never = sym cause ∙ ap (λ l. (outcome_of (replay w l) e).refusal) (sym found) ∙ (λ i. (outcome_of (replay w (take (same i) G)) (entry i)).refusal) ∙ accepted.accepted in
+        absurd (cc never)
+    by_says (safely.seated other here text so) alone accepted =
+        let e = Join other text p.number s.number in
+        let z : here ∷ (so.readers ++ so.writers) ≡ place ∷ (readers ++ writers) =
+        same_own (here ∷ so.readers) so.writers (so.reader_own ∙ ap (λ l. (l ++ here ∷ []) ++ so.readers) reader_new) (so.writer_own ∙ ap (λ l. l ++ so.writers) writer_new) in
+        let same : here ≡ place = cc z in
+        let later : so.readers ++ so.writers ≡ readers ++ writers = cc z in
+        let at : Some e ≡ Some (Join seat key p.number s.number) = sym (prefix_get q.front G here e first so.there) ∙ ap (slice_get G) same ∙ there in
+        let seats : other ≡ seat = cc at in
+        let a = subst (λ l. IsUndisturbed w G l (record { seat = seat; place = place; reader = p.number; writer = s.number })) (sym later) alone in
+        let b = subst (λ x. IsUndisturbed w G (so.readers ++ so.writers) (record { seat = seat; place = x; reader = p.number; writer = s.number })) (sym same) a in
+        let quiet = subst (λ x. IsUndisturbed w G (so.readers ++ so.writers) (record { seat = x; place = here; reader = p.number; writer = s.number })) (sym seats) b in
+        let long = prefix_length t.front G second in
+        let within = so.within in
+        inr (record {
+          n = so.n;
+          safe = so.safe;
+          within = omega (arith, long, within);
+          output = so.output;
+          written = so.written;
+          front = subst (λ x. IsPrefix so.output (bytes_of (session_at w (take so.n G) x seat))) same (subst (λ x. IsPrefix so.output (bytes_of (session_at w (take so.n G) here x))) seats (so.front G first second quiet));
+        })
+
+-- ---- all sessions of a hall
+
+module _ {R In Out : Type 0} (hall : HallState World) (G : List Entry) (safe : Out → ℕ → Type 0) (left : In → Option (List ℕ)) (written : Out → Option (List ℕ)) (in_faults : In → ℕ) (out_faults : Out → ℕ) where
+  abbrev Did : Sitting R In Out → (In × Out) × Sat → Type 0
+  Did sitting done = IsSafeRun safe left written in_faults out_faults sitting done
+
+  abbrev Own : Sitting R In Out → (In × Out) × Sat → ℕ → ℕ → Type 0
+  Own sitting done place seat = WroteItsOwn hall.origin G place seat done.1.ended (written sitting.output) (written done.0.1)
+
+  abbrev OwnSafely : Sitting R In Out → (In × Out) × Sat → ℕ → ℕ → Type 0
+  OwnSafely sitting done place seat =
+      IsAccepted hall.origin G place seat sitting.reader.number sitting.writer.number → Own sitting done place seat × WroteSafely (safe done.0.1) hall.origin G place seat (written sitting.output) (written done.0.1)
+
+  gets_own : Gets hall G 0 Did Own
+  gets_own low sitting done did same new first second =
+      subst (λ h. GotPlaces h.origin G sitting.reader.number sitting.writer.number (done.1.reader.own ++ done.1.writer.own) (λ place seat. WroteItsOwn h.origin G place seat done.1.ended (written sitting.output) (written done.0.1))) same
+      (got_places (arc_value sitting.hall).origin G sitting.reader done.1.reader sitting.writer done.1.writer _ _ _ _ _ _ _ did.run.served new.reader_new new.writer_new first second)
+
+  gets_safely : (base : ℕ) → Gets hall G base Did OwnSafely
+  gets_safely base low sitting done did same new first second =
+      and_safely (safe done.0.1) hall.origin G sitting.reader done.1.reader sitting.writer done.1.writer done.1.ended (written sitting.output) (written done.0.1)
+      (subst (λ h. SaysSafely (safe done.0.1) h.origin sitting.reader done.1.reader sitting.writer done.1.writer (written sitting.output) (written done.0.1)) same did.says)
+      new.reader_new new.writer_new first second (gets_own low sitting done did same new first second)
+
+  own_one : (fate : Fate R In Out) → IsTold hall G 0 Did Own fate → IsToldItsOwn hall.origin G written fate
+  own_one (busy ends) told = tt
+  own_one (sat sitting done) told = λ place seat accepted. told place seat (omega arith) accepted
+
+  safely_one : (base : ℕ) (fate : Fate R In Out) → IsTold hall G base Did OwnSafely fate → IsToldSafely hall.origin G base safe written fate
+  safely_one base (busy ends) told = tt
+  safely_one base (sat sitting done) told = λ place seat from accepted. ∥∥₁_map (told place seat from accepted) (λ both. both accepted)
+
+  pub told_alone : (fates : List (Fate R In Out)) (low high : ℕ) → All (IsOf hall) fates → All (HoldsIn (IsSafeRun safe left written in_faults out_faults) G) fates → HaveNewPasses low fates high → NobodyElse G fates
       → All (IsToldItsOwn hall.origin G written) fates
   told_alone fates low high shared each new nobody =
-      All-from_recursion (IsToldItsOwn hall.origin G written) fates
-      (tells fates (∥∥₁_map (got_all fates low high (recursion_from_All (HoldsIn (IsRunOf left written in_faults out_faults) G) fates each) (recursion_from_All (IsOf hall) fates shared) new)
-      (λ got. told_all fates [] low high (λ k none. absurd (no_place k none)) got new nobody)))
+      All-weaker (IsTold hall G 0 Did Own) (IsToldItsOwn hall.origin G written) own_one fates (told_from hall G 0 Did Own gets_own fates low high shared each new (λ k from within. nobody k within))
+
+  told_safely_from : (base : ℕ) (fates : List (Fate R In Out)) (low high : ℕ) → All (IsOf hall) fates → All (HoldsIn (IsSafeRun safe left written in_faults out_faults) G) fates → HaveNewPasses low fates high → NobodyElseFrom base G fates
+      → All (IsToldSafely hall.origin G base safe written) fates
+  told_safely_from base fates low high shared each new nobody =
+      All-weaker (IsTold hall G base Did OwnSafely) (IsToldSafely hall.origin G base safe written) (safely_one base) fates (told_from hall G base Did OwnSafely (gets_safely base) fates low high shared each new nobody)
+
+-- Where nobody but the sessions entered anything from the place `base` on, each session whose Join was accepted there told of no entry before it was safe. A
+-- hall whose first pass had this front has `base` entries of before
+pub told_safely : {R In Out : Type 0} (hall : HallState World) (safe : Out → ℕ → Type 0) (left : In → Option (List ℕ)) (written : Out → Option (List ℕ)) (in_faults : In → ℕ) (out_faults : Out → ℕ) (served : Served) (count : ℕ)
+    (p q : PassState Entry World) (low high : ℕ) (early late : Outside In Out) (base : ℕ) → (serves : Serves {R = R} hall (IsSafeRun safe left written in_faults out_faults) written served count p q low high early late)
+    → NobodyElseFrom base q.front serves.fates → All (IsToldSafely hall.origin q.front base safe written) serves.fates
+told_safely hall safe left written in_faults out_faults served count p q low high early late base serves nobody =
+    told_safely_from hall q.front safe left written in_faults out_faults base serves.fates low high serves.shared serves.each serves.new nobody

@@ -1,14 +1,20 @@
 -- The campaign's text at the end.
-use Rattle.std.specs.Prelude.{◌≡◌, ℕ, Bool, true, false, List, [], ◌∷◌, ◌++◌, Option}
+use Rattle.std.specs.Prelude.{◌≡◌, ℕ, Bool, true, false, List, [], ◌∷◌, ◌++◌, length, Option}
 use mathlib.Core.List.{IsPrefix}
 use Rattle.campaign_law.specs.declared.entry.Entry.{Entry}
 use Rattle.campaign_law.specs.World.{World, replay}
 use Rattle.campaign_law.specs.Worlds.{opened_of}
 use Rattle.campaign_writing.specs.Canonical.{canonical}
 use Rattle.turn_lock.specs.Pass.{PassState}
+use Rattle.serving.specs.declared.endings.Dump.{Dump}
 use Rattle.serving.specs.declared.serving_hall.Served.{Served}
 use Rattle.serving.specs.declared.serving_hall.Served.TheVariants as answers
 use Rattle.serving.specs.Fates.{IsPrinted}
+
+-- the canonical text of the campaign with this history, and its length
+pub record IsDumpOf (origin : World) (h : List Entry) (dump : Dump) : Type 0 where
+  pub text_is : dump.text ≡ canonical (opened_of (replay origin h))
+  pub length_is : dump.length ≡ length h
 
 -- the line was printed, or after a fault a front of it
 abbrev pub PrintsText : Served → List ℕ → Option (List ℕ) → Option (List ℕ) → Type 0

@@ -6,3 +6,4 @@ pub mod Alone
 pub mod Served
 pub mod Endings
 pub mod Hosted
+pub mod Safely

@@ -10,6 +10,7 @@ use Rattle.session.specs.declared.sitting.Ended.TheVariants.{ReadFault, WriteFau
 use Rattle.session.specs.declared.service.Sat.{Sat}
 use Rattle.session.specs.Own.{Grew}
 use Rattle.session.specs.Session.{HasServed}
+use Rattle.session.specs.Safely.{SaysSafely}
 use Rattle.serving.specs.declared.sittings.Sitting.{Sitting}
 
 -- A session at a hall, with the reader's pass before and after it, p and q, and the writer's, s and t. Its input had this text left, its
@@ -29,3 +30,8 @@ abbrev pub IsRunOf : {R In Out : Type 0} → (In → Option (List ℕ)) → (Out
 IsRunOf left written in_faults out_faults sitting done =
     HasRun (arc_value sitting.hall) sitting.reader done.1.reader sitting.writer done.1.writer (left sitting.input) (left done.0.0) (written sitting.output) (written done.0.1)
     (in_faults sitting.input) (in_faults done.0.0) (out_faults sitting.output) (out_faults done.0.1) done.1.ended
+
+-- And what it wrote tells of no entry that isn't safe. `safe` is what an output knows of that
+pub record IsSafeRun {R In Out : Type 0} (safe : Out → ℕ → Type 0) (left : In → Option (List ℕ)) (written : Out → Option (List ℕ)) (in_faults : In → ℕ) (out_faults : Out → ℕ) (sitting : Sitting R In Out) (done : (In × Out) × Sat) : Type 0 where
+  pub run : IsRunOf left written in_faults out_faults sitting done
+  pub says : SaysSafely (safe done.0.1) (arc_value sitting.hall).origin sitting.reader done.1.reader sitting.writer done.1.writer (written sitting.output) (written done.0.1)

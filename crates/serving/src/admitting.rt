@@ -10,7 +10,7 @@ ghost use Rattle.serving.specs.Guests.{CanSplit, HasSplit, GotNewPasses, AdmitsB
 use crate::guests::{Admission, Guest, Stop};
 use crate::runs::SessionSource;
 use crate::sittings::Sitting;
-use line_io::{Door, Sink, Source, Spawner};
+use line_io::{Door, Outlet, Source, Spawner};
 use session::Table;
 use std::alloc::Global;
 use std::snapshot::Snapshot;
@@ -55,7 +55,7 @@ pub(crate) fn admit<
 ) -> (Pass<Table>, Admission<P::Task, L::In, L::Out>)
 where
     L::In: SessionSource<L::Out> + Drop,
-    L::Out: Drop,
+    L::Out: Outlet + Drop,
     requires can { CanSplit (arc_value hall.now) pass usher.old }
     requires room { usher.old.count < 2 ^ 64 - 2 }
     requires opening { IsOpening (arc_value hall.now).origin }
@@ -96,7 +96,7 @@ pub(crate) fn admit_all<
 ) -> (Pass<Table>, Vec<Guest<P::Task, L::In, L::Out>>, Stop)
 where
     L::In: SessionSource<L::Out> + Drop,
-    L::Out: Drop,
+    L::Out: Outlet + Drop,
     requires can { CanSplit (arc_value hall.now) pass usher.old }
     requires room { (usher.old.count < 2 ^ 63) × (count ≤ 1024) }
     requires opening { IsOpening (arc_value hall.now).origin }
@@ -130,7 +130,7 @@ where
 fn seat<
     R: Threads + Wait + Sync + Clone + Drop,
     I: SessionSource<O> + Drop,
-    O: Sink + Drop,
+    O: Outlet + Drop,
     P: Spawner<Sitting<R, I, O>>,
 >(
     rt: &R,

@@ -1,36 +1,63 @@
 //! The campaign's text at the end.
-ghost use Rattle.std.specs.Prelude.{◌≡◌, ◌≤◌, ◌++◌, ◌∷◌, [], false, IfSome};
+ghost use Rattle.std.specs.Prelude.{◌≡◌, ◌≤◌, ◌++◌, ◌∷◌, [], false, IfOk};
+ghost use mathlib.Core.List.{IsPrefix};
 ghost use Rattle.line_io.specs.Counts.{CountRose};
 ghost use Rattle.turn_lock.specs.Pass.{IsPassOf};
-ghost use Rattle.campaign_law.specs.World.{replay};
-ghost use Rattle.campaign_law.specs.Worlds.{opened_of};
-ghost use Rattle.campaign_writing.specs.Canonical.{canonical};
 ghost use Rattle.serving.specs.Fates.{IsPrinted};
-ghost use Rattle.serving.specs.Endings.{PrintsEnd, PrintsText};
+ghost use Rattle.serving.specs.Endings.{IsDumpOf, PrintsEnd, PrintsText};
 
 use crate::printing::print_more;
 use crate::serving_hall::Served;
 use line_io::Sink;
-use names::LineText;
+use names::{LineText, Memory};
 use session::Table;
 use std::sync::Wait;
-use turn_lock::{Hall, Job, Pass};
+use turn_lock::{Hall, Job, Object, Pass};
+
+/// A campaign's text, and how long its history was then.
+#[derive(Drop)]
+pub struct Dump {
+    pub text: LineText,
+    pub length: u64,
+}
 
 /// The turn that keeps the campaign's text as it is then. It enters nothing.
 #[derive(Drop)]
 struct Dumping {
-    text: Option<LineText>,
+    kept: Result<Dump, Memory>,
 }
 
 impl Job<Table> for Dumping {
     ghost entries = { λ before after. [] };
 
-    ghost ran = { λ origin before found after left. (left ≡ found)
-        × IfSome after.text (λ line. line ≡ canonical (opened_of (replay origin found))) };
+    ghost ran = { λ origin before found after left. (left ≡ found) × IfOk after.kept (IsDumpOf origin left) };
 
     fn run(&mut self, campaign: &mut Table) {
-        self.text = campaign.dump().ok();
+        self.kept = dumped(campaign);
     }
+}
+
+fn dumped(campaign: &Table) -> Result<Dump, Memory>
+    ensures { IfOk result (IsDumpOf campaign.now.origin campaign.now.history) }
+{
+    Ok(Dump {
+        text: campaign.dump()?,
+        length: campaign.length(),
+    })
+}
+
+/// The campaign's text as one more turn finds it, which enters nothing.
+pub fn dump_now<R: Wait>(rt: &R, hall: &Hall<Table>, pass: &mut Pass<Table>) -> Result<Dump, Memory>
+    requires { IsPassOf hall.now pass.old }
+    ensures hall { IsPassOf hall.now pass.new }
+    ensures front { IsPrefix pass.old.front pass.new.front }
+    ensures own { pass.new.own ≡ pass.old.own }
+    ensures dump { IfOk result (IsDumpOf hall.now.origin pass.new.front) }
+{
+    let mut turn = Dumping { kept: Err(Memory) };
+    hall.act_quietly(rt, pass, &mut turn);
+    let Dumping { kept } = turn;
+    kept
 }
 
 /// Prints the campaign's text and LF, as it is after one more turn.
@@ -45,17 +72,14 @@ pub(crate) fn print_end<R: Wait, O: Sink>(
     ensures count { O.faults_of out.old ≤ O.faults_of out.new }
     ensures write_fault { result ≡ Served.WriteFault → CountRose (O.faults_of out.old) (O.faults_of out.new) }
 {
-    let mut turn = Dumping { text: None };
-    hall.act_quietly(rt, &mut pass, &mut turn);
-    let Dumping { text } = turn;
-    match text {
-        Some(line) => print_text(&line, out),
-        None => Served::Memory,
+    match dump_now(rt, hall, &mut pass) {
+        Ok(dump) => print_text(&dump.text, out),
+        Err(_) => Served::Memory,
     }
 }
 
-// The text and LF.
-fn print_text<O: Sink>(text: &LineText, out: &mut O) -> Served
+/// Prints the text and LF: `Done`, or `WriteFault` where a call of the output failed.
+pub fn print_text<O: Sink>(text: &LineText, out: &mut O) -> Served
     ensures prints { PrintsText result text.now (O.written out.old) (O.written out.new) }
     ensures count { O.faults_of out.old ≤ O.faults_of out.new }
     ensures write_fault { result ≡ Served.WriteFault → CountRose (O.faults_of out.old) (O.faults_of out.new) }

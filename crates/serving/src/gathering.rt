@@ -12,7 +12,7 @@ use crate::guests::{Guest, Word};
 use crate::printing::print_line;
 use crate::runs::SessionSource;
 use crate::sittings::Sitting;
-use line_io::{Door, Sink, Spawner, Work};
+use line_io::{Door, Outlet, Sink, Spawner, Work};
 use session::{Sat, Table};
 use std::sync::{Arc, Wait};
 use std::thread::Threads;
@@ -32,7 +32,7 @@ pub(crate) fn gather_one<
 ) -> (Pass<Table>, Word)
 where
     L::In: SessionSource<L::Out> + Drop,
-    L::Out: Drop,
+    L::Out: Outlet + Drop,
     requires pass { IsPassOf (arc_value hall.now) pass }
     requires guest { IsGuestOf P.work_of (arc_value hall.now) guest }
     requires away { IsAtLeast (one_sitting guest) (L.away door.old) }
@@ -81,7 +81,7 @@ pub(crate) fn gather_all<
 ) -> (Pass<Table>, bool)
 where
     L::In: SessionSource<L::Out> + Drop,
-    L::Out: Drop,
+    L::Out: Outlet + Drop,
     P::Task: Drop,
     requires pass { IsPassOf (arc_value hall.now) pass }
     requires guests { All (IsGuestOf P.work_of (arc_value hall.now)) guests.items }

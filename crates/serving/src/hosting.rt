@@ -15,7 +15,7 @@ use crate::serving_hall::{Served, serve_hall};
 use crate::sittings::Sitting;
 use campaign_core::{Campaign, OpenFault};
 use campaign_json::BadCampaign;
-use line_io::{Door, Sink, Spawner, Work};
+use line_io::{Door, Outlet, Sink, Spawner, Work};
 use names::LineText;
 use session::Table;
 use sight_sweep::SweepEye;
@@ -57,7 +57,7 @@ pub fn host<
 ) -> Hosted
 where
     L::In: SessionSource<L::Out> + Drop,
-    L::Out: Drop,
+    L::Out: Outlet + Drop,
     P::Task: Drop,
     requires count { (1 ≤ count) × (count ≤ 1024) }
     requires fit { P.fit spawner.old }
@@ -99,7 +99,7 @@ fn host_campaign<
 ) -> Hosted
 where
     L::In: SessionSource<L::Out> + Drop,
-    L::Out: Drop,
+    L::Out: Outlet + Drop,
     P::Task: Drop,
     requires opening { IsOpening campaign.origin }
     requires history { campaign.history ≡ [] }

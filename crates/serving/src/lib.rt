@@ -9,14 +9,17 @@ mod endings;
 mod gathering;
 mod guests;
 mod hosting;
+mod logged_runs;
 mod printing;
 mod runs;
 mod serving_hall;
 mod sittings;
 mod threads;
 
+pub use endings::{Dump, dump_now, print_text};
 pub use guests::Guest;
 pub use hosting::{Hosted, host};
+pub use logged_runs::{LoggedMemSink, LoggedTcpSink};
 pub use runs::SessionSource;
 pub use serving_hall::{Served, serve_hall};
 pub use sittings::Sitting;

@@ -12,7 +12,7 @@ use crate::gathering::gather_all;
 use crate::guests::Stop;
 use crate::runs::SessionSource;
 use crate::sittings::Sitting;
-use line_io::{Door, Sink, Spawner, Work};
+use line_io::{Door, Outlet, Sink, Spawner, Work};
 use session::Table;
 use std::alloc::Global;
 use std::sync::{Arc, Wait};
@@ -52,7 +52,7 @@ pub fn serve_hall<
 ) -> (Pass<Table>, Served)
 where
     L::In: SessionSource<L::Out> + Drop,
-    L::Out: Drop,
+    L::Out: Outlet + Drop,
     P::Task: Drop,
     requires count { (1 ≤ count) × (count ≤ 1024) }
     requires passes { CanSplit (arc_value hall.now) pass usher.old }

@@ -3,7 +3,7 @@ ghost use Rattle.std.specs.Prelude.{◌≡◌, IfOk};
 
 use crate::runs::SessionSource;
 use crate::sittings::Sitting;
-use line_io::{Failed, Sink, Started, Work};
+use line_io::{Failed, Outlet, Started, Work};
 use session::Sat;
 use std::snapshot::Snapshot;
 use std::sync::Wait;
@@ -13,7 +13,7 @@ use std::thread::{Promise, PromisedHandle, Threads, spawn_with};
 #[derive(Drop)]
 pub struct RunOf<R, I, O>(pub Snapshot<Sitting<R, I, O>>);
 
-impl<R: Threads + Wait + Sync + Drop, I: SessionSource<O> + Drop, O: Sink + Drop> Promise<
+impl<R: Threads + Wait + Sync + Drop, I: SessionSource<O> + Drop, O: Outlet + Drop> Promise<
     ((I, O), Sat),
 > for RunOf<R, I, O> {
     ghost kept_by = { λ promise done. ⟦<Sitting<R, I, O> as Work>⟧.done promise.0.value done };
@@ -27,7 +27,7 @@ pub fn start_sitting<
     S: Threads,
     R: Threads + Wait + Sync + Send + Drop + 'static,
     I: SessionSource<O> + Send + Drop + 'static,
-    O: Sink + Send + Drop + 'static,
+    O: Outlet + Send + Drop + 'static,
 >(rt: &S, sitting: Sitting<R, I, O>) -> Result<SittingThread<R, I, O>, Failed>
     ensures { IfOk result (λ task. task.promise.0.value ≡ sitting) }
 {
@@ -38,7 +38,7 @@ pub fn start_sitting<
     }
 }
 
-impl<R: Threads + Wait + Sync + Drop, I: SessionSource<O> + Drop, O: Sink + Drop> Started<
+impl<R: Threads + Wait + Sync + Drop, I: SessionSource<O> + Drop, O: Outlet + Drop> Started<
     Sitting<R, I, O>,
 > for SittingThread<R, I, O> {
     ghost work_of = { λ task. task.promise.0.value };

@@ -134,14 +134,16 @@ seated_joins w h after seat key k reader writer place reads opening has accepted
       };
     }
 
-pub refused_joins : (w : World) (h after : List Entry) (seat : ℕ) (key : Option (List ℕ)) (k : List ℕ) (reader writer : ℕ) (refusal : JoinRefusal) (line : List ℕ) → key ≡ Some k → (outcome_of (replay w h) (Join seat k reader writer)).refusal ≡ Some (refusal_of_join refusal)
-    → direct_line (outcome_of (replay w h) (Join seat k reader writer)) ≡ Some line → Joins w seat key reader writer h true (Refused refusal line) after
-refused_joins w h after seat key k reader writer refusal line has cause told = record {
+pub refused_joins : (w : World) (h after : List Entry) (seat : ℕ) (key : Option (List ℕ)) (k : List ℕ) (reader writer : ℕ) (refusal : JoinRefusal) (line : List ℕ) (long : ℕ) → key ≡ Some k → (outcome_of (replay w h) (Join seat k reader writer)).refusal ≡ Some (refusal_of_join refusal)
+    → direct_line (outcome_of (replay w h) (Join seat k reader writer)) ≡ Some line → long ≡ length after → Joins w seat key reader writer h true (Refused refusal line long) after
+refused_joins w h after seat key k reader writer refusal line long has cause told long_is = record {
   not = λ f. cc;
   follows = λ _ text is.
-      let same : k ≡ text = cc (has, is) in
-      record {
-        cause = ap (λ t. (outcome_of (replay w h) (Join seat t reader writer)).refusal) (sym same) ∙ cause;
-        told = ap (λ t. direct_line (outcome_of (replay w h) (Join seat t reader writer))) (sym same) ∙ told;
-      };
+      let same : k ≡ text = cc (has, is) in (
+        record {
+          cause = ap (λ t. (outcome_of (replay w h) (Join seat t reader writer)).refusal) (sym same) ∙ cause;
+          told = ap (λ t. direct_line (outcome_of (replay w h) (Join seat t reader writer))) (sym same) ∙ told;
+        },
+        long_is,
+      );
 }

@@ -14,3 +14,5 @@ pub mod LinesInHand
 pub mod SatSessions
 pub mod RefusalLines
 pub mod Servings
+pub mod WritingSafely
+pub mod SafeSessions

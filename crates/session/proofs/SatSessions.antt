@@ -47,7 +47,7 @@ front_take : {A : Type 0} (k : ℕ) (f h : List A) → IsPrefix f h → k ≤ le
 front_take k f h prefix le = ap (take k) (sym prefix.1) ∙ take-append-le k f prefix.0 le
 
 -- a Join that was accepted in a front was so in the whole
-joined_longer : (w : World) (f h : List Entry) (place seat reader writer : ℕ) → IsPrefix f h → place < length f → IsSeated w f place seat reader writer → IsSeated w h place seat reader writer
+pub joined_longer : (w : World) (f h : List Entry) (place seat reader writer : ℕ) → IsPrefix f h → place < length f → IsSeated w f place seat reader writer → IsSeated w h place seat reader writer
 joined_longer w f h place seat reader writer prefix long is = record {
   key = is.key;
   join = prefix_get f h place (Join seat is.key reader writer) prefix is.join;
@@ -81,16 +81,16 @@ module _ (w : World) (seat : ℕ) (key : List ℕ) (joined : Joined) (p r s : Pa
   pub heard_grew : (hold : Hold) (q : PassState Entry World) (read : ReadEnd) (gone : Bool) (text rest : Option (List ℕ)) → HasHeard w hold r q read gone text rest → Grew p q
   heard_grew hold q read gone text rest is = grew_on p r q takes_grew (record { front = is.got.front; number = is.got.number })
 
-  entered_front : turn.entered ≡ true → r.front ≡ turn.turn.found ++ e ∷ []
+  pub entered_front : turn.entered ≡ true → r.front ≡ turn.turn.found ++ e ∷ []
   entered_front did = turn.turn.front_is ∙ ap (λ b. turn.turn.found ++ cond b (e ∷ []) []) did
 
-  own_there : turn.entered ≡ true → r.own ≡ p.own ++ place ∷ []
+  pub own_there : turn.entered ≡ true → r.own ≡ p.own ++ place ∷ []
   own_there did = turn.turn.own_is ∙ ap (λ b. p.own ++ places place (cond b (e ∷ []) [])) did
 
-  join_there : turn.entered ≡ true → slice_get r.front place ≡ Some e
+  pub join_there : turn.entered ≡ true → slice_get r.front place ≡ Some e
   join_there did = ap (λ l. slice_get l place) (entered_front did) ∙ get_at_end turn.turn.found e
 
-  entered_unless : (joined ≡ joins.Memory → ⊥) → turn.entered ≡ true
+  pub entered_unless : (joined ≡ joins.Memory → ⊥) → turn.entered ≡ true
   entered_unless other = by_bool turn.entered refl
     where
       by_bool : (b : Bool) → turn.entered ≡ b → b ≡ true
@@ -108,12 +108,12 @@ module _ (w : World) (seat : ℕ) (key : List ℕ) (joined : Joined) (p r s : Pa
   sat_memory reader left before faults so =
       missing (turn.turn.own_is ∙ ap (λ b. p.own ++ places place (cond b (e ∷ []) [])) (not_entered so) ∙ append-nil p.own) refl refl refl refl
 
-  pub sat_refused : (refusal : JoinRefusal) (line : List ℕ) (reader : ReaderState) (left before after : Option (List ℕ)) (faults_before faults_after : ℕ) → joined ≡ joins.Refused refusal line → WroteLine line before after faults_before faults_after
+  pub sat_refused : (refusal : JoinRefusal) (line : List ℕ) (long : ℕ) (reader : ReaderState) (left before after : Option (List ℕ)) (faults_before faults_after : ℕ) → joined ≡ joins.Refused refusal line long → WroteLine line before after faults_before faults_after
       → HasSat w seat key p r s s (bytes_to_come reader left) reader left before after faults_before faults_after (ends.Refused refusal)
-  sat_refused refusal line reader left before after faults_before faults_after so wrote =
+  sat_refused refusal line long reader left before after faults_before faults_after so wrote =
       let did = entered_unless (λ m. cc) in
       let found : take place r.front ≡ turn.turn.found = ap (take place) (entered_front did) ∙ take-append-le place turn.turn.found (e ∷ []) (omega arith) ∙ take_all place turn.turn.found (omega arith) in
-      let by : IsRefusedBy (outcome_of (replay w turn.turn.found) e) refusal line = subst (λ j. IsFollowed w e seat p.number s.number turn.turn.found j r.front) so (turn.turn.has_run.follows did key refl) in
+      let by : IsRefusedBy (outcome_of (replay w turn.turn.found) e) refusal line = (subst (λ j. IsFollowed w e seat p.number s.number turn.turn.found j r.front) so (turn.turn.has_run.follows did key refl)).0 in
       refused refusal
       (record {
         place = place;
@@ -131,16 +131,16 @@ module _ (w : World) (seat : ℕ) (key : List ℕ) (joined : Joined) (p r s : Pa
     did : turn.entered ≡ true
     did = entered_unless (λ m. cc)
 
-    taken : IsTaken w hold turn.turn.found reading r.front
+    pub taken : IsTaken w hold turn.turn.found reading r.front
     taken = subst (λ j. IsFollowed w e seat p.number s.number turn.turn.found j r.front) so (turn.turn.has_run.follows did key refl)
 
-    long : length r.front ≡ suc there
+    pub long : length r.front ≡ suc there
     long = let a = ap length (entered_front did) in let b = length-append turn.turn.found (e ∷ []) in let c = taken.last in omega (arith, a, b, c)
 
-    own_here : r.own ≡ p.own ++ there ∷ []
+    pub own_here : r.own ≡ p.own ++ there ∷ []
     own_here = own_there did ∙ ap (λ n. p.own ++ n ∷ []) (sym taken.last)
 
-    entry_here : slice_get r.front there ≡ Some e
+    pub entry_here : slice_get r.front there ≡ Some e
     entry_here = ap (slice_get r.front) taken.last ∙ join_there did
 
     whole_take : take (suc there) r.front ≡ r.front
@@ -190,7 +190,7 @@ module _ (w : World) (seat : ℕ) (key : List ℕ) (joined : Joined) (p r s : Pa
     none_came (Some text) = refl
 
     -- the Join was the seat's last line
-    spent_heard : (text : Option (List ℕ)) → reading ≡ false → HasHeard w hold r r reads.Spent false text text
+    pub spent_heard : (text : Option (List ℕ)) → reading ≡ false → HasHeard w hold r r reads.Spent false text text
     spent_heard text none = record {
       more = [];
       got = record { front = prefix_self r.front; number = refl; own = sym (append-nil r.own); each = All-nil _ };

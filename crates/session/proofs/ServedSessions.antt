@@ -85,14 +85,14 @@ alone_of w f h readers writers hold prefix each quiet = record {
 prefix_append : {A : Type 0} (xs ys zs : List A) → IsPrefix ys zs → IsPrefix (xs ++ ys) (xs ++ zs)
 prefix_append xs ys zs prefix = (prefix.0, append_assoc xs ys prefix.0 ∙ ap (λ l. xs ++ l) prefix.1)
 
-wrote_first : (lines : List (List ℕ)) (count : ℕ) (text : List ℕ) → IsFirst lines count text → IsFront lines count text
+pub wrote_first : (lines : List (List ℕ)) (count : ℕ) (text : List ℕ) → IsFirst lines count text → IsFront lines count text
 wrote_first lines count text wrote = record {
   prefix = subst (λ l. IsPrefix l (bytes_of lines)) (sym wrote.text_is) (bytes_of (drop count lines), bytes_of-parts count lines);
   whole = subst (λ l. IsPrefix (bytes_of (take count lines)) l) (sym wrote.text_is) (prefix_self (bytes_of (take count lines)));
 }
 
 -- what was written of the lines in a front is so of all of them
-wrote_front : (end : Wrote) (lines : List (List ℕ)) (count : ℕ) (text : List ℕ) → WroteBy end lines count text → IsFront lines count text
+pub wrote_front : (end : Wrote) (lines : List (List ℕ)) (count : ℕ) (text : List ℕ) → WroteBy end lines count text → IsFront lines count text
 wrote_front AllWritten lines count text wrote = record {
   prefix = subst (λ l. IsPrefix l (bytes_of lines)) (sym wrote.1) (prefix_self (bytes_of lines));
   whole = subst (λ l. IsPrefix (bytes_of (take count lines)) l) (sym wrote.1) (subst (λ l. IsPrefix (bytes_of l) (bytes_of lines)) (sym (take_all count lines (omega (arith, wrote.0)))) (prefix_self (bytes_of lines)));

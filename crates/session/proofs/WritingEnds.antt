@@ -5,7 +5,7 @@ use Rattle.std.proofs.lemmas.List.{take-append-drop}
 use Rattle.campaign_law.specs.declared.entry.Entry.{Entry}
 use Rattle.campaign_law.specs.World.{World}
 use Rattle.campaign_law.specs.Law.{IsOpening}
-use Rattle.turn_lock.specs.Pass.{PassState, hears}
+use Rattle.turn_lock.specs.Pass.{PassState}
 use Rattle.session.specs.declared.hold.Hold.{Hold}
 use Rattle.session.specs.declared.exchange.Found.{Found}
 use Rattle.session.specs.declared.exchange.Found.TheVariants.{Lines, Gone}
@@ -16,13 +16,13 @@ use Rattle.session.specs.declared.writing.Wrote.TheVariants as writes
 use Rattle.session.specs.Exchanged.{Finds}
 use Rattle.session.specs.Sent.{Sends, Exchanges, Drops}
 use Rattle.session.specs.Written.{IsWriting, HasWritten}
-use Rattle.session.proofs.WritingTurns.{exchanged, listens, writes_on, writes_all, writes_until_cut, stops_for_memory, stops_for_fault}
+use Rattle.session.proofs.WritingTurns.{exchanged, writes_on, writes_all, writes_until_cut, stops_for_memory, stops_for_fault}
 
-module _ (w : World) (hold : Hold) (p q r : PassState Entry World) (count : ℕ) (before mid : Option (List ℕ)) (found : Found) (is : IsWriting w hold p q count before mid) (turn : Exchanges w hold count found q r) where
-  turned : IsWriting w hold p r count before mid × (hold.place < length r.front) × Finds w hold count r.front found
-  turned = exchanged w hold p q r count before mid turn.entered found is turn.number turn.turn
+module _ (w : World) (hold : Hold) (p q r : PassState Entry World) (count : ℕ) (before mid : Option (List ℕ)) (found : Found) (long : ℕ) (is : IsWriting w hold p q count before mid) (turn : Exchanges w hold count found long q r) where
+  pub turned : IsWriting w hold p r count before mid × (hold.place < length r.front) × Finds w hold count r.front found
+  turned = exchanged w hold p q r count before mid turn.entered found long is turn.number turn.turn
 
-  finds : (other : Found) → found ≡ other → Finds w hold count r.front other
+  pub finds : (other : Found) → found ≡ other → Finds w hold count r.front other
   finds other same = subst (Finds w hold count r.front) same turned.2
 
   pub ends_gone : IsOpening w → found ≡ Gone → HasWritten w hold p r AllWritten before mid
@@ -34,8 +34,8 @@ module _ (w : World) (hold : Hold) (p q r : PassState Entry World) (count : ℕ)
   pub ends_memory : (s : PassState Entry World) → Drops w hold r s → HasWritten w hold p s Memory before mid
   ends_memory s drops = stops_for_memory w hold p r s count before mid drops.entered drops.cut turned.0 turned.1 drops.number drops.turn
 
-  pub goes_quiet : (n : ℕ) → IsWriting w hold p (hears r n) count before mid
-  goes_quiet n = listens w hold p r count n before mid turned.0
+  pub goes_quiet : IsWriting w hold p r count before mid
+  goes_quiet = turned.0
 
   pub goes_on : (text : List ℕ) (lines next : ℕ) (after : Option (List ℕ)) → IsOpening w → found ≡ Lines text lines → Sends (Ok next) text count lines mid after → IsWriting w hold p r next before after
   goes_on text lines next after opening same sends =

@@ -26,7 +26,7 @@ use Rattle.session.specs.Left.{LeftSo}
 use Rattle.session.specs.Written.{IsTakenOf, IsWriters, line_ends, HasLines, IsFirst, IsPart, WroteBy, IsCutSo, HasWritten, IsWriting}
 use Rattle.session.proofs.Alone.{joined_in_front, alone_in_front, stands_longer, more_counted, takes_within, drops_nothing, waits_next, no_more}
 
-append_known-none : (known : Option (List ℕ)) → known ≡ append_known known []
+pub append_known-none : (known : Option (List ℕ)) → known ≡ append_known known []
 append_known-none None = refl
 append_known-none (Some bytes) = ap Some (sym (append-nil bytes))
 
@@ -49,18 +49,6 @@ starts w hold p n before past = record {
   has = record { written = append_known-none before; counted = omega arith };
   fresh = inr (refl, refl);
   wrote = λ joined alone. record { within = omega arith; text_is = refl };
-}
-
--- hearing of a greater length changes nothing else
-pub listens : (w : World) (hold : Hold) (p q : PassState Entry World) (count n : ℕ) (before mid : Option (List ℕ)) → IsWriting w hold p q count before mid → IsWriting w hold p (hears q n) count before mid
-listens w hold p q count n before mid is = record {
-  more = is.more;
-  text = is.text;
-  got = record { front = is.got.front; number = is.got.number; own = is.got.own; each = is.got.each };
-  heard = let h = is.heard in omega arith;
-  has = is.has;
-  fresh = is.fresh;
-  wrote = is.wrote;
 }
 
 -- ---- a turn
@@ -92,10 +80,10 @@ stands_last rule found true e lawful =
 
 module _ (w : World) (hold : Hold) (p q r : PassState Entry World) (count : ℕ) (before mid : Option (List ℕ)) where
   -- after a turn of the writing half it goes on
-  pub exchanged : (entered : Bool) (found : Found) → IsWriting w hold p q count before mid → r.number ≡ q.number
-      → HasTurn (λ f l. Exchanged w hold count f entered found l) (cond entered (Taken hold.seat count ∷ []) []) (known q) (known r)
+  pub exchanged : (entered : Bool) (found : Found) (long : ℕ) → IsWriting w hold p q count before mid → r.number ≡ q.number
+      → HasTurn (λ f l. Exchanged w hold count f entered found l × (long ≡ length l)) (cond entered (Taken hold.seat count ∷ []) []) (known q) (known r)
       → IsWriting w hold p r count before mid × (hold.place < length r.front) × Finds w hold count r.front found
-  exchanged entered found is number turn =
+  exchanged entered found long is number turn =
       let e : Entry = Taken hold.seat count in
       let es : List Entry = cond entered (e ∷ []) [] in
       let f : List Entry = turn.found in
@@ -106,7 +94,7 @@ module _ (w : World) (hold : Hold) (p q r : PassState Entry World) (count : ℕ)
       let longer = prefix_length f r.front grows in
       let older = prefix_length q.front f begins in
       let past : hold.place < length f = (let a = is.heard in let b = turn.as_long in omega arith) in
-      let last : All (StandsAt (IsTakenOf w hold count) r.front) new = subst (λ l. All (StandsAt (IsTakenOf w hold count) l) new) (sym turn.front_is) (stands_last (IsTakenOf w hold count) f entered e (λ did. (refl, omega arith, turn.has_run.held did))) in (
+      let last : All (StandsAt (IsTakenOf w hold count) r.front) new = subst (λ l. All (StandsAt (IsTakenOf w hold count) l) new) (sym turn.front_is) (stands_last (IsTakenOf w hold count) f entered e (λ did. (refl, omega arith, turn.has_run.0.held did))) in (
         record {
           more = is.more ++ new;
           text = is.text;
@@ -126,7 +114,7 @@ module _ (w : World) (hold : Hold) (p q r : PassState Entry World) (count : ℕ)
           ];
         },
         omega arith,
-        turn.has_run.finds,
+        turn.has_run.0.finds,
       )
 
 -- ---- what was found is written

@@ -42,7 +42,7 @@ pub record IsTaken (w : World) (hold : Hold) (before : List Entry) (reads : Bool
 -- what follows the Join in a history that it is the last entry of
 abbrev pub IsFollowed : World → Entry → ℕ → ℕ → ℕ → List Entry → Joined → List Entry → Type 0
 IsFollowed w e seat reader writer before (Seated place reads) after = IsTaken w (record { seat = seat; place = place; reader = reader; writer = writer }) before reads after
-IsFollowed w e seat reader writer before (Refused refusal line) after = IsRefusedBy (outcome_of (replay w before) e) refusal line
+IsFollowed w e seat reader writer before (Refused refusal line long) after = IsRefusedBy (outcome_of (replay w before) e) refusal line × (long ≡ length after)
 IsFollowed w e seat reader writer before Memory after = ⊥
 
 -- the turn found one history and left another

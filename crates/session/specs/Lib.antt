@@ -16,3 +16,4 @@ pub mod Joined
 pub mod Sat
 pub mod JoinTurn
 pub mod Session
+pub mod Safely

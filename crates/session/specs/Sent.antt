@@ -1,5 +1,5 @@
 -- A text sent in one piece, and the turns of the writing half as its pass sees them.
-use Rattle.std.specs.Prelude.{◌≡◌, ℕ, ◌+◌, Bool, true, List, [], ◌∷◌, if◌then◌else◌, Option, Result, Ok, Err}
+use Rattle.std.specs.Prelude.{◌≡◌, ℕ, ◌+◌, Bool, true, List, [], ◌∷◌, length, if◌then◌else◌, Option, Result, Ok, Err}
 use Rattle.std.specs.Io.KnownBytes.{append_known}
 use Rattle.line_io.specs.Told.{TookPrefix}
 use Rattle.turn_lock.specs.Pass.{PassState, HasTurn, known}
@@ -21,10 +21,11 @@ Sends (Err Cut) text count lines before after = ⊥
 Sends (Err Memory) text count lines before after = after ≡ before
 Sends (Err WriteFault) text count lines before after = TookPrefix before text after
 
-pub record Exchanges (w : World) (hold : Hold) (count : ℕ) (found : Found) (p q : PassState Entry World) : Type 0 where
+-- the history was so long then
+pub record Exchanges (w : World) (hold : Hold) (count : ℕ) (found : Found) (long : ℕ) (p q : PassState Entry World) : Type 0 where
   pub number : q.number ≡ p.number
   pub entered : Bool
-  pub turn : HasTurn (λ before after. Exchanged w hold count before entered found after) (if entered then Taken hold.seat count ∷ [] else []) (known p) (known q)
+  pub turn : HasTurn (λ before after. Exchanged w hold count before entered found after × (long ≡ length after)) (if entered then Taken hold.seat count ∷ [] else []) (known p) (known q)
 
 pub record Drops (w : World) (hold : Hold) (p q : PassState Entry World) : Type 0 where
   pub number : q.number ≡ p.number

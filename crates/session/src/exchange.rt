@@ -1,5 +1,5 @@
 //! The turn of the writing half: how many lines were written, and those that wait.
-ghost use Rattle.std.specs.Prelude.{◌≡◌, ◌++◌, ◌∷◌, [], ℕ, if◌then◌else◌, false};
+ghost use Rattle.std.specs.Prelude.{◌≡◌, ◌++◌, ◌∷◌, [], ℕ, if◌then◌else◌, false, length};
 ghost use Rattle.campaign_law.specs.declared.entry.Entry.TheVariants.{Taken};
 ghost use Rattle.session.specs.Exchanged.{Exchanged, Finds};
 ghost use Rattle.session.specs.Held.{is_held as is_held_lem};
@@ -39,7 +39,8 @@ pub(crate) struct Exchange {
 impl Job<Table> for Exchange {
     ghost entries = { λ before after. if after.entered then Taken before.hold.seat before.count ∷ [] else [] };
 
-    ghost ran = { λ origin before found after left. Exchanged origin before.hold before.count found after.entered after.found left };
+    ghost ran = { λ origin before found after left. Exchanged origin before.hold before.count found after.entered after.found left
+        × (after.length ≡ length left) };
 
     fn run(&mut self, campaign: &mut Table) {
         self.entered = false;

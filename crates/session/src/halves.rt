@@ -8,6 +8,7 @@ ghost use Rattle.session.specs.Inputs.{IsReaderOf, Stops};
 ghost use Rattle.session.specs.declared.hearing.ReadEnd.TheVariants.{Stopped};
 ghost use Rattle.session.specs.Heard.{HasHeard};
 ghost use Rattle.session.specs.Written.{HasWritten};
+ghost use Rattle.session.specs.Safely.{WritesSafely};
 
 use crate::Table;
 use crate::hearing::{ReadEnd, read_half};
@@ -15,13 +16,13 @@ use crate::hold::Hold;
 use crate::input::Stop;
 use crate::pace::Pace;
 use crate::writing::{Wrote, write_half};
-use line_io::{LineReader, Sink, Source};
+use line_io::{LineReader, Outlet, Source};
 use std::sync::Wait;
 use std::thread::{Threads, join_mut};
 use turn_lock::{Hall, Pass};
 
 /// The two halves of an accepted session, each by its own pass and in a thread of its own.
-pub(crate) fn run_halves<R: Threads + Wait + Sync, I: Source + Send, O: Sink + Send>(
+pub(crate) fn run_halves<R: Threads + Wait + Sync, I: Source + Send, O: Outlet + Send>(
     rt: &R,
     hall: &Hall<Table>,
     reading: &mut Pass<Table>,
@@ -42,6 +43,8 @@ pub(crate) fn run_halves<R: Threads + Wait + Sync, I: Source + Send, O: Sink + S
         (bytes_to_come lines.old (I.left input.old)) (bytes_to_come lines.new (I.left input.new)) }
     ensures stops { (stop : Stop) → result.0.0 ≡ Stopped stop → Stops stop lines.new (I.left input.new) }
     ensures written { HasWritten hall.now.origin hold.now writing.old writing.new result.1 (O.written output.old) (O.written output.new) }
+    ensures safe { WritesSafely (O.safe output.new) hall.now.origin hold.now writing.old writing.new
+        (O.written output.old) (O.written output.new) }
     ensures input_count { I.faults_of input.old ≤ I.faults_of input.new }
     ensures read_fault { result.0.0 ≡ Stopped Stop.ReadFault → CountRose (I.faults_of input.old) (I.faults_of input.new) }
     ensures output_count { O.faults_of output.old ≤ O.faults_of output.new }

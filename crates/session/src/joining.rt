@@ -19,10 +19,11 @@ pub(crate) enum Joined {
         place: u64,
         reads: bool,
     },
-    /// It was refused for this cause. The line tells it, and has no LF.
+    /// It was refused for this cause. The line tells it, and has no LF. The history up to the Join is so long.
     Refused {
         refusal: JoinRefusal,
         line: LineText,
+        length: u64,
     },
     /// Want of memory. It wasn't entered.
     Memory,
@@ -64,7 +65,11 @@ impl Job<Table> for Joining {
         };
         self.entered = true;
         if let Some((refusal, line)) = refused(answer) {
-            self.joined = Joined::Refused { refusal, line };
+            self.joined = Joined::Refused {
+                refusal,
+                line,
+                length: campaign.length(),
+            };
             return;
         }
         let hold = Hold {

@@ -1,5 +1,5 @@
 //! A session that read a hello.
-ghost use Rattle.std.specs.Prelude.{◌≡◌, ◌≤◌, []};
+ghost use Rattle.std.specs.Prelude.{◌≡◌, ◌≤◌, ◌⊎◌, ℕ, []};
 ghost use Rattle.line_io.specs.Counts.{CountRose};
 ghost use Rattle.line_io.specs.Reader.{bytes_to_come};
 ghost use Rattle.turn_lock.specs.Pass.{IsPassOf};
@@ -9,6 +9,7 @@ ghost use Rattle.session.specs.Ends.{WroteLine, ended_by as ended_by_lem, ended_
 ghost use Rattle.session.specs.Own.{Grew};
 ghost use Rattle.session.specs.Sat.{HasSat};
 ghost use Rattle.session.specs.JoinTurn.{TakesSeat};
+ghost use Rattle.session.specs.Safely.{SaysSafely};
 
 use crate::Table;
 use crate::halves::run_halves;
@@ -18,7 +19,7 @@ use crate::input::Stop;
 use crate::joining::{Joined, Joining};
 use crate::pace::Pace;
 use crate::writing::{Wrote, write_half};
-use line_io::{LineReader, Sink, Source, write_whole};
+use line_io::{LineReader, Outlet, Source};
 use names::{LineText, SeatNo};
 use seats::JoinRefusal;
 use std::sync::Wait;
@@ -48,7 +49,7 @@ pub enum Ended {
 }
 
 /// Joins by the hello, and then runs both halves.
-pub(crate) fn sit<R: Threads + Wait + Sync, I: Source + Send, O: Sink + Send>(
+pub(crate) fn sit<R: Threads + Wait + Sync, I: Source + Send, O: Outlet + Send>(
     rt: &R,
     hall: &Hall<Table>,
     reader: &mut Pass<Table>,
@@ -70,6 +71,8 @@ pub(crate) fn sit<R: Threads + Wait + Sync, I: Source + Send, O: Sink + Send>(
     ensures sat { HasSat hall.now.origin seat key reader.old reader.new writer.old writer.new (bytes_to_come lines.old (I.left input.old))
         lines.new (I.left input.new) (O.written output.old) (O.written output.new) (O.faults_of output.old)
         (O.faults_of output.new) result }
+    ensures safe { SaysSafely (O.safe output.new) hall.now.origin reader.old reader.new writer.old writer.new
+        (O.written output.old) (O.written output.new) }
     ensures input_count { I.faults_of input.old ≤ I.faults_of input.new }
     ensures read_fault { result ≡ Ended.ReadFault → CountRose (I.faults_of input.old) (I.faults_of input.new) }
     ensures output_count { O.faults_of output.old ≤ O.faults_of output.new }
@@ -78,8 +81,12 @@ pub(crate) fn sit<R: Threads + Wait + Sync, I: Source + Send, O: Sink + Send>(
     let number = writer.number();
     let place = match join(rt, hall, reader, seat, key, number) {
         Joined::Memory => return Ended::Memory,
-        Joined::Refused { refusal, line } => {
-            write_line(&line, output);
+        Joined::Refused {
+            refusal,
+            line,
+            length,
+        } => {
+            write_line(rt, &line, length, output);
             return Ended::Refused(refusal);
         }
         Joined::Seated { place, reads: true } => place,
@@ -141,22 +148,25 @@ fn join<R: Wait>(
     joined
 }
 
-/// Writes the line and its LF, as far as the output takes them.
-pub(crate) fn write_line<O: Sink>(line: &LineText, output: &mut O)
+/// Writes the line and its LF, as far as the output takes them. They tell of the first `length` entries.
+pub(crate) fn write_line<R: Wait, O: Outlet>(rt: &R, line: &LineText, length: u64, output: &mut O)
     ensures wrote { WroteLine line.now (O.written output.old) (O.written output.new) (O.faults_of output.old) (O.faults_of output.new) }
     ensures count { O.faults_of output.old ≤ O.faults_of output.new }
+    ensures safe { (O.written output.new ≡ O.written output.old) ⊎ O.safe output.new length }
 {
-    match write_whole(output, line.bytes()) {
-        Ok(()) => end_line(output),
+    match output.tell(rt, line.bytes(), length) {
+        Ok(()) => end_line(rt, length, output),
         Err(_) => {}
     }
 }
 
-fn end_line<O: Sink>(output: &mut O)
+fn end_line<R: Wait, O: Outlet>(rt: &R, length: u64, output: &mut O)
     ensures wrote { WroteLine [] (O.written output.old) (O.written output.new) (O.faults_of output.old) (O.faults_of output.new) }
     ensures count { O.faults_of output.old ≤ O.faults_of output.new }
+    ensures safe { (O.written output.new ≡ O.written output.old) ⊎ O.safe output.new length }
+    ensures still { (n : ℕ) → O.safe output.old n → O.safe output.new n }
 {
-    match write_whole(output, b"\n") {
+    match output.tell(rt, b"\n", length) {
         Ok(()) => {}
         Err(_) => {}
     }

@@ -1,9 +1,10 @@
 //! The writing half of a session.
-ghost use Rattle.std.specs.Prelude.{◌≡◌, ◌≤◌, Err};
+ghost use Rattle.std.specs.Prelude.{◌≡◌, ◌≤◌, ◌⊎◌, ℕ, Err};
 ghost use Rattle.line_io.specs.Counts.{CountRose};
 ghost use Rattle.turn_lock.specs.Pass.{IsPassOf};
 ghost use Rattle.campaign_law.specs.Law.{IsOpening};
 ghost use Rattle.session.specs.Written.{HasWritten};
+ghost use Rattle.session.specs.Safely.{WritesSafely};
 ghost use Rattle.session.specs.Sent.{Sends, Exchanges, Drops};
 
 use crate::Table;
@@ -11,7 +12,7 @@ use crate::exchange::{Exchange, Found};
 use crate::hold::Hold;
 use crate::leaving::Leaving;
 use crate::pace::Pace;
-use line_io::{Sink, write_whole};
+use line_io::Outlet;
 use names::LineText;
 use std::sync::Wait;
 use turn_lock::{Hall, Pass};
@@ -31,7 +32,7 @@ pub(crate) enum Wrote {
 
 /// Writes the lines that wait for the session, until its passes no longer hold its seat. One turn says how many
 /// lines were written and finds those that wait then.
-pub(crate) fn write_half<R: Wait, O: Sink>(
+pub(crate) fn write_half<R: Wait, O: Outlet>(
     rt: &R,
     hall: &Hall<Table>,
     pass: &mut Pass<Table>,
@@ -43,6 +44,8 @@ pub(crate) fn write_half<R: Wait, O: Sink>(
     requires opening { IsOpening hall.now.origin }
     ensures hall { IsPassOf hall.now pass.new }
     ensures written { HasWritten hall.now.origin hold.now pass.old pass.new result (O.written output.old) (O.written output.new) }
+    ensures safe { WritesSafely (O.safe output.new) hall.now.origin hold.now pass.old pass.new
+        (O.written output.old) (O.written output.new) }
     ensures count { O.faults_of output.old ≤ O.faults_of output.new }
     ensures write_fault { result ≡ Wrote.WriteFault → CountRose (O.faults_of output.old) (O.faults_of output.new) }
 {
@@ -50,7 +53,7 @@ pub(crate) fn write_half<R: Wait, O: Sink>(
     let mut count = 0;
     let mut news = false;
     for _ in rt.forever() {
-        let (found, length) = exchange(rt, hall, pass, hold, pace, count, news);
+        let (found, length, seen) = exchange(rt, hall, pass, hold, pace, count, news);
         let (text, lines) = match found {
             Found::Gone => return Wrote::All,
             Found::Cut => return Wrote::Cut,
@@ -62,10 +65,10 @@ pub(crate) fn write_half<R: Wait, O: Sink>(
         };
         news = lines > 0;
         if lines == 0 {
-            hall.wait_past(rt, pass, length);
+            hall.wait_act(rt, seen);
             continue;
         }
-        match send(&text, count, lines, output) {
+        match send(rt, &text, count, lines, length, output) {
             Ok(next) => count = next,
             Err(stop) => {
                 leave(rt, hall, pass, hold, pace);
@@ -76,8 +79,8 @@ pub(crate) fn write_half<R: Wait, O: Sink>(
     unreachable!()
 }
 
-// One turn: how many lines were written, and those that wait then. The length is that of the history. Nobody waits for a
-// Taken, so it wakes nobody.
+// One turn: how many lines were written, and those that wait then. The length is that of the history, and the last number is what
+// `wait_act` takes. Nobody waits for a Taken, so it wakes nobody.
 fn exchange<R: Wait>(
     rt: &R,
     hall: &Hall<Table>,
@@ -86,13 +89,13 @@ fn exchange<R: Wait>(
     pace: &Pace,
     count: u64,
     news: bool,
-) -> (Found, u64)
+) -> (Found, u64, u64)
     requires { IsPassOf hall.now pass.old }
     ensures hall { IsPassOf hall.now pass.new }
-    ensures turn { Exchanges hall.now.origin hold.now count result.0 pass.old pass.new }
+    ensures turn { Exchanges hall.now.origin hold.now count result.0 result.1 pass.old pass.new }
 {
     let mut turn = Exchange::of(hold.copy(), count, news);
-    hall.act_quietly(rt, pass, &mut turn);
+    let seen = hall.act_quietly(rt, pass, &mut turn);
     let Exchange {
         hold: _,
         found,
@@ -102,7 +105,7 @@ fn exchange<R: Wait>(
         entered: _,
     } = turn;
     pace.found(length);
-    (found, length)
+    (found, length, seen)
 }
 
 // One turn, the last, in which the session leaves the seat and its waiting lines are dropped.
@@ -121,16 +124,25 @@ fn leave<R: Wait>(rt: &R, hall: &Hall<Table>, pass: &mut Pass<Table>, hold: &Hol
     pace.end();
 }
 
-// So many further lines in one piece, and then how many were written in all.
-fn send<O: Sink>(text: &LineText, count: u64, lines: u64, output: &mut O) -> Result<u64, Wrote>
+// So many further lines in one piece, which a history of this length has, and then how many were written in all.
+fn send<R: Wait, O: Outlet>(
+    rt: &R,
+    text: &LineText,
+    count: u64,
+    lines: u64,
+    length: u64,
+    output: &mut O,
+) -> Result<u64, Wrote>
     ensures sends { Sends result text.now count lines (O.written output.old) (O.written output.new) }
+    ensures safe { (O.written output.new ≡ O.written output.old) ⊎ O.safe output.new length }
+    ensures still { (n : ℕ) → O.safe output.old n → O.safe output.new n }
     ensures count { O.faults_of output.old ≤ O.faults_of output.new }
     ensures write_fault { result ≡ Err Wrote.WriteFault → CountRose (O.faults_of output.old) (O.faults_of output.new) }
 {
     let Some(next) = count.checked_add(lines) else {
         return Err(Wrote::Memory);
     };
-    match write_whole(output, text.bytes()) {
+    match output.tell(rt, text.bytes(), length) {
         Ok(()) => Ok(next),
         Err(_) => Err(Wrote::WriteFault),
     }

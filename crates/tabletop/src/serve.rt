@@ -12,7 +12,7 @@ use crate::endings::{Ended, status_of};
 use crate::files::not_fetched;
 use crate::last_line::print_last_line;
 use command_words::{Job, WordsFault, read_words};
-use line_io::{Desk, Door, Sink, Spawner, Work};
+use line_io::{Desk, Door, Outlet, Sink, Spawner, Work};
 use serving::{Hosted, Served, SessionSource, Sitting, host};
 use std::alloc::Global;
 use std::sync::Wait;
@@ -40,7 +40,7 @@ pub fn tabletop_serve<
 ) -> u8
 where
     L::In: SessionSource<L::Out> + Drop,
-    L::Out: Drop,
+    L::Out: Outlet + Drop,
     P::Task: Drop,
     requires fit { P.fit spawner.old }
     ensures ends { HasEndedServing ⟦<Sitting<R, L::In, L::Out> as Work>⟧.done L.Out.written
@@ -89,7 +89,7 @@ fn job<
 ) -> Ended
 where
     L::In: SessionSource<L::Out> + Drop,
-    L::Out: Drop,
+    L::Out: Outlet + Drop,
     P::Task: Drop,
     requires fit { P.fit spawner.old }
     ensures ends { JobServes ⟦<Sitting<R, L::In, L::Out> as Work>⟧.done L.Out.written
@@ -140,7 +140,7 @@ fn serve_file<
 ) -> Ended
 where
     L::In: SessionSource<L::Out> + Drop,
-    L::Out: Drop,
+    L::Out: Outlet + Drop,
     P::Task: Drop,
     requires count { (1 ≤ count) × (count ≤ 1024) }
     requires fit { P.fit spawner.old }

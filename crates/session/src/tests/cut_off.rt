@@ -7,7 +7,7 @@ use crate::tests::side_by_side::{
     ANNS_HELLO, BYE, Counted, Gate, Gated, Passes, copied, two_sessions,
 };
 use crate::{Ended, Table, serve_session};
-use line_io::{Failed, Sink, Source};
+use line_io::{Failed, Outlet, Sink, Source, write_whole};
 use std::alloc::Global;
 use std::sync::Wait;
 use std::sync::atomic::{AtomicU64, Ordering};
@@ -83,6 +83,13 @@ impl<'a> Sink for Stuck<'a> {
 
     fn faults(&self) -> u64 {
         self.faults
+    }
+}
+
+// Nothing is held back.
+impl<'a> Outlet for Stuck<'a> {
+    fn tell<R: Wait>(&mut self, _rt: &R, bytes: &[u8], _length: u64) -> Result<(), Failed> {
+        write_whole(self, bytes)
     }
 }
 

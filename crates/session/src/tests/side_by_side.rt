@@ -5,7 +5,7 @@ ghost use Rattle.campaign_law.specs.Law.{IsOpening};
 
 use crate::tests::{opened_hall, two_of};
 use crate::{Ended, Table, serve_session};
-use line_io::{Failed, Sink, Source};
+use line_io::{Failed, Outlet, Sink, Source, write_whole};
 use std::alloc::Global;
 use std::sync::Wait;
 use std::sync::atomic::{AtomicU64, Ordering};
@@ -130,6 +130,13 @@ impl<'a> Sink for Counted<'a> {
 
     fn faults(&self) -> u64 {
         0
+    }
+}
+
+// Nothing is held back.
+impl<'a> Outlet for Counted<'a> {
+    fn tell<R: Wait>(&mut self, _rt: &R, bytes: &[u8], _length: u64) -> Result<(), Failed> {
+        write_whole(self, bytes)
     }
 }
 

@@ -1,6 +1,6 @@
 //! Sessions over memory that are served one after another, each as soon as it starts.
 ghost use Rattle.std.specs.Prelude.{◌≡◌, IfOk, Some};
-ghost use Rattle.serving.specs.Runs.{IsRunOf};
+ghost use Rattle.serving.specs.Runs.{IsSafeRun};
 
 use line_io::{Failed, MemSink, MemSource, Started, Work};
 use serving::Sitting;
@@ -18,7 +18,8 @@ pub(super) type MemSitting<R> = Sitting<R, MemSource, MemSink>;
 pub(super) struct Ran<R> {
     done: ((MemSource, MemSink), Sat),
     pub(super) sitting: Snapshot<MemSitting<R>>,
-    ghost ran: { ∥ IsRunOf (λ s. Some s.left) (λ s. Some s.written) (λ s. s.plan.faults) (λ s. s.plan.faults) sitting.value done ∥₁ },
+    ghost ran: { ∥ IsSafeRun (λ s n. Unit {0}) (λ s. Some s.left) (λ s. Some s.written) (λ s. s.plan.faults) (λ s. s.plan.faults)
+        sitting.value done ∥₁ },
 }
 
 impl<R: Threads + Wait + Sync + Drop> Started<MemSitting<R>> for Ran<R> {

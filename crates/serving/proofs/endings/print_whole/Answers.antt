@@ -1,4 +1,4 @@
-use Rattle.std.proofs.Common.{◌≡◌, ◌∷◌, [], true, subst}
+use Rattle.std.proofs.Common.{◌∷◌, [], true, subst}
 use Rattle.serving.specs.Fates.{PrintsMore}
 use Rattle.serving.proofs.PrintedLines.{prints_more}
 use Rattle.serving.proofs.endings.print_whole.Goals as goal

@@ -4,7 +4,7 @@ use Rattle.std.specs.Arc.{arc_value}
 use Rattle.line_io.specs.Connections.{IsAtLeast}
 use Rattle.turn_lock.proofs.Prefixes.{prefix_self, prefix_trans}
 use Rattle.serving.specs.Guests.{IsGuestOf, sitting_in}
-use Rattle.serving.specs.Runs.{IsRunOf}
+use Rattle.serving.specs.Runs.{IsSafeRun}
 use Rattle.serving.proofs.PrintedLines.{fault_more}
 use Rattle.serving.proofs.Gatherings.{gathered_none, gathered_more}
 use Rattle.serving.proofs.gathering.gather_all.Goals as goal
@@ -21,7 +21,7 @@ loop-guest-init g c =
       guests = subst (All (IsGuestOf g.P.Spawner.work_of (arc_value c.args.hall.now))) given c.requires.guests;
       away = subst (λ l. IsAtLeast (sitting_in l) (g.L.Door.away c.args.door.now)) given c.requires.away;
       counted = refl;
-      gathered = gathered_none g.P.Spawner.work_of (IsRunOf g.L.In.Source.left g.L.Out.Sink.written g.L.In.Source.faults_of g.L.Out.Sink.faults_of) c.args.pass (g.L.Door.ended c.args.door.now) (g.O.Sink.written c.args.out.now);
+      gathered = gathered_none g.P.Spawner.work_of (IsSafeRun g.L.Out.Outlet.safe g.L.In.Source.left g.L.Out.Sink.written g.L.In.Source.faults_of g.L.Out.Sink.faults_of) c.args.pass (g.L.Door.ended c.args.door.now) (g.O.Sink.written c.args.out.now);
       coming = refl;
       door_count = omega arith;
       started = refl;
@@ -52,7 +52,7 @@ loop-guest-preserved g c =
       guests = All-tail P c.in-Some.guest rest (subst (All P) steps before.guests);
       away = one.away (sitting_in rest) (subst (λ l. IsAtLeast (sitting_in l) (g.L.Door.away c.loop-guest.door)) steps before.away);
       counted = ap (λ n. n + 1) before.counted ∙ sym (length-append c.loop-guest.yielded (c.in-Some.guest ∷ []));
-      gathered = gathered_more g.P.Spawner.work_of (IsRunOf g.L.In.Source.left g.L.Out.Sink.written g.L.In.Source.faults_of g.L.Out.Sink.faults_of) c.loop-guest.yielded c.in-Some.guest c.gather_one-rest.result.1 (c.loop-guest.number + 1)
+      gathered = gathered_more g.P.Spawner.work_of (IsSafeRun g.L.Out.Outlet.safe g.L.In.Source.left g.L.Out.Sink.written g.L.In.Source.faults_of g.L.Out.Sink.faults_of) c.loop-guest.yielded c.in-Some.guest c.gather_one-rest.result.1 (c.loop-guest.number + 1)
           c.args.pass c.loop-guest.pass c.gather_one-rest.result.0 (g.L.Door.ended c.args.door.now) (g.L.Door.ended c.loop-guest.door) (g.L.Door.ended c.gather_one-rest.new.door) c.loop-guest.printed c.print_line-printed.result
           (g.O.Sink.written c.args.out.now) (g.O.Sink.written c.loop-guest.out) (g.O.Sink.written c.print_line-printed.new.out)
           before.gathered one.gathers one.front (let counted = before.counted in omega (arith, counted)) told.prints;

@@ -1,7 +1,7 @@
-use Rattle.std.proofs.Common.{rules, ◌≡◌, [], subst, ap, ◌∙◌}
+use Rattle.std.proofs.Common.{rules, ◌≡◌, [], subst}
 use Rattle.std.specs.Arc.{arc_value}
 use Rattle.turn_lock.specs.Pass.{first_pass}
-use Rattle.serving.specs.Runs.{IsRunOf}
+use Rattle.serving.specs.Runs.{IsSafeRun}
 use Rattle.serving.specs.Outside.{as_told}
 use Rattle.serving.specs.Endings.{EndsWith}
 use Rattle.serving.proofs.Hostings.{served_on}
@@ -16,7 +16,7 @@ returns-clause-hosts g c =
     let opened = c.open-2.ensures in
     let spawner = c.args.spawner.now in
     let out = c.args.out.now in
-    served_on (IsRunOf g.L.In.Source.left g.L.Out.Sink.written g.L.In.Source.faults_of g.L.Out.Sink.faults_of) g.L.Out.Sink.written c.serve_hall-pass.result.1 c.ended.result hall c.args.campaign.origin c.args.count c.args.end
+    served_on (IsSafeRun g.L.Out.Outlet.safe g.L.In.Source.left g.L.Out.Sink.written g.L.In.Source.faults_of g.L.Out.Sink.faults_of) g.L.Out.Sink.written c.serve_hall-pass.result.1 c.ended.result hall c.args.campaign.origin c.args.count c.args.end
     c.in-Ok.pass c.serve_hall-pass.result.0 c.in-Ok.usher.count c.serve_hall-pass.new.usher.count _ _ _ (g.O.Sink.written c.serve_hall-pass.new.out) (g.O.Sink.faults_of c.serve_hall-pass.new.out)
     c.requires.opening is first begins (λ i. as_told (opened.coming i) (opened.ended i) (g.P.Spawner.started spawner) (g.P.Spawner.faults_of spawner) (g.O.Sink.written out) (g.O.Sink.faults_of out)) c.ended.ensures.count c.serve_hall-pass.ensures.serves
     (subst (λ h. EndsWith c.args.end c.serve_hall-pass.result.1 c.ended.result h.origin c.serve_hall-pass.result.0 (g.O.Sink.written c.serve_hall-pass.new.out) (g.O.Sink.written c.ended.new.out)) c.deref.ensures c.ended.ensures.ends)

@@ -1,5 +1,7 @@
 use Rattle.std.proofs.Common.{refl}
 use Rattle.session.proofs.Servings.{serves_nothing, serves_unread, serves_strange, serves_greeted}
+use Rattle.session.specs.Safely.{silent}
+use Rattle.session.proofs.SafeSessions.{says_strange}
 use Rattle.session.proofs.service.serve.Goals as goal
 
 pub returns-in_default-clause-served : goal.returns-in_default-clause-served
@@ -19,3 +21,13 @@ pub returns-clause-served : goal.returns-clause-served
 returns-clause-served g c =
     serves_unread c.args.hall.now.origin c.args.reader.now c.args.writer.now c.in-Ok.lines c.read_first.new.reader (g.I.Source.left c.args.input.now) (g.I.Source.left c.read_first.new.input) (g.O.Sink.written c.args.output.now) (g.O.Sink.written c.args.output.now) (g.O.Sink.faults_of c.args.output.now) (g.O.Sink.faults_of c.args.output.now) c.stopped.result c.in-Ok.ensures c.read_first.ensures.reader
     c.in-Missing.stop c.in-Missing.ensures.begins (c.read_first.ensures.stops c.in-Missing.stop c.in-Missing.is) refl c.stopped.ensures
+
+pub returns-in_default-clause-safe : goal.returns-in_default-clause-safe
+returns-in_default-clause-safe g c = silent refl
+
+pub returns-in-Other-clause-safe : goal.returns-in-Other-clause-safe
+returns-in-Other-clause-safe g c =
+    says_strange (g.O.Outlet.safe c.no_hello.new.output) c.args.hall.now.origin c.args.reader.now c.args.writer.now (g.O.Sink.written c.args.output.now) (g.O.Sink.written c.no_hello.new.output) c.no_hello.ensures.safe
+
+pub returns-clause-safe : goal.returns-clause-safe
+returns-clause-safe g c = silent refl
