@@ -3,6 +3,7 @@ use Rattle.std.proofs.Common.{◌≡◌, ℕ, ◌<◌, ◌≤◌, true, false, L
 use Rattle.std.specs.Prelude.{None, nat_lt}
 use Rattle.std.proofs.lemmas.Bool.Decides.{nat_tests}
 use Rattle.command_words.specs.Words.{Text, drill_words, serve_words, verify_words, compare_words}
+use Rattle.command_words.specs.LoggedServe.{logged_serve_of}
 
 below : (m n : ℕ) → nat_lt m n ≡ true → m < n
 below m n e = grind (arith, nat_tests)
@@ -91,3 +92,15 @@ module _ {S : Type 0} (f : S → Text) where
 
   pub compare_many : (ws : List S) → nat_lt (length ws) 6 ≡ false → None ≡ compare_words (map f ws)
   compare_many ws e = compare_above ws (not_below (length ws) 6 e)
+
+  logged_serve_below : (ws : List S) → length ws < 6 → None ≡ logged_serve_of (map f ws)
+  logged_serve_below [] h = refl
+  logged_serve_below (a ∷ []) h = refl
+  logged_serve_below (a ∷ b ∷ []) h = refl
+  logged_serve_below (a ∷ b ∷ c ∷ []) h = refl
+  logged_serve_below (a ∷ b ∷ c ∷ d ∷ []) h = refl
+  logged_serve_below (a ∷ b ∷ c ∷ d ∷ g ∷ []) h = refl
+  logged_serve_below (a ∷ b ∷ c ∷ d ∷ g ∷ i ∷ ws) h = absurd (omega arith)
+
+  pub logged_serve_few : (ws : List S) → nat_lt (length ws) 6 ≡ true → None ≡ logged_serve_of (map f ws)
+  logged_serve_few ws e = logged_serve_below ws (below (length ws) 6 e)

@@ -5,7 +5,7 @@ ghost use Rattle.clap.specs.declared.builder.command.Command.TheViews.{out-Comma
 ghost use Rattle.command_words.specs.Logged.{asked_logged, is_marked as is_marked_by, logged_of as logged_list, with_files as with_names, log_rule, logged_play_app, logged_program_app};
 
 use crate::forms::{is_end, is_file};
-use crate::matches::{end, plain, value};
+use crate::matches::{end, matched_by, plain, program_of, value};
 use crate::read::WordsFault;
 use clap::{Arg, ArgAction, ArgMatches, Command, Error};
 use std::alloc::Global;
@@ -53,7 +53,7 @@ fn asked(words: &[String]) -> Option<LoggedPlay<'_>>
     }
 }
 
-fn log<'a>(alloc: Global) -> Arg<'a>
+pub(crate) fn log<'a>(alloc: Global) -> Arg<'a>
     ensures rule { rule_of result ≡ log_rule }
     ensures local { result.global ≡ false }
 {
@@ -78,12 +78,7 @@ fn logged_command<'a>(alloc: Global) -> Result<Command<'a>, Error>
 fn logged_program<'a>(alloc: Global) -> Result<Command<'a>, Error>
     ensures { IfOk result (λ command. app_of command ≡ logged_program_app) }
 {
-    Ok(
-        plain(alloc, "tabletop")
-            .no_binary_name(true)
-            .subcommand_required(true)
-            .subcommand(logged_command(alloc)?)?,
-    )
+    program_of(alloc, logged_command(alloc)?)
 }
 
 fn play_in<'a>(matches: &ArgMatches<'a>) -> Option<LoggedPlay<'a>> {
@@ -92,15 +87,6 @@ fn play_in<'a>(matches: &ArgMatches<'a>) -> Option<LoggedPlay<'a>> {
         log: matches.get_str("log")?,
         end: matches.get_flag("end"),
     })
-}
-
-// What `clap` reads, if it takes the words.
-fn matched<'a>(alloc: Global, words: &'a [String]) -> Result<Option<LoggedPlay<'a>>, Error> {
-    let matches = logged_program(alloc)?.try_get_matches_from(words)?;
-    match matches.subcommand() {
-        Some((_, matches)) => Ok(play_in(matches)),
-        None => Ok(None),
-    }
 }
 
 /// What the words of a script that is played with a log ask for. `Usage` comes exactly where they are not
@@ -115,7 +101,7 @@ pub fn read_logged_words(alloc: Global, words: &[String]) -> Result<LoggedPlay<'
     let Some(play) = asked(words) else {
         return Err(WordsFault::Usage);
     };
-    match matched(alloc, words) {
+    match matched_by(logged_program(alloc), words, play_in) {
         Ok(Some(read)) if read == play => Ok(read),
         _ => Err(WordsFault::Memory),
     }

@@ -1,8 +1,8 @@
 //! What `clap` makes of the words: one level of commands, without help and version.
 ghost use Rattle.std.specs.Prelude.{◌≡◌, false, IfOk};
-ghost use Rattle.clap.specs.Words.{app_of, rule_of};
+ghost use Rattle.clap.specs.Words.{app_of, rule_of, with_subcommand};
 ghost use Rattle.clap.specs.declared.builder.command.Command.TheViews.{out-Command as fields_of};
-ghost use Rattle.command_words.specs.Program.{value_rule, end_rule, plain_app, play_app, check_app, drill_app, serve_app, verify_app, histories_app, compare_app, top_app, program_app};
+ghost use Rattle.command_words.specs.Program.{value_rule, end_rule, plain_app, play_app, check_app, drill_app, served_app, serve_app, verify_app, histories_app, compare_app, top_app, program_app};
 
 use crate::forms::{Job, check, compare, drill, play, serve, verify};
 use clap::{Arg, ArgAction, ArgMatches, Command, Error};
@@ -63,17 +63,24 @@ fn drill_command<'a>(alloc: Global) -> Result<Command<'a>, Error>
     )
 }
 
-fn serve_command<'a>(alloc: Global) -> Result<Command<'a>, Error>
-    ensures app { IfOk result (λ command. app_of command ≡ serve_app) }
+// `serve` with its values.
+pub(crate) fn served<'a>(alloc: Global) -> Result<Command<'a>, Error>
+    ensures app { IfOk result (λ command. app_of command ≡ served_app) }
     ensures local { IfOk result (λ command. (fields_of command).has_globals ≡ false) }
 {
     Ok(
         plain(alloc, "serve")
             .arg(value(alloc, "file"))?
             .arg(value(alloc, "port"))?
-            .arg(value(alloc, "count"))?
-            .arg(end(alloc))?,
+            .arg(value(alloc, "count"))?,
     )
+}
+
+fn serve_command<'a>(alloc: Global) -> Result<Command<'a>, Error>
+    ensures app { IfOk result (λ command. app_of command ≡ serve_app) }
+    ensures local { IfOk result (λ command. (fields_of command).has_globals ≡ false) }
+{
+    Ok(served(alloc)?.arg(end(alloc))?)
 }
 
 fn verify_command<'a>(alloc: Global) -> Result<Command<'a>, Error>
@@ -133,17 +140,30 @@ fn program<'a>(alloc: Global) -> Result<Command<'a>, Error>
     )
 }
 
+/// The program with this command alone.
+pub(crate) fn program_of<'a>(alloc: Global, command: Command<'a>) -> Result<Command<'a>, Error>
+    requires local { (fields_of command).has_globals ≡ false }
+    ensures { IfOk result (λ program. app_of program ≡ with_subcommand top_app (app_of command.entry).top) }
+{
+    Ok(top(alloc).subcommand(command)?)
+}
+
+/// What is to be served.
+pub(crate) fn serve_in<'a>(matches: &ArgMatches<'a>) -> Option<Job<'a>> {
+    serve(
+        matches.get_str("file")?,
+        matches.get_str("port")?,
+        matches.get_str("count")?,
+        matches.get_flag("end"),
+    )
+}
+
 fn job_in<'a>(command: &str, matches: &ArgMatches<'a>) -> Option<Job<'a>> {
     match command {
         "play" => play(matches.get_str("file")?, matches.get_flag("end")),
         "check" => check(matches.get_str("file")?),
         "drill" => drill(matches.get_str("number")?, matches.get_str("lines")?),
-        "serve" => serve(
-            matches.get_str("file")?,
-            matches.get_str("port")?,
-            matches.get_str("count")?,
-            matches.get_flag("end"),
-        ),
+        "serve" => serve_in(matches),
         "verify" => verify(
             matches.get_str("file")?,
             matches.get_str("script")?,
@@ -158,6 +178,21 @@ fn job_in<'a>(command: &str, matches: &ArgMatches<'a>) -> Option<Job<'a>> {
             matches.get_str("seat")?,
         ),
         _ => None,
+    }
+}
+
+/// What the program of one command reads, if `clap` takes the words.
+pub(crate) fn matched_by<'a, T, F: Fn(&ArgMatches<'a>) -> Option<T>>(
+    program: Result<Command<'a>, Error>,
+    words: &'a [String],
+    read: F,
+) -> Result<Option<T>, Error>
+    requires { F.IsAlwaysCallable read }
+{
+    let matches = program?.try_get_matches_from(words)?;
+    match matches.subcommand() {
+        Some((_, matches)) => Ok(read(matches)),
+        None => Ok(None),
     }
 }
 
