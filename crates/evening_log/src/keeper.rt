@@ -1,5 +1,5 @@
 //! The keeper of a log, and what its log keeps of the hall's history.
-ghost use Rattle.std.specs.Prelude.{◌≡◌, ◌≤◌, ◌++◌, length, take, false, All, IfOk};
+ghost use Rattle.std.specs.Prelude.{◌≡◌, ◌≤◌, ◌++◌, [], length, take, false, All, IfOk};
 ghost use Rattle.std.specs.Arc.{arc_value};
 ghost use Rattle.turn_lock.specs.Pass.{IsPassOf};
 ghost use Rattle.crash_log.specs.Log.{HoldsLog, IsDisks};
@@ -143,6 +143,15 @@ impl<O: Chronicle + Drop, K: Disk> Keeper<O, K> {
         )?;
         self.logged += group.list.len() as u64;
         Ok(group)
+    }
+
+    /// A group without entries.
+    pub(crate) fn no_group(&self) -> Entries
+        ensures { result ≡ [] }
+    {
+        Entries {
+            list: Vec::new(self.alloc),
+        }
     }
 
     /// Whether the disk failed.

@@ -8,6 +8,7 @@ mod closing;
 mod keeper;
 mod logged_doors;
 mod logged_sinks;
+mod rounds;
 mod settling;
 
 pub use chronicle::Chronicle;

@@ -9,6 +9,7 @@ ghost use Rattle.evening_log.specs.Logged.{AllHeardAtMost, CanSplit, both_counts
 use crate::chronicle::Chronicle;
 use crate::keeper::Keeper;
 use crate::logged_sinks::{LoggedSink, counted};
+use crate::rounds::Rounds;
 use crate::settling::is_stuck;
 use crash_log::Disk;
 use line_io::{Door, Failed};
@@ -24,6 +25,8 @@ pub struct LoggedDoor<R, L: Door, O: Chronicle, K: Disk> {
     rt: R,
     outer: L,
     log: Arc<Hall<Keeper<O, K>>>,
+    // Shared with the outputs. None for want of memory: no connection is given then.
+    rounds: Option<Arc<Rounds>>,
     usher: Usher<Keeper<O, K>>,
     // None only while another one is split off it.
     pass: Option<Pass<Keeper<O, K>>>,
@@ -86,6 +89,7 @@ impl<R, L: Door, O: Chronicle, K: Disk> LoggedDoor<R, L, O, K> {
             rt,
             outer,
             log,
+            rounds: Arc::new(alloc, Rounds::new()).ok(),
             usher,
             pass: Some(pass),
             ended: Vec::new(alloc),
@@ -108,6 +112,7 @@ impl<R, L: Door, O: Chronicle, K: Disk> LoggedDoor<R, L, O, K> {
             rt: _,
             outer,
             log: _,
+            rounds: _,
             usher: _,
             pass,
             ended,
@@ -171,6 +176,14 @@ fn prepared<O: Chronicle + Drop, K: Disk + Drop, E>(
     Arc::try_clone(log).ok()
 }
 
+// The door's rounds for an output.
+fn shared(rounds: &Option<Arc<Rounds>>) -> Option<Arc<Rounds>> {
+    match rounds {
+        Some(rounds) => Arc::try_clone(rounds).ok(),
+        None => None,
+    }
+}
+
 impl<R: Wait + Clone + Drop, L: Door, O: Chronicle + Drop, K: Disk + Drop> Door
     for LoggedDoor<R, L, O, K> {
     type In = L::In;
@@ -194,10 +207,11 @@ impl<R: Wait + Clone + Drop, L: Door, O: Chronicle + Drop, K: Disk + Drop> Door
             return Ok(None);
         };
         if let Some(log) = prepared(&self.log, &mut self.ended, self.away)
+            && let Some(rounds) = shared(&self.rounds)
             && let Some(pass) = split_off(&self.rt, &self.log, &mut self.usher, &mut self.pass)
         {
             self.away += 1;
-            return Ok(Some((input, LoggedSink::new(output, log, pass))));
+            return Ok(Some((input, LoggedSink::new(output, log, rounds, pass))));
         }
         self.outer.give_back(input, output);
         self.refused = counted(self.refused);

@@ -7,7 +7,8 @@ ghost use Rattle.evening_log.specs.Logged.{both_counts};
 
 use crate::chronicle::Chronicle;
 use crate::keeper::Keeper;
-use crate::settling::settle;
+use crate::rounds::Rounds;
+use crate::settling::settle_together;
 use crash_log::Disk;
 use line_io::{Failed, Outlet, Sink, write_whole};
 use std::marker::Model;
@@ -15,11 +16,12 @@ use std::sync::{Arc, Wait};
 use turn_lock::{Hall, Pass};
 
 /// An output for bytes that tell of a history's entries: it writes them once the log has these entries. Where the log refuses,
-/// it writes nothing and counts that.
+/// it writes nothing, counts that and closes.
 #[derive(Drop)]
 pub struct LoggedSink<S, O: Chronicle, K: Disk> {
     inner: S,
     log: Arc<Hall<Keeper<O, K>>>,
+    rounds: Arc<Rounds>,
     pass: Pass<Keeper<O, K>>,
     refused: u64,
 }
@@ -41,6 +43,7 @@ impl<S, O: Chronicle, K: Disk> LoggedSink<S, O, K> {
     pub(crate) fn new(
         inner: S,
         log: Arc<Hall<Keeper<O, K>>>,
+        rounds: Arc<Rounds>,
         pass: Pass<Keeper<O, K>>,
     ) -> LoggedSink<S, O, K>
         requires pass { IsPassOf (arc_value log) pass }
@@ -49,6 +52,7 @@ impl<S, O: Chronicle, K: Disk> LoggedSink<S, O, K> {
         LoggedSink {
             inner,
             log,
+            rounds,
             pass,
             refused: 0,
         }
@@ -65,6 +69,7 @@ impl<S, O: Chronicle, K: Disk> LoggedSink<S, O, K> {
         let LoggedSink {
             inner,
             log,
+            rounds: _,
             mut pass,
             refused: _,
         } = self;
@@ -108,9 +113,11 @@ impl<S: Sink, O: Chronicle + Drop, K: Disk> Outlet for LoggedSink<S, O, K> {
     ghost safe = { λ s n. n ≤ s.pass.heard };
 
     fn tell<R: Wait>(&mut self, rt: &R, bytes: &[u8], length: u64) -> Result<(), Failed> {
-        match settle(rt, &self.log, &mut self.pass, length) {
+        match settle_together(rt, &self.log, &self.rounds, &mut self.pass, length) {
             Ok(()) => write_whole(&mut self.inner, bytes),
             Err(_) => {
+                // Whoever waits for more sees the end.
+                self.inner.close("is told nothing more");
                 self.refused = counted(self.refused);
                 Err(Failed)
             }

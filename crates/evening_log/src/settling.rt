@@ -6,13 +6,16 @@ ghost use Rattle.evening_log.specs.Keeping.{group_of};
 
 use crate::chronicle::Chronicle;
 use crate::keeper::Keeper;
+use crate::rounds::Rounds;
 use crash_log::{Disk, Entries, LogFault};
 use std::sync::Wait;
-use turn_lock::{Hall, Job, Pass};
+use turn_lock::{Hall, Job, Object, Pass};
 
-/// Puts a group of entries that the log lacks behind it, and has them. It waits for a turn of the other hall.
+/// Puts a group of entries that the log lacks behind it, and has them; none, where it has as many as are wanted. It waits for a turn of
+/// the other hall.
 pub struct Settling<'a, R: Wait> {
     rt: &'a R,
+    want: u64,
     answer: Result<Entries, LogFault>,
 }
 
@@ -22,7 +25,12 @@ impl<'a, R: Wait, O: Chronicle + Drop, K: Disk> Job<Keeper<O, K>> for Settling<'
     ghost ran = { λ origin before found after left. left ≡ found ++ group_of after.answer };
 
     fn run(&mut self, keeper: &mut Keeper<O, K>) {
-        self.answer = keeper.settle(self.rt);
+        // Whoever waited for the turn before may have put them.
+        self.answer = if keeper.length() < self.want {
+            keeper.settle(self.rt)
+        } else {
+            Ok(keeper.no_group())
+        };
     }
 }
 
@@ -40,20 +48,46 @@ pub fn settle<O: Chronicle + Drop, K: Disk, R: Wait>(
     ensures heard { pass.old.heard ≤ pass.new.heard }
     ensures settled { OnOk result (want ≤ pass.new.heard) }
 {
+    settle_together(rt, log, &Rounds::new(), pass, want)
+}
+
+/// Waits so as one of many: one of them puts a group, and the others sleep meanwhile.
+pub(crate) fn settle_together<O: Chronicle + Drop, K: Disk, R: Wait>(
+    rt: &R,
+    log: &Hall<Keeper<O, K>>,
+    rounds: &Rounds,
+    pass: &mut Pass<Keeper<O, K>>,
+    want: u64,
+) -> Result<(), LogFault>
+    requires { IsPassOf log.now pass.old }
+    ensures hall { IsPassOf log.now pass.new }
+    ensures number { pass.new.number ≡ pass.old.number }
+    ensures front { IsPrefix pass.old.front pass.new.front }
+    ensures heard { pass.old.heard ≤ pass.new.heard }
+    ensures settled { OnOk result (want ≤ pass.new.heard) }
+{
     for _ in rt.forever() {
+        let seen = rounds.count();
         if log.progress(pass) >= want {
             return Ok(());
         }
-        put_group(rt, log, pass)?;
+        if rounds.begin() {
+            let put = put_group(rt, log, pass, want);
+            rounds.end();
+            put?;
+        } else {
+            rounds.sleep(rt, seen);
+        }
     }
     unreachable!()
 }
 
-// One turn, in which a group is put behind the log.
+// One turn, in which a group is put behind the log that has less than is wanted.
 fn put_group<O: Chronicle + Drop, K: Disk, R: Wait>(
     rt: &R,
     log: &Hall<Keeper<O, K>>,
     pass: &mut Pass<Keeper<O, K>>,
+    want: u64,
 ) -> Result<(), LogFault>
     requires { IsPassOf log.now pass.old }
     ensures hall { IsPassOf log.now pass.new }
@@ -63,10 +97,15 @@ fn put_group<O: Chronicle + Drop, K: Disk, R: Wait>(
 {
     let mut turn = Settling {
         rt,
+        want,
         answer: Err(LogFault::Memory),
     };
     log.act_quietly(rt, pass, &mut turn);
-    let Settling { rt: _, answer } = turn;
+    let Settling {
+        rt: _,
+        want: _,
+        answer,
+    } = turn;
     match answer {
         Ok(_) => Ok(()),
         Err(fault) => Err(fault),
