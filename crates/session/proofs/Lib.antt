@@ -16,3 +16,4 @@ pub mod RefusalLines
 pub mod Servings
 pub mod WritingSafely
 pub mod SafeSessions
+pub mod Pens

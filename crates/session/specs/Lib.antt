@@ -17,3 +17,4 @@ pub mod Sat
 pub mod JoinTurn
 pub mod Session
 pub mod Safely
+pub mod Begun

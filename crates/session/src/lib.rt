@@ -5,6 +5,7 @@
 //! did is told of each longer history that begins with the fronts of its passes.
 #![tactic(auto)]
 
+mod attended;
 mod exchange;
 mod first_line;
 mod halves;
@@ -14,9 +15,11 @@ mod input;
 mod joining;
 mod leaving;
 mod pace;
+mod pen;
 mod service;
 mod sitting;
 mod speaking;
+mod start;
 mod writing;
 
 use campaign_core::Campaign;

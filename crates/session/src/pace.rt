@@ -17,6 +17,9 @@ const LOOKS: u32 = 100;
 
 const LOOK: u64 = 10;
 
+/// So many milliseconds the writing half naps.
+const NAP: u64 = 1;
+
 /// What the halves of a session tell each other: how long the history was behind the last entry of the reading half, the Join at
 /// first, and in the last turn of the writing half. No clause speaks of it: who waits here enters nothing meanwhile.
 #[derive(Drop)]
@@ -30,6 +33,10 @@ pub(crate) struct Pace {
     found: AtomicU64,
     // Whether the reading half sleeps, or is about to, and is to be woken by a turn.
     sleeps: AtomicBool,
+    // Whether the reading half wrote since the writing half began its last nap.
+    attends: AtomicBool,
+    // 1 where the writing half is not to nap.
+    roused: AtomicU64,
 }
 
 impl Pace {
@@ -41,6 +48,8 @@ impl Pace {
             bytes: AtomicU64::new(0),
             found: AtomicU64::new(0),
             sleeps: AtomicBool::new(false),
+            attends: AtomicBool::new(false),
+            roused: AtomicU64::new(0),
         }
     }
 
@@ -68,6 +77,34 @@ impl Pace {
         self.found(NEVER);
     }
 
+    /// The reading half wrote what waited.
+    pub(crate) fn attended(&self) {
+        self.attends.store(true, Ordering::SeqCst);
+    }
+
+    /// While the reading half writes what waits, as it does before each read, the writing half isn't to be woken by each act: it
+    /// naps until the reading half wrote nothing during a nap, or has it look. Whether it napped.
+    pub(crate) fn nap<R: Wait>(&self, rt: &R) -> bool {
+        let mut napped = false;
+        for _ in rt.forever() {
+            if !self.attends.swap(false, Ordering::SeqCst) {
+                return napped;
+            }
+            self.roused.park_timeout(rt, 0, Duration::from_millis(NAP));
+            napped = true;
+            if self.roused.swap(0, Ordering::SeqCst) != 0 {
+                return true;
+            }
+        }
+        unreachable!()
+    }
+
+    /// Ends the nap of the writing half.
+    pub(crate) fn rouse(&self) {
+        self.roused.store(1, Ordering::SeqCst);
+        self.roused.wake_one();
+    }
+
     /// Where no further line may be entered before the writing half had a turn that found the last one, waits for that turn, or
     /// until the half takes no more. Where it has had none for a second there is no thread for it, and nobody waits.
     pub(crate) fn wait<R: Wait>(&self, rt: &R) {
@@ -88,6 +125,7 @@ impl Pace {
                 self.wait_to_begin(rt);
                 continue;
             }
+            self.rouse();
             self.sleep(rt, found);
         }
         unreachable!()

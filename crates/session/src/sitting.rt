@@ -17,8 +17,7 @@ use crate::hearing::ReadEnd;
 use crate::hold::Hold;
 use crate::input::Stop;
 use crate::joining::{Joined, Joining};
-use crate::pace::Pace;
-use crate::writing::{Wrote, write_half};
+use crate::writing::{Wrote, write_alone};
 use line_io::{LineReader, Outlet, Source};
 use names::{LineText, SeatNo};
 use seats::JoinRefusal;
@@ -100,7 +99,7 @@ pub(crate) fn sit<R: Threads + Wait + Sync, I: Source + Send, O: Outlet + Send>(
                 reader: reader.number(),
                 writer: number,
             };
-            let wrote = write_half(rt, hall, writer, &hold, &Pace::new(0), output);
+            let wrote = write_alone(rt, hall, writer, &hold, output);
             return ended_by(ReadEnd::Spent, wrote);
         }
     };

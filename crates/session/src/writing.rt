@@ -1,8 +1,9 @@
 //! The writing half of a session.
-ghost use Rattle.std.specs.Prelude.{◌≡◌, ◌≤◌, ◌⊎◌, ℕ, Err};
+ghost use Rattle.std.specs.Prelude.{◌≡◌, ◌≤◌, ◌⊎◌, ℕ, Err, Some};
 ghost use Rattle.line_io.specs.Counts.{CountRose};
 ghost use Rattle.turn_lock.specs.Pass.{IsPassOf};
 ghost use Rattle.campaign_law.specs.Law.{IsOpening};
+ghost use Rattle.session.specs.Begun.{IsAtStart, IsWritten};
 ghost use Rattle.session.specs.Written.{HasWritten};
 ghost use Rattle.session.specs.Safely.{WritesSafely};
 ghost use Rattle.session.specs.Sent.{Sends, Exchanges, Drops};
@@ -12,9 +13,12 @@ use crate::exchange::{Exchange, Found};
 use crate::hold::Hold;
 use crate::leaving::Leaving;
 use crate::pace::Pace;
+use crate::pen::{Ends, Pen, Step};
+use crate::start::Start;
 use line_io::Outlet;
 use names::LineText;
-use std::sync::Wait;
+use std::marker::Brand;
+use std::sync::{Mutex, Wait};
 use turn_lock::{Hall, Pass};
 
 /// How the writing half ended.
@@ -30,14 +34,54 @@ pub(crate) enum Wrote {
     WriteFault,
 }
 
-/// Writes the lines that wait for the session, until its passes no longer hold its seat. One turn says how many
-/// lines were written and finds those that wait then.
-pub(crate) fn write_half<R: Wait, O: Outlet>(
+/// Writes the lines that wait for the session, until its passes no longer hold its seat.
+pub(crate) fn write_half<S: Start, R: Wait, O: Outlet>(
+    rt: &R,
+    hall: &Hall<Table>,
+    hold: &Hold,
+    pace: &Pace,
+    pen: &Mutex<Pen<'_, S, O>>,
+)
+    requires hall { hall.now ≡ S.begun.hall }
+    requires hold { hold.now ≡ S.begun.hold }
+{
+    for _ in rt.forever() {
+        match write_locked(rt, hall, hold, pace, pen) {
+            Step::More => {}
+            Step::Idle(seen) => rest(rt, hall, pace, seen),
+            Step::Over(_) => return,
+        }
+    }
+    unreachable!()
+}
+
+// Naps, or waits for an act.
+fn rest<R: Wait>(rt: &R, hall: &Hall<Table>, pace: &Pace, seen: u64) {
+    if !pace.nap(rt) {
+        hall.wait_act(rt, seen);
+    }
+}
+
+// Writes what waits, once the reading half doesn't.
+fn write_locked<S: Start, R: Wait, O: Outlet>(
+    rt: &R,
+    hall: &Hall<Table>,
+    hold: &Hold,
+    pace: &Pace,
+    pen: &Mutex<Pen<'_, S, O>>,
+) -> Step
+    requires hall { hall.now ≡ S.begun.hall }
+    requires hold { hold.now ≡ S.begun.hold }
+{
+    pen.lock(rt).write_all(rt, hall, hold, pace)
+}
+
+/// Writes what waits for a session whose lines aren't read, until its passes no longer hold its seat.
+pub(crate) fn write_alone<R: Wait, O: Outlet>(
     rt: &R,
     hall: &Hall<Table>,
     pass: &mut Pass<Table>,
     hold: &Hold,
-    pace: &Pace,
     output: &mut O,
 ) -> Wrote
     requires hall { IsPassOf hall.now pass.old }
@@ -49,39 +93,61 @@ pub(crate) fn write_half<R: Wait, O: Outlet>(
     ensures count { O.faults_of output.old ≤ O.faults_of output.new }
     ensures write_fault { result ≡ Wrote.WriteFault → CountRose (O.faults_of output.old) (O.faults_of output.new) }
 {
-    hall.wait_past(rt, pass, hold.place);
-    let mut count = 0;
-    let mut news = false;
-    for _ in rt.forever() {
-        let (found, length, seen) = exchange(rt, hall, pass, hold, pace, count, news);
-        let (text, lines) = match found {
-            Found::Gone => return Wrote::All,
-            Found::Cut => return Wrote::Cut,
-            Found::Memory => {
-                leave(rt, hall, pass, hold, pace);
-                return Wrote::Memory;
-            }
-            Found::Lines { text, lines } => (text, lines),
-        };
-        news = lines > 0;
-        if lines == 0 {
-            hall.wait_act(rt, seen);
-            continue;
-        }
-        match send(rt, &text, count, lines, length, output) {
-            Ok(next) => count = next,
-            Err(stop) => {
-                leave(rt, hall, pass, hold, pace);
-                return stop;
-            }
-        }
-    }
-    unreachable!()
+    let side = Side {
+        pass,
+        output,
+        wrote: Wrote::All,
+    };
+    let side = write_begun::<Brand, R, O>(rt, hall, hold, side);
+    let Side {
+        pass: _,
+        output: _,
+        wrote,
+    } = side;
+    wrote
 }
 
-// One turn: how many lines were written, and those that wait then. The length is that of the history, and the last number is what
-// `wait_act` takes. Nobody waits for a Taken, so it wakes nobody.
-fn exchange<R: Wait>(
+// The ends of a session, and how its writing ended, once it is over.
+struct Side<'a, O> {
+    pass: &'a mut Pass<Table>,
+    output: &'a mut O,
+    wrote: Wrote,
+}
+
+// So where it is told what it began with.
+fn write_begun<'a, S: Start, R: Wait, O: Outlet>(
+    rt: &R,
+    hall: &Hall<Table>,
+    hold: &Hold,
+    side: Side<'a, O>,
+) -> Side<'a, O>
+    requires hall { hall.now ≡ S.begun.hall }
+    requires hold { hold.now ≡ S.begun.hold }
+    requires names { (side.pass.ghost_name ≡ S.begun.pass_name) × (side.output.ghost_name ≡ S.begun.output_name) }
+    requires start { IsAtStart S.begun side.pass.now (O.written side.output.now) (O.faults_of side.output.now) }
+    ensures same_pass { result.pass.ghost_name ≡ side.entry.pass.ghost_name }
+    ensures same_output { result.output.ghost_name ≡ side.entry.output.ghost_name }
+    ensures written { IsWritten S.begun (O.safe result.output.now) result.pass.now (Some result.wrote)
+        (O.written result.output.now) (O.faults_of result.output.now) }
+{
+    let Side {
+        pass,
+        output,
+        wrote: _,
+    } = side;
+    let mut pen: Pen<'a, S, O> = Pen::new(rt, hall, hold, Ends { pass, output });
+    let wrote = pen.write_to_end(rt, hall, hold, &Pace::new(0));
+    let Ends { pass, output } = pen.into_ends();
+    Side {
+        pass,
+        output,
+        wrote,
+    }
+}
+
+/// One turn: how many lines were written, and those that wait then. The length is that of the history, and the last number is what
+/// `wait_act` takes. Nobody waits for a Taken, so it wakes nobody.
+pub(crate) fn exchange<R: Wait>(
     rt: &R,
     hall: &Hall<Table>,
     pass: &mut Pass<Table>,
@@ -108,8 +174,14 @@ fn exchange<R: Wait>(
     (found, length, seen)
 }
 
-// One turn, the last, in which the session leaves the seat and its waiting lines are dropped.
-fn leave<R: Wait>(rt: &R, hall: &Hall<Table>, pass: &mut Pass<Table>, hold: &Hold, pace: &Pace)
+/// One turn, the last, in which the session leaves the seat and its waiting lines are dropped.
+pub(crate) fn leave<R: Wait>(
+    rt: &R,
+    hall: &Hall<Table>,
+    pass: &mut Pass<Table>,
+    hold: &Hold,
+    pace: &Pace,
+)
     requires { IsPassOf hall.now pass.old }
     ensures hall { IsPassOf hall.now pass.new }
     ensures turn { Drops hall.now.origin hold.now pass.old pass.new }
@@ -124,8 +196,8 @@ fn leave<R: Wait>(rt: &R, hall: &Hall<Table>, pass: &mut Pass<Table>, hold: &Hol
     pace.end();
 }
 
-// So many further lines in one piece, which a history of this length has, and then how many were written in all.
-fn send<R: Wait, O: Outlet>(
+/// So many further lines in one piece, which a history of this length has, and then how many were written in all.
+pub(crate) fn send<R: Wait, O: Outlet>(
     rt: &R,
     text: &LineText,
     count: u64,

@@ -110,7 +110,7 @@ fn serve_ann<R: Threads + Wait + Sync>(
         lines,
         least: MASTERS_LINES,
     };
-    let mut input = Gated::of(ANNS_HELLO, YIELDS, gate, gate);
+    let mut input = Gated::of(ANNS_HELLO, BYE, YIELDS, gate, gate);
     let mut output = Stuck {
         offers,
         gate,

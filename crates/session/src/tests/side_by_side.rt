@@ -19,6 +19,8 @@ const BOBS_HELLO: &[u8] = b"{\"do\":\"hello\",\"seat\":2,\"key\":\"b\"}\n";
 
 pub(super) const BYE: &[u8] = b"{\"do\":\"bye\"}\n";
 
+const SAY_AND_BYE: &[u8] = b"{\"do\":\"say\",\"text\":\"hi\"}\n{\"do\":\"bye\"}\n";
+
 // So often a gate is looked at before it is given up.
 const YIELDS: u32 = 1_000_000;
 
@@ -52,10 +54,11 @@ enum Stage {
     End,
 }
 
-// Gives a hello, and a bye once both gates are open. Where one doesn't open it fails.
+// Gives a hello, and its last lines once both gates are open. Where one doesn't open it fails.
 #[derive(Drop)]
 pub(super) struct Gated<'a> {
     hello: &'a [u8],
+    last: &'a [u8],
     yields: u32,
     stage: Stage,
     anns: Gate<'a>,
@@ -64,9 +67,16 @@ pub(super) struct Gated<'a> {
 }
 
 impl<'a> Gated<'a> {
-    pub(super) fn of(hello: &'a [u8], yields: u32, anns: Gate<'a>, bobs: Gate<'a>) -> Gated<'a> {
+    pub(super) fn of(
+        hello: &'a [u8],
+        last: &'a [u8],
+        yields: u32,
+        anns: Gate<'a>,
+        bobs: Gate<'a>,
+    ) -> Gated<'a> {
         Gated {
             hello,
+            last,
             yields,
             stage: Stage::Hello,
             anns,
@@ -99,7 +109,7 @@ impl<'a> Source for Gated<'a> {
                     return Err(Failed);
                 }
                 self.stage = Stage::End;
-                Ok(copied(BYE, piece))
+                Ok(copied(self.last, piece))
             }
             Stage::End => Ok(0),
         }
@@ -168,7 +178,7 @@ pub(super) fn two_sessions(alloc: Global) -> Result<(Hall<Table>, Passes, Passes
     Ok((hall, anns, bobs))
 }
 
-// Anna says bye once Bob has a line.
+// Anna says something and then bye once Bob has two lines.
 fn serve_ann<R: Threads + Wait + Sync>(
     rt: &R,
     alloc: Global,
@@ -187,15 +197,15 @@ fn serve_ann<R: Threads + Wait + Sync>(
     };
     let bobs_gate = Gate {
         lines: bobs,
-        least: 1,
+        least: 2,
     };
-    let mut input = Gated::of(ANNS_HELLO, YIELDS, anns_gate, bobs_gate);
+    let mut input = Gated::of(ANNS_HELLO, SAY_AND_BYE, YIELDS, anns_gate, bobs_gate);
     let mut output = Counted { lines: anns };
     let Passes { reader, writer } = passes;
     serve_session(rt, alloc, hall, reader, writer, &mut input, &mut output).ended
 }
 
-// Bob says bye once he has two lines and Anna has one.
+// Bob says bye once Anna has a line and he has three: the last is Anna's, who says it while his next line is waited for.
 fn serve_bob<R: Threads + Wait + Sync>(
     rt: &R,
     alloc: Global,
@@ -214,9 +224,9 @@ fn serve_bob<R: Threads + Wait + Sync>(
     };
     let bobs_gate = Gate {
         lines: bobs,
-        least: 2,
+        least: 3,
     };
-    let mut input = Gated::of(BOBS_HELLO, YIELDS, anns_gate, bobs_gate);
+    let mut input = Gated::of(BOBS_HELLO, BYE, YIELDS, anns_gate, bobs_gate);
     let mut output = Counted { lines: bobs };
     let Passes { reader, writer } = passes;
     serve_session(rt, alloc, hall, reader, writer, &mut input, &mut output).ended
