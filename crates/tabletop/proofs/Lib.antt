@@ -12,3 +12,5 @@ mod Starting
 mod Resuming
 mod LoggedRuns
 mod LoggedEnds
+pub mod LoggedServices
+pub mod Evenings

@@ -8,7 +8,7 @@ use Rattle.command_words.specs.Words.{Text, Asked, Play, Check, Drill, Serve, Ve
 use Rattle.tabletop.specs.ServeEnds.{Service, served_here, service_in}
 
 -- so many may be served, or made, and this is a player's seat
-abbrev IsServable : Option Asked → Type 0
+abbrev pub IsServable : Option Asked → Type 0
 IsServable None = Unit {0}
 IsServable (Some (Play file end)) = Unit {0}
 IsServable (Some (Check file)) = Unit {0}
@@ -34,7 +34,7 @@ value_in least most text is =
     let both = last_of (is_whole text) (nat_le least (digits_value 10 text) && nat_le (digits_value 10 text) most) is in
     (leb-true least (digits_value 10 text) (first_of (nat_le least (digits_value 10 text)) (nat_le (digits_value 10 text) most) both), leb-true (digits_value 10 text) most (last_of (nat_le least (digits_value 10 text)) (nat_le (digits_value 10 text) most) both))
 
-serve_servable : (file port count : Text) (end : Bool) → IsServable (serve file port count end)
+pub serve_servable : (file port count : Text) (end : Bool) → IsServable (serve file port count end)
 serve_servable file port count end =
     by_if (is_file file && (is_in 1 65535 port && is_in 1 1024 count)) (Some (Serve file (digits_value 10 port) (digits_value 10 count) end)) None
     (λ is. value_in 1 1024 count (last_of (is_in 1 65535 port) (is_in 1 1024 count) (last_of (is_file file) (is_in 1 65535 port && is_in 1 1024 count) is))) tt

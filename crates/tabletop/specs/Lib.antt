@@ -9,3 +9,4 @@ pub mod Ends
 pub mod ServeEnds
 pub mod LogEndings
 pub mod Logged
+pub mod ServesLogged

@@ -11,6 +11,7 @@ mod endings;
 mod files;
 mod last_line;
 mod log_end;
+mod log_serve;
 mod log_start;
 mod logged;
 #[cfg(test)]
@@ -30,6 +31,7 @@ use line_io::{
     CallSpawner, Failed, FileDesk, ReaderSource, TcpDoor, TcpSink, TcpSource, WriterSink,
 };
 pub use log_end::LogEnded;
+pub use log_serve::tabletop_serve_logged;
 pub use logged::tabletop_logged;
 use names::Memory;
 pub use script_play::play;
