@@ -2,10 +2,9 @@
 # Kills evenings with a log on a real file, at random moments (SIGKILL), and looks at what they left. A kill isn't a loss of power: what was
 # written stays in the system's memory, so this tries the order of the program's calls and no disk.
 #   bench/kill.sh [PROGRAM [KILLS]]
-# PROGRAM is crates/tabletop/out/tabletop unless given. KILLS of each part are killed, 100 unless given: scripts that are played, and with
-# PARTS="play serve" servers of a game master and three players over TCP, for a program that takes `serve FILE PORT COUNT --log LOG`, which this
-# one doesn't yet. SEED=N draws other moments and other lines, FOLDER=PATH has the logs instead of a new folder beside the system's other
-# temporary ones. It needs Python 3.9 or later and takes some minutes.
+# PROGRAM is crates/tabletop/out/tabletop unless given. KILLS of each part are killed, 100 unless given: scripts that are played, and servers of a
+# game master and four players over TCP; PARTS=play or PARTS=serve tries one part alone. SEED=N draws other moments and other lines, FOLDER=PATH
+# has the logs instead of a new folder beside the system's other temporary ones. It needs Python 3.9 or later and takes some minutes.
 # The log is read by the format of docs/PROTOCOL.md, and by nothing of the program. Checked are, of each script that was killed:
 #   - what came out is a front of what the whole run prints;
 #   - the log is the campaign's, and its entries are the first of the whole run's; each entry of whose lines a byte came out is there;
@@ -28,7 +27,7 @@ if [ ! -x "$program" ]; then
     exit 2
 fi
 status=0
-for part in ${PARTS:-play}; do
+for part in ${PARTS:-play serve}; do
     python3 -B "$bench/kill_$part.py" "$program" "$kills" || status=1
 done
 exit "$status"

@@ -1,4 +1,4 @@
-"""The second half of bench/kill.sh: evenings that are served with a log, and whose server is killed. A game master and three players say, roll,
+"""The second half of bench/kill.sh: evenings that are served with a log, and whose server is killed. A game master and four players say, roll,
 walk and shut doors over TCP, each by lines drawn at random, some of them sent at once.
 
     python3 bench/kill_serve.py PROGRAM [KILLS]
@@ -23,7 +23,7 @@ from kill_log import FAULTS, JOIN, LINE, TAKEN, entries_of, fault, leaves_of
 
 PROGRAM, KILLS = sys.argv[1], int(sys.argv[2]) if len(sys.argv) > 2 else 100
 SEED = os.environ.get("SEED", "1")
-SEATS, COUNT = 4, 6
+SEATS, COUNT = 5, 7
 # So often each client sends some lines at once, behind its hello.
 BURSTS = 25
 # Seconds after which a connection that gets nothing more, and doesn't end, is held up.
@@ -160,7 +160,7 @@ class Player(Client):
     def word(self):
         """A line that needs no reply to another."""
         draw = self.drawing
-        talk = [{"do": "say", "text": f"{draw.choice(WORDS)} {draw.randrange(10**6)}", "to": draw.choice(["all", "gm", "self", "gmself", 1, 2, 3])},
+        talk = [{"do": "say", "text": f"{draw.choice(WORDS)} {draw.randrange(10**6)}", "to": draw.choice(["all", "gm", "self", "gmself", 1, 2, 3, 4])},
                 {"do": "roll", "dice": draw.choice(["1d20", "4d6k3", "2d6+1"]), "to": draw.choice(["all", "gm", "self"])},
                 {"do": "nonsense"}]
         mine = [{"do": "setprop", "token": f"{self.seat}:t", "class": "public", "name": "hp", "value": str(draw.randrange(20))},

@@ -5,7 +5,8 @@
     host.py tower.json --listen 0.0.0.0:8443 --cert chain.pem --key key.pem --page https://host.example:8443
 
 Ctrl-C ends the evening: everybody's connection is closed, and the campaign as it is then is written beside
-the old one. The same happens where the terminal is closed, and where the server or the page stops.
+the old one. The same happens where the terminal is closed, and where the server or the page stops. With
+`--log FILE` an evening also survives a machine that stops: the same words go on, with the same links.
 """
 
 from __future__ import annotations
@@ -67,8 +68,9 @@ class Evening:
     def begin(cls, given: argparse.Namespace) -> Evening:
         """Begins both, and waits until they listen."""
         port = free_port()
-        words = [given.program, "serve", str(given.campaign), str(port), str(MOST_CONNECTIONS), "--end"]
-        evening = cls(port, started(words, subprocess.PIPE))
+        words = [given.program, "serve", str(given.campaign), str(port), str(MOST_CONNECTIONS)]
+        words += ["--log", str(given.log)] if given.log else []
+        evening = cls(port, started([*words, "--end"], subprocess.PIPE))
         threading.Thread(target=evening.hand_on_notes, daemon=True).start()
         try:
             evening.await_server()
@@ -180,6 +182,9 @@ def given_words(words: list[str]) -> argparse.Namespace:
     parser.add_argument("campaign", type=pathlib.Path)
     parser.add_argument(
         "--program", default=os.environ.get("TABLETOP", str(PROGRAM)), help="the tabletop program"
+    )
+    parser.add_argument(
+        "--log", type=pathlib.Path, help="a log: where the machine stops, the same words go on from it"
     )
     parser.add_argument("--listen", default="127.0.0.1:8080", help="where browsers come (127.0.0.1:8080)")
     parser.add_argument(

@@ -15,14 +15,14 @@ use std::rt::Files;
 /// A file that is opened by its path, or made. It is locked, so that no other program writes to it meanwhile. After a sync that
 /// failed nothing more is asked of it until it is opened again, since the system may have dropped what was written.
 #[derive(Drop)]
-pub struct FileDisk<R> {
-    rt: R,
+pub struct FileDisk {
+    rt: HostRuntime,
     file: Option<File>,
     faults: u64,
 }
 
 // Contracts see the count of its faults.
-impl<R> Model for FileDisk<R> {
+impl Model for FileDisk {
     ghost use Rattle.std.specs.Prelude.{ℕ};
 
     ghost Value = { ℕ };
@@ -30,9 +30,9 @@ impl<R> Model for FileDisk<R> {
     ghost view = { λ d. d.faults };
 }
 
-impl<R> FileDisk<R> {
+impl FileDisk {
     /// A disk without a file, and without faults so far.
-    pub fn new(rt: R) -> FileDisk<R>
+    pub fn new(rt: HostRuntime) -> FileDisk
         ensures { result ≡ 0 }
     {
         FileDisk {
@@ -103,7 +103,7 @@ fn filled(file: &File, at: u64, piece: &mut [u8]) -> io::Result<usize>
     Ok(count)
 }
 
-impl<R: Files<File = File> + AllocGlobal> Disk for FileDisk<R> {
+impl Disk for FileDisk {
     ghost tells = { ⊥ };
 
     ghost seen = { λ _. [] };

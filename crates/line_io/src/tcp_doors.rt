@@ -8,11 +8,16 @@ use crate::tcp_ends::{TcpSink, TcpSource, ends_of};
 use std::alloc::Global;
 use std::io::Eprint;
 use std::net::{Ipv4Addr, Net, SocketAddr, TcpListener, TcpStream};
+use std::os::fd::AsRawFd;
 use std::time::{Clock, Duration};
 use std::{io, thread};
 
 // How many thousandths of a second the door waits where the system refuses a connection.
 const PAUSE: u64 = 50;
+
+// So many connections may wait to be taken, as many as a run serves. The system forgets what comes beyond, whose client then waits for
+// ever where it says nothing.
+const BACKLOG: i32 = 1024;
 
 // What Linux tells of a listener that is none (EBADF), that doesn't listen (EINVAL) or is no socket (ENOTSOCK).
 const BROKEN: [i32; 3] = [9, 22, 88];
@@ -40,6 +45,17 @@ impl<R> TcpDoor<R> {
             faults: 0,
         }
     }
+}
+
+// A listener at this port. Where the system doesn't take the backlog, the one of std stands.
+fn listening<R: Net<Listener = TcpListener, Stream = TcpStream>>(
+    rt: &R,
+    port: u16,
+) -> io::Result<TcpListener> {
+    let address = SocketAddr::from((Ipv4Addr::LOCALHOST, port));
+    let listener = TcpListener::bind(rt, address)?;
+    let _asked = libc::net::listen(listener.as_raw_fd(), BACKLOG);
+    Ok(listener)
 }
 
 // Whether no connection can come any more. Else one alone was refused, as where the system has no descriptor left.
@@ -75,8 +91,7 @@ impl<R: Net<Listener = TcpListener, Stream = TcpStream> + Clock + Eprint + Copy>
     ghost faults_of = { λ d. d.faults };
 
     fn open(&mut self, port: u16) -> Result<(), Failed> {
-        let address = SocketAddr::from((Ipv4Addr::LOCALHOST, port));
-        match TcpListener::bind(&self.rt, address) {
+        match listening(&self.rt, port) {
             Ok(listener) => {
                 self.listener = Some(listener);
                 Ok(())

@@ -10,7 +10,7 @@ use std::thread::Threads;
 use turn_lock::{Hall, Pass};
 
 /// An output over TCP that waits for a log in a file.
-pub type LoggedTcpSink = LoggedSink<TcpSink<HostRuntime>, Table, FileDisk<HostRuntime>>;
+pub type LoggedTcpSink = LoggedSink<TcpSink<HostRuntime>, Table, FileDisk>;
 
 /// An output in memory that waits for a log in memory.
 pub type LoggedMemSink = LoggedSink<MemSink, Table, MemDisk>;

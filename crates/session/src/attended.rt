@@ -56,7 +56,7 @@ impl<'a, 'b, S: Start, R, I, O: Outlet> Attended<'a, 'b, S, R, I, O> {
                 pen.write_on(self.rt, self.hall, self.hold, self.pace);
                 self.pace.attended();
             }
-            None => self.pace.rouse(),
+            None => self.pace.look(),
         }
     }
 }

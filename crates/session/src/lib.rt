@@ -1,8 +1,8 @@
 //! Sessions: one connection that sits at a seat of a campaign, which many share.
 //!
 //! A session reads a hello, joins by the numbers of its two passes, and then runs two halves side by side. The reading half
-//! enters the lines of the input, the writing half writes the lines that the campaign queues for the seat. What a session
-//! did is told of each longer history that begins with the fronts of its passes.
+//! enters the lines of the input, and both halves, one at a time, write the lines that the campaign queues for the seat. What a
+//! session did is told of each longer history that begins with the fronts of its passes.
 #![tactic(auto)]
 
 mod attended;

@@ -18,7 +18,7 @@ const LOOKS: u32 = 100;
 const LOOK: u64 = 10;
 
 /// So many milliseconds the writing half naps.
-const NAP: u64 = 1;
+const NAP: u64 = 4;
 
 /// What the halves of a session tell each other: how long the history was behind the last entry of the reading half, the Join at
 /// first, and in the last turn of the writing half. No clause speaks of it: who waits here enters nothing meanwhile.
@@ -35,8 +35,8 @@ pub(crate) struct Pace {
     sleeps: AtomicBool,
     // Whether the reading half wrote since the writing half began its last nap.
     attends: AtomicBool,
-    // 1 where the writing half is not to nap.
-    roused: AtomicU64,
+    // 1 where the writing half is to look once more before it naps.
+    looks: AtomicU64,
 }
 
 impl Pace {
@@ -49,7 +49,7 @@ impl Pace {
             found: AtomicU64::new(0),
             sleeps: AtomicBool::new(false),
             attends: AtomicBool::new(false),
-            roused: AtomicU64::new(0),
+            looks: AtomicU64::new(0),
         }
     }
 
@@ -83,26 +83,31 @@ impl Pace {
     }
 
     /// While the reading half writes what waits, as it does before each read, the writing half isn't to be woken by each act: it
-    /// naps until the reading half wrote nothing during a nap, or has it look. Whether it napped.
+    /// naps until the reading half wrote nothing during a nap, or it is to look. Whether it did either.
     pub(crate) fn nap<R: Wait>(&self, rt: &R) -> bool {
         let mut napped = false;
         for _ in rt.forever() {
+            if self.looks.swap(0, Ordering::SeqCst) != 0 {
+                return true;
+            }
             if !self.attends.swap(false, Ordering::SeqCst) {
                 return napped;
             }
-            self.roused.park_timeout(rt, 0, Duration::from_millis(NAP));
+            self.looks.park_timeout(rt, 0, Duration::from_millis(NAP));
             napped = true;
-            if self.roused.swap(0, Ordering::SeqCst) != 0 {
-                return true;
-            }
         }
         unreachable!()
     }
 
-    /// Ends the nap of the writing half.
-    pub(crate) fn rouse(&self) {
-        self.roused.store(1, Ordering::SeqCst);
-        self.roused.wake_one();
+    /// The writing half, which isn't napping, is to look once more before it naps.
+    pub(crate) fn look(&self) {
+        self.looks.store(1, Ordering::SeqCst);
+    }
+
+    // Ends a nap of the writing half.
+    fn rouse(&self) {
+        self.look();
+        self.looks.wake_one();
     }
 
     /// Where no further line may be entered before the writing half had a turn that found the last one, waits for that turn, or

@@ -27,6 +27,7 @@ mod verifying;
 
 use crash_log::FileDisk;
 pub use endings::Ended;
+use evening_log::LoggedSink;
 use line_io::{
     CallSpawner, Failed, FileDesk, ReaderSource, TcpDoor, TcpSink, TcpSource, WriterSink,
 };
@@ -37,6 +38,7 @@ use names::Memory;
 pub use script_play::play;
 pub use serve::tabletop_serve;
 use serving::{Sitting, SittingThread, start_sitting};
+use session::Table;
 use std::env::Env;
 use std::process::ExitCode;
 use std::{env, io};
@@ -63,6 +65,14 @@ fn asks_to_serve(words: &[String]) -> bool {
     }
 }
 
+// Whether the words ask for connections to be served with a log.
+fn asks_to_serve_with_a_log(words: &[String]) -> bool {
+    match words {
+        [first, _, _, _, fifth, ..] => first.as_str() == "serve" && fifth.as_str() == "--log",
+        _ => false,
+    }
+}
+
 // Whether the words ask for a script to be played with a log.
 fn asks_for_a_log(words: &[String]) -> bool {
     match words {
@@ -76,10 +86,38 @@ type TcpSitting<R> = Sitting<R, TcpSource<R>, TcpSink<R>>;
 
 type TcpThread<R> = SittingThread<R, TcpSource<R>, TcpSink<R>>;
 
+// A session over TCP whose output waits for a log in a file, and a thread that serves one.
+type LoggedTcpSink = LoggedSink<TcpSink<HostRuntime>, Table, FileDisk>;
+
+type LoggedSitting = Sitting<HostRuntime, TcpSource<HostRuntime>, LoggedTcpSink>;
+
+type LoggedThread = SittingThread<HostRuntime, TcpSource<HostRuntime>, LoggedTcpSink>;
+
 fn main(rt: HostRuntime) -> ExitCode {
     let mut desk = FileDesk::new(&rt, rt.alloc());
     let mut out = WriterSink::new(rt.stdout());
     let status = match words_of(&rt) {
+        Ok(words) if asks_to_serve_with_a_log(&words) => {
+            let door = TcpDoor::new(rt, rt.alloc());
+            let mut threads = CallSpawner::new(
+                |sitting: LoggedSitting| -> Result<LoggedThread, Failed>
+                    ensures { IfOk result (λ task. task.promise.0.value ≡ sitting) }
+                { start_sitting(&rt, sitting) },
+                &rt,
+            );
+            let disk = FileDisk::new(rt);
+            let (status, _door, _disk) = tabletop_serve_logged(
+                &rt,
+                rt.alloc(),
+                &words,
+                &mut desk,
+                &mut out,
+                door,
+                disk,
+                &mut threads,
+            );
+            status
+        }
         Ok(words) if asks_to_serve(&words) => {
             let mut door = TcpDoor::new(rt, rt.alloc());
             let mut threads = CallSpawner::new(
