@@ -4,6 +4,8 @@ pub mod ViewsDecide
 pub mod Reports
 pub mod Walking
 pub mod UnseenScenes
+pub mod PlacedChanges
+pub mod PlacedScenes
 pub mod Nexts
 pub mod Bounds
 pub mod Following

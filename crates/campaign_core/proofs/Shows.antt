@@ -1,6 +1,6 @@
 -- The views that are kept, seat by seat.
 use Rattle.std.proofs.Common.{◌≡◌, ◌<◌, ◌≤◌, ◌+◌, ◌⊎◌, inl, inr, ℕ, Bool, true, false, cond, ◌&&◌, ◌||◌, eqb, zero, suc, List, [], ◌∷◌, ◌++◌, length, drop, get_or, Some, None, refl, sym, ◌∙◌, ap, subst, arith, zero-add}
-use Rattle.std.specs.Prelude.{Option, option_map, slice_get, not}
+use Rattle.std.specs.Prelude.{Option, IfSome, is_some, option_map, slice_get, not}
 use Rattle.std.proofs.lemmas.Option.{slice_get-map}
 use Rattle.std.proofs.lemmas.Bool.Decides.{nat_tests}
 use Rattle.seats.specs.SeatState.{is_joined}
@@ -10,6 +10,8 @@ use Rattle.views.specs.declared.view.View.{View}
 use Rattle.view_keep.specs.declared.keep.KeptView.{KeptView}
 use Rattle.view_keep.specs.Kept.{view_at}
 use Rattle.command_effects.specs.Settle.{IsSettled}
+use Rattle.view_marks.specs.declared.placed.Placed.{Placed}
+use Rattle.view_marks.specs.Placed.{placed_in}
 use Rattle.view_marks.specs.Marks.{leaves_letters, marks}
 use Rattle.view_marks.proofs.Marked.{unmarked}
 use Rattle.view_marks.proofs.Letters.{leaves_letters as letters_are_left}
@@ -38,7 +40,7 @@ use Rattle.campaign_core.specs.declared.reach.Reach.TheVariants.{Master, Anybody
 use Rattle.campaign_core.specs.Places.{Place, Standing, world_at}
 use Rattle.campaign_core.proofs.Cutting.{cut_step}
 use Rattle.campaign_core.proofs.Leaving.{leave_stays}
-use Rattle.campaign_core.specs.Shown.{AreShown, AreStill, IsShown, is_kept, reaches, view_made_in, made_or, made_view, new_view, view_then}
+use Rattle.campaign_core.specs.Shown.{AreShown, AreStill, IsPlacing, IsShown, is_kept, placed_for, placed_if, placed_reaching, reaches, view_made_in, made_or, made_view, new_view, view_then}
 
 -- ---- a seat that joins is due the full line
 
@@ -61,12 +63,62 @@ or_false true = refl
 or_false false = refl
 
 -- the view that stands for a seat that is Joined after the entry
-view_stands : (stays acts : Bool) (o : Outcome) (before after : Scene) (seat : ℕ) (kept : Option View) (joined : Bool)
-    → (stays ≡ true → view_of after seat ≡ view_of before seat) → (joined ≡ true → kept ≡ Some (view_of before seat)) → (joined ≡ false → (acts && o.joins) ≡ true)
+view_stands : (stays acts : Bool) (o : Outcome) (after : Scene) (seat : ℕ) (kept : Option View) (joined : Bool)
+    → (stays ≡ true → joined ≡ true → kept ≡ Some (view_of after seat)) → (joined ≡ false → (acts && o.joins) ≡ true)
     → made_or (cond joined (new_view stays after seat) (new_view (not (acts && o.joins)) after seat)) kept ≡ Some (view_of after seat)
-view_stands true acts o before after seat kept true still shown joins = shown refl ∙ ap Some (sym (still refl))
-view_stands false acts o before after seat kept true still shown joins = refl
-view_stands stays acts o before after seat kept false still shown joins = ap (λ b. made_or (new_view (not b) after seat) kept) (joins refl)
+view_stands true acts o after seat kept true stands joins = stands refl refl
+view_stands false acts o after seat kept true stands joins = refl
+view_stands stays acts o after seat kept false stands joins = ap (λ b. made_or (new_view (not b) after seat) kept) (joins refl)
+
+masters : (seat : ℕ) → is_gm seat ≡ true → seat ≡ 0
+masters seat h = grind (arith, nat_tests, h)
+
+turned : (seat : ℕ) → eqb 0 seat ≡ is_gm seat
+turned seat = grind (arith, nat_tests)
+
+none_placed : (b : Bool) (placed : Option Placed) → placed ≡ None → is_some (cond b placed None) ≡ false
+none_placed true placed none = ap is_some none
+none_placed false placed none = refl
+
+stays_alone : (stays placed : Bool) → placed ≡ false → (stays || placed) ≡ true → stays ≡ true
+stays_alone true placed none is = refl
+stays_alone false placed none is = let no : false ≡ true = sym none ∙ is in cc
+
+-- the kept view of a seat that stays, or in which a token was placed
+placed_or_kept : (placed : Option Placed) (gm full stays : Bool) (before after : Scene) (seat : ℕ) (kept : Option View) → is_gm seat ≡ gm
+    → IfSome placed (λ p. IsPlacing p (view_of before 0) (view_of after 0)) → kept ≡ Some (view_of before seat) → (stays ≡ true → view_of after seat ≡ view_of before seat)
+    → (stays || is_some (cond (gm && not full) placed None)) ≡ true → placed_if placed seat kept ≡ Some (view_of after seat)
+placed_or_kept None gm full stays before after seat kept is placing shown still so =
+    shown ∙ ap Some (sym (still (stays_alone stays _ (none_placed (gm && not full) None refl) so)))
+placed_or_kept (Some p) true full stays before after seat kept is placing shown still so =
+    let at_0 = masters seat is in
+    let is_placing : IsPlacing p (view_of before 0) (view_of after 0) = placing in
+    ap (λ b. cond b (option_map (placed_in p) kept) kept) (turned seat ∙ is)
+    ∙ ap (option_map (placed_in p)) (shown ∙ ap (λ n. Some (view_of before n)) at_0)
+    ∙ ap Some (sym is_placing.view)
+    ∙ ap (λ n. Some (view_of after n)) (sym at_0)
+placed_or_kept (Some p) false full stays before after seat kept is placing shown still so =
+    ap (λ b. cond b (option_map (placed_in p) kept) kept) (turned seat ∙ is) ∙ shown ∙ ap Some (sym (still (stays_alone stays false refl so)))
+
+-- what is told of a token that was placed in the seat's view
+pub placing_for : (reach : Reach) (o : Outcome) (acts : Bool) (seat : ℕ) (before after : Scene) → AreStill reach o before after
+    → IfSome (placed_for reach o seat) (λ p. ((acts && o.full) ≡ false) × IsPlacing p (view_of before seat) (view_of after seat))
+placing_for reach o acts seat before after still = by (is_gm seat) o.full refl refl
+  where
+    no_full : (b : Bool) → (b && false) ≡ false
+    no_full true = refl
+    no_full false = refl
+
+    given : is_gm seat ≡ true → o.full ≡ false → (placed : Option Placed) → IfSome placed (λ p. IsPlacing p (view_of before 0) (view_of after 0))
+        → IfSome placed (λ p. ((acts && o.full) ≡ false) × IsPlacing p (view_of before seat) (view_of after seat))
+    given gm full None placing = tt
+    given gm full (Some p) placing = (ap (λ b. acts && b) full ∙ no_full acts, subst (λ n. IsPlacing p (view_of before n) (view_of after n)) (sym (masters seat gm)) placing)
+
+    by : (gm full : Bool) → is_gm seat ≡ gm → o.full ≡ full
+        → IfSome (cond (gm && not full) (placed_reaching reach) None) (λ p. ((acts && o.full) ≡ false) × IsPlacing p (view_of before seat) (view_of after seat))
+    by false full g f = tt
+    by true true g f = tt
+    by true false g f = given g f (placed_reaching reach) still.placed
 
 is_joined_then : (acts : Bool) (o : Outcome) (s : Seat) → (acts ≡ true → IsFit s o) → is_joined (changed o acts s).book.state ≡ true → is_joined s.book.state ≡ false → (acts && o.joins) ≡ true
 is_joined_then true o s fit after before =
@@ -83,20 +135,21 @@ fit_at w e seat s at acts =
     subst (λ o. IsFit s (outcome_at (asked_of w (seat_of e)) (report_of w e) o e)) (sym here) (outcome_fits (asked_of w (seat_of e)) (report_of w e) s e)
 
 -- a change that doesn't reach the seat is unseen, and the seat is a player's; or else the seat isn't marked
-unreached : (unseen : Bool) (seat : ℕ) (marked : Bool) → (not (reaches (cond unseen Master Anybody) seat) || not marked) ≡ true → ((unseen ≡ true) × (is_gm seat ≡ false)) ⊎ (marked ≡ false)
-unreached unseen seat false is = inr refl
-unreached true seat true is = by (is_gm seat) refl is
+unreached : (unseen : Bool) (placed : Option Placed) (seat : ℕ) (marked : Bool) → (not (reaches (cond unseen (Master placed) (Anybody placed)) seat) || not marked) ≡ true
+    → ((unseen ≡ true) × (is_gm seat ≡ false)) ⊎ (marked ≡ false)
+unreached unseen placed seat false is = inr refl
+unreached true placed seat true is = by (is_gm seat) refl is
   where
     by : (gm : Bool) → is_gm seat ≡ gm → (not gm || false) ≡ true → ((true ≡ true) × (is_gm seat ≡ false)) ⊎ (true ≡ false)
     by true e kept = let never : false ≡ true = kept in cc
     by false e kept = inl (refl, e)
-unreached false seat true is = let no : false ≡ true = is in cc
+unreached false placed seat true is = let no : false ≡ true = is in cc
 
 still_by : (w : World) (e : Entry) (fields : List (TokenId × Cells)) (changed : Option Changed) (seat : ℕ) → IsSettled w.scene → IsChanged w e fields changed
     → is_kept (reach_of changed) (outcome_of w e) seat ≡ true → view_of (scene_after w e) seat ≡ view_of w.scene seat
 unfolding scene_after
 still_by w e fields None seat settled h is = ap (λ (s : Scene). view_of s seat) h
-still_by w e fields (Some changed) seat settled h is = by (unreached changed.unseen seat (marks (outcome_of w e).done seat) is)
+still_by w e fields (Some changed) seat settled h is = by (unreached changed.unseen changed.placed seat (marks (outcome_of w e).done seat) is)
   where
     by : ((changed.unseen ≡ true) × (is_gm seat ≡ false)) ⊎ (marks (outcome_of w e).done seat ≡ false) → view_of (scene_after w e) seat ≡ view_of w.scene seat
     by (inl player) = ap (λ (s : Scene). view_of s seat) (sym h.0) ∙ h.3 player.0 seat player.1
@@ -106,32 +159,45 @@ same_letters : (w : World) (e : Entry) → leaves_letters (outcome_of w e).done 
 unfolding scene_after
 same_letters w e leaves = letters_are_left (steps_of w e) (outcome_of w e).intents (seat_of e) w.scene (outcome_of w e).done leaves
 
--- a scene that stays, or a command that doesn't mark the seat; and letters that stay
+reached_by : (unseen : Bool) (placed : Option Placed) → placed_reaching (cond unseen (Master placed) (Anybody placed)) ≡ placed
+reached_by true placed = refl
+reached_by false placed = refl
+
+placed_still : (w : World) (e : Entry) (fields : List (TokenId × Cells)) (changed : Option Changed) → IsChanged w e fields changed
+    → IfSome (placed_reaching (reach_of changed)) (λ p. IsPlacing p (view_of w.scene 0) (view_of (scene_after w e) 0))
+placed_still w e fields None h = tt
+placed_still w e fields (Some changed) h =
+    subst (λ o. IfSome o (λ p. IsPlacing p (view_of w.scene 0) (view_of (scene_after w e) 0))) (sym (reached_by changed.unseen changed.placed))
+    (subst (λ (s : Scene). IfSome changed.placed (λ p. IsPlacing p (view_of w.scene 0) (view_of s 0))) h.0 h.4)
+
+-- a scene that stays, or a command that doesn't mark the seat; letters that stay; and a token that is placed
 pub stays_in_view : (w : World) (e : Entry) (fields : List (TokenId × Cells)) (changed : Option Changed) → FitsTogether w → HasTables w.scene → IsSettled w.scene → IsChanged w e fields changed
     → AreStill (reach_of changed) (outcome_of w e) w.scene (scene_after w e)
 stays_in_view w e fields changed fits tables settled h = record {
   each = λ seat is. still_by w e fields changed seat settled h is;
   letters = λ leaves. letters_stay w.scene (scene_after w e) tables (tables_after w e fits tables) (same_letters w e leaves);
+  placed = placed_still w e fields changed h;
 }
 
 one_stands : (w : World) (e : Entry) (kept : List KeptView) (made : List (Option View)) (reach : Reach) (seat : ℕ) (o : Option Seat) → seat_at w seat ≡ o
     → AreShown w kept → AreStill reach (outcome_of w e) w.scene (scene_after w e)
     → slice_get made seat ≡ option_map (λ s. made_view reach (eqb (seat_of e) seat) (outcome_of w e) (scene_after w e) seat s) o
     → was_joined (option_map (seat_after w e seat) o) ≡ true
-    → view_then made kept seat ≡ Some (view_of (scene_after w e) seat)
+    → view_then (placed_reaching reach) made kept seat ≡ Some (view_of (scene_after w e) seat)
 one_stands w e kept made reach seat None at shown stays is joined = cc
 one_stands w e kept made reach seat (Some s) at shown stays is joined =
     let out = outcome_of w e in
     let acts = eqb (seat_of e) seat in
-    ap (λ m. made_or (view_made_in m) (view_at seat kept)) is
-    ∙ view_stands (is_kept reach out seat) acts out w.scene (scene_after w e) seat (view_at seat kept) (is_joined s.book.state) (stays.each seat)
-    (λ j. shown.each seat (ap was_joined at ∙ j))
+    ap (λ m. made_or (view_made_in m) (placed_if (placed_reaching reach) seat (view_at seat kept))) is
+    ∙ view_stands (is_kept reach out seat || is_some (placed_for reach out seat)) acts out (scene_after w e) seat (placed_if (placed_reaching reach) seat (view_at seat kept)) (is_joined s.book.state)
+    (λ so j. placed_or_kept (placed_reaching reach) (is_gm seat) out.full (is_kept reach out seat) w.scene (scene_after w e) seat (view_at seat kept) refl stays.placed
+    (shown.each seat (ap was_joined at ∙ j)) (stays.each seat) so)
     (λ j. is_joined_then acts out s (λ yes. fit_at w e seat s at yes)
     (joined_before (length (queued_lines seat acts (Some s) out (view_of w.scene seat) (view_of (scene_after w e) seat))) (changed out acts s) joined) j)
 
 pub views_stand : (w : World) (e : Entry) (kept : List KeptView) (made : List (Option View)) (reach : Reach) → AreShown w kept → AreStill reach (outcome_of w e) w.scene (scene_after w e)
     → made ≡ mapped_from (λ seat s. made_view reach (eqb (seat_of e) seat) (outcome_of w e) (scene_after w e) seat s) 0 w.seats
-    → (seat : ℕ) → was_joined (seat_at (step w e) seat) ≡ true → view_then made kept seat ≡ Some (view_of (scene_after w e) seat)
+    → (seat : ℕ) → was_joined (seat_at (step w e) seat) ≡ true → view_then (placed_reaching reach) made kept seat ≡ Some (view_of (scene_after w e) seat)
 views_stand w e kept made reach shown stays is seat joined =
     let f : ℕ → Seat → Option View = λ n s. made_view reach (eqb (seat_of e) n) (outcome_of w e) (scene_after w e) n s in
     one_stands w e kept made reach seat (seat_at w seat) refl shown stays
@@ -206,12 +272,23 @@ none_past (m ∷ made) zero h = let no : true ≡ false = sym h ∙ suc_zero (le
 none_past (m ∷ made) (suc seat) h = none_past made seat (sym (suc_suc (length made) seat) ∙ h)
 
 pub then_more : (made : List (Option View)) (kept : List KeptView) (x : Option View) (seat : ℕ)
-    → view_then (made ++ x ∷ []) kept seat ≡ cond (eqb (length made) seat) (made_or x (view_then made kept seat)) (view_then made kept seat)
+    → view_then None (made ++ x ∷ []) kept seat ≡ cond (eqb (length made) seat) (made_or x (view_then None made kept seat)) (view_then None made kept seat)
 then_more made kept x seat = ap (λ m. made_or m (view_at seat kept)) (made_more made x seat) ∙ by (eqb (length made) seat) refl
   where
-    by : (b : Bool) → eqb (length made) seat ≡ b → made_or (cond b x (view_made_in (slice_get made seat))) (view_at seat kept) ≡ cond b (made_or x (view_then made kept seat)) (view_then made kept seat)
+    by : (b : Bool) → eqb (length made) seat ≡ b → made_or (cond b x (view_made_in (slice_get made seat))) (view_at seat kept) ≡ cond b (made_or x (view_then None made kept seat)) (view_then None made kept seat)
     by true e = ap (λ m. made_or x (made_or m (view_at seat kept))) (sym (none_past made seat e))
     by false e = refl
+
+-- a token is placed in the view of seat 0
+pub placed_there : (master : ℕ) (p : Placed) (old now : List KeptView) → master ≡ 0
+    → ((other : ℕ) → view_at other now ≡ cond (eqb master other) (option_map (placed_in p) (view_at other old)) (view_at other old))
+    → (seat : ℕ) → view_at seat now ≡ placed_if (Some p) seat (view_at seat old)
+placed_there master p old now is put seat = put seat ∙ ap (λ n. cond (eqb n seat) (option_map (placed_in p) (view_at seat old)) (view_at seat old)) is
+
+-- and then the views that were made
+pub views_after : (placed : Option Placed) (made : List (Option View)) (old between now : List KeptView) → ((seat : ℕ) → view_at seat between ≡ placed_if placed seat (view_at seat old))
+    → ((seat : ℕ) → view_at seat now ≡ view_then None made between seat) → (seat : ℕ) → view_at seat now ≡ view_then placed made old seat
+views_after placed made old between now first then seat = then seat ∙ ap (made_or (view_made_in (slice_get made seat))) (first seat)
 
 pub one_more : {A : Type 0} (xs : List A) (x : A) (n : ℕ) → n ≡ length xs → n + 1 ≡ length (xs ++ x ∷ [])
 one_more [] x n h = omega (arith, h)

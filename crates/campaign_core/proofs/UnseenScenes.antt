@@ -12,7 +12,7 @@ use Rattle.command_effects.specs.declared.way.Way.{Way as Told}
 use Rattle.view_marks.specs.Unseen.{is_unseen}
 use Rattle.view_marks.proofs.UnseenChanges.{show_nothing, stay_settled}
 
-no_way : (s : Scene) (way : Option Way) (told : Option Told) → IsWay s way told → told ≡ None → way ≡ None
+pub no_way : (s : Scene) (way : Option Way) (told : Option Told) → IsWay s way told → told ≡ None → way ≡ None
 no_way s None told is none = refl
 no_way s (Some way) None is none = absurd is
 no_way s (Some way) (Some told) is none = cc

@@ -4,6 +4,7 @@ pub mod Places
 pub mod Sound
 pub mod Leaving
 pub mod Taking
+pub mod Placing
 pub mod Shown
 pub mod Glances
 pub mod Changed

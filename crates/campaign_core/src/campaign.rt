@@ -22,6 +22,7 @@ ghost use Rattle.campaign_core.specs.Taking.{is_taken as is_taken_lem};
 ghost use Rattle.campaign_core.specs.Totals.{seen_total as seen_total_lem};
 ghost use Rattle.campaign_law.specs.Law.{IsOpening, IsSentAsMachine, ChangesLittle, world_of, answer_after};
 
+use crate::boxed::Boxed;
 use crate::cuts::{SeatCut, add_cut, any_since};
 use crate::next::{Prepared, act, leave, made_by, take};
 use crate::said::heard;
@@ -33,7 +34,7 @@ use campaign_law::{Answer, Entry};
 use cells::CellSet;
 use command_effects::settle;
 use command_looks::{Touched, fields_after, serve};
-use entry_outcomes::Message;
+use entry_outcomes::{Message, ReadLine};
 use mails::Mail;
 use names::{LineText, Memory, SeatNo, TokenId};
 use player_view::view_of;
@@ -86,6 +87,8 @@ pub struct Campaign<E: Eye> {
     cuts: Vec<SeatCut>,
     said: Vec<Message>,
     staged: Option<Staged>,
+    // The line that was read ahead last, until an entry is prepared. No contract sees it.
+    ahead: Option<Boxed<ReadLine>>,
 }
 
 impl<E: Eye> Model for Campaign<E> {
@@ -212,6 +215,7 @@ impl<E: Eye + Drop> Campaign<E> {
             cuts: Vec::new(alloc),
             said: Vec::new(alloc),
             staged: None,
+            ahead: None,
         })
     }
 
@@ -237,8 +241,18 @@ impl<E: Eye + Drop> Campaign<E> {
         if make_places(&mut self.history, &mut self.cuts).is_err() {
             return Err(entry);
         }
-        let Ok(prepared) = made_by(self.alloc, &self.state, &self.keep, &mut self.eye, &entry)
-        else {
+        let ahead = match self.ahead.take() {
+            Some(ahead) => Some(ahead.into_inner()),
+            None => None,
+        };
+        let Ok(prepared) = made_by(
+            self.alloc,
+            &self.state,
+            &self.keep,
+            &mut self.eye,
+            &entry,
+            ahead,
+        ) else {
             return Err(entry);
         };
         if self.state.make_room(&prepared.nexts).is_err() {
@@ -247,6 +261,16 @@ impl<E: Eye + Drop> Campaign<E> {
         let made = Made::Whole(prepared);
         self.staged = Some(Staged { entry, made });
         Ok(())
+    }
+
+    /// Takes a line that was read ahead. The next entry that is prepared isn't read again where it is of this line; what it does is
+    /// the same without. For want of memory it isn't kept.
+    pub fn read_ahead(&mut self, line: ReadLine)
+        ensures { self.new ≡ self.old }
+    {
+        if let Ok(ahead) = Boxed::some(self.alloc, line) {
+            self.ahead = ahead;
+        }
     }
 
     /// The staged entry; `None` exactly where none is staged.

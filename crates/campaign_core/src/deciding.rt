@@ -17,7 +17,7 @@ use crate::state::State;
 use campaign_law::Entry;
 use command_effects::steps_by;
 use command_json::Command;
-use entry_outcomes::{Outcome, absent_outcome, present_outcome, with_steps};
+use entry_outcomes::{Outcome, ReadLine, absent_outcome, present_outcome, with_steps};
 use names::{Memory, SeatNo};
 use seats::SeatBook;
 use std::alloc::Global;
@@ -32,13 +32,14 @@ pub(crate) fn decide(
     state: &State,
     keep: &Keep,
     entry: &Entry,
+    ahead: Option<ReadLine>,
 ) -> Result<(u32, Outcome), Memory>
     requires fits { FitsTogether (world_at state.now) }
     requires views { AreShown (world_at state.now) keep.now.views }
     ensures steps { IfOk result (λ d. d.0 ≡ steps_of (world_at state.now) entry.now) }
     ensures outcome { IfOk result (λ d. d.1 ≡ outcome_of (world_at state.now) entry.now) }
 {
-    let still = still_outcome(alloc, state, keep, entry)?;
+    let still = still_outcome(alloc, state, keep, entry, ahead)?;
     let steps = done_steps(alloc, state, entry, &still)?;
     let outcome = with_report(alloc, state, entry.seat(), still, steps)?;
     Ok((steps, outcome))
@@ -50,6 +51,7 @@ fn still_outcome(
     state: &State,
     keep: &Keep,
     entry: &Entry,
+    ahead: Option<ReadLine>,
 ) -> Result<Outcome, Memory>
     requires fits { FitsTogether (world_at state.now) }
     requires views { AreShown (world_at state.now) keep.now.views }
@@ -61,11 +63,11 @@ fn still_outcome(
         return absent_outcome(alloc, entry);
     };
     if post.book.state().is_joined() {
-        return shown_outcome(alloc, state, keep.view(seat), &post.book, entry);
+        return shown_outcome(alloc, state, keep.view(seat), &post.book, entry, ahead);
     }
     // Its rules ask for the number of seats alone.
     let nothing = no_view(alloc);
-    shown_outcome(alloc, state, &nothing, &post.book, entry)
+    shown_outcome(alloc, state, &nothing, &post.book, entry, ahead)
 }
 
 /// What the entry does to its seat, which has this book and is shown this, but that the reply reports nothing yet.
@@ -75,6 +77,7 @@ fn shown_outcome(
     view: &View,
     book: &SeatBook,
     entry: &Entry,
+    ahead: Option<ReadLine>,
 ) -> Result<Outcome, Memory>
     requires seat { book.now.seat ≡ seat_of entry.now }
     ensures { IfOk result (λ o. o ≡ present_outcome_lem (answers_by (world_at state.now) (seat_of entry.now) view.now)
@@ -85,7 +88,7 @@ fn shown_outcome(
         view,
         whole: whole_for(state, entry.seat()),
     };
-    present_outcome(alloc, &asking, book, entry)
+    present_outcome(alloc, &asking, book, entry, ahead)
 }
 
 /// The whole scene, for the game master.

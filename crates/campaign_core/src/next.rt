@@ -22,31 +22,32 @@ ghost use Rattle.campaign_core.specs.Taking.{count_in, is_taken};
 ghost use Rattle.campaign_core.specs.Sound.{AreSound};
 ghost use Rattle.campaign_law.specs.Law.{answer_of};
 ghost use Rattle.campaign_core.specs.Changed.{IsChanged, reach_of as reach_of_lem, scene_in, fields_in};
+ghost use Rattle.view_marks.specs.Placed.{placed_by as placed_by_lem};
 ghost use Rattle.view_marks.specs.Unseen.{is_unseen as is_unseen_lem};
 ghost use Rattle.campaign_core.specs.Glances.{AreGlances, ViewsFit};
 ghost use Rattle.campaign_core.specs.Looking.{looks_at};
 ghost use Rattle.campaign_core.specs.Walked.{IsWalked, looks_on_way};
 ghost use Rattle.campaign_core.specs.Steps.{with_book};
 ghost use Rattle.campaign_core.specs.Prepared.{IsPrepared};
-ghost use Rattle.campaign_core.specs.Shown.{AreShown, made_or, made_view, view_then};
+ghost use Rattle.campaign_core.specs.Shown.{AreShown, made_or, made_view, placed_if, placed_reaching, view_then};
 
 use crate::boxed::Boxed;
 use crate::deciding::decide;
 use crate::queues::{Glances, NextSeats, next_seats};
-use crate::reach::Reach;
+use crate::reach::{Reach, placed_in_reach};
 use crate::state::{NextPost, State};
 use campaign_law::{Answer, Entry};
 use cells::CellSet;
 use command_effects::{Way, scene_by, settle, way_of};
 use command_json::Command;
 use command_looks::{Touched, fields_after, serve, show_way, touched_by};
-use entry_outcomes::{Message, Outcome};
+use entry_outcomes::{Message, Outcome, ReadLine};
 use names::{Memory, SeatNo};
 use seats::SeatBook;
 use std::alloc::Global;
 use topology::Eye;
 use view_keep::Keep;
-use view_marks::is_unseen;
+use view_marks::{Placed, is_unseen, placed_by};
 use views::View;
 use vision::Fields;
 use world::Scene;
@@ -60,6 +61,8 @@ pub(crate) struct Changed {
     pub(crate) seen: Vec<CellSet>,
     /// Players see and are shown what they saw and were shown before; then nothing of it stands in `seen`.
     pub(crate) unseen: bool,
+    /// Where the token stands, where that is all that changed in the game master's view.
+    pub(crate) placed: Option<Placed>,
 }
 
 /// All that an entry makes, before any of it is put in its place.
@@ -72,13 +75,14 @@ pub(crate) struct Prepared {
     pub(crate) answer: Answer,
 }
 
-/// What the entry makes of the state.
+/// What the entry makes of the state. Its line isn't read again where it was read ahead.
 pub(crate) fn made_by<E: Eye>(
     alloc: Global,
     state: &State,
     keep: &Keep,
     eye: &mut E,
     entry: &Entry,
+    ahead: Option<ReadLine>,
 ) -> Result<Prepared, Memory>
     requires fits { FitsTogether (world_at state.now) }
     requires tables { HasTables state.now.scene }
@@ -89,7 +93,7 @@ pub(crate) fn made_by<E: Eye>(
     ensures prepared { IfOk result (IsPrepared (law state.now) keep.now entry.now) }
     ensures looks { E.looks_made eye.new ≤ E.looks_made eye.old + looks_at (world_at state.now) entry.now }
 {
-    let (steps, mut outcome) = decide(alloc, state, keep, entry)?;
+    let (steps, mut outcome) = decide(alloc, state, keep, entry, ahead)?;
     let changed = changed_scene(alloc, state, keep, eye, entry, &outcome, steps)?;
     let book = take_book(&mut outcome);
     let NextSeats { nexts, views } = seats_after(
@@ -218,6 +222,17 @@ fn is_unseen_by(scene: &Scene, command: &Command, way: &Option<Way>) -> bool
     way.is_none() && is_unseen(scene, command)
 }
 
+/// Where the token stands that the command, which made this scene and takes this way, put elsewhere.
+fn placed_without_way(scene: &Scene, command: &Command, way: &Option<Way>) -> Option<Placed>
+    ensures command { IfSome result (λ p. placed_by_lem scene.now command.now ≡ Some p) }
+    ensures way { IfSome result (λ p. way.now ≡ None) }
+{
+    if way.is_some() {
+        return None;
+    }
+    placed_by(scene, command)
+}
+
 /// The scene after the entry with its fields; none, where the entry leaves it as it is.
 pub(crate) fn changed_scene<E: Eye>(
     alloc: Global,
@@ -254,6 +269,7 @@ pub(crate) fn changed_scene<E: Eye>(
     // The table tells with its length that no id is there twice.
     let _count = scene.tokens().len();
     let unseen = is_unseen_by(before, command, &way);
+    let placed = placed_without_way(&scene, command, &way);
     let fields = next_fields(alloc, &scene, command, keep.fields(), eye)?;
     walk(alloc, &mut scene, &way, &fields, keep.fields(), eye)?;
     let after = settled(alloc, scene, unseen, &fields, keep.fields())?;
@@ -262,6 +278,7 @@ pub(crate) fn changed_scene<E: Eye>(
         fields,
         seen: after.1,
         unseen,
+        placed,
     };
     Boxed::some(alloc, changed)
 }
@@ -349,9 +366,9 @@ fn reach_of(changed: &Changed) -> Reach
     ensures { result ≡ reach_of_lem (Some changed.now) }
 {
     if changed.unseen {
-        Reach::Master
+        Reach::Master(changed.placed)
     } else {
-        Reach::Anybody
+        Reach::Anybody(changed.placed)
     }
 }
 
@@ -396,13 +413,40 @@ fn put_made(keep: &mut Keep, seat: SeatNo, made: Option<Boxed<View>>)
     }
 }
 
+/// Places the token in the game master's view, where that is all that changed in it.
+#[tactic(auto, using(crate::proofs::Shows::placed_there))]
+fn place_token(keep: &mut Keep, placed: Option<Placed>)
+    requires { 1 ≤ length keep.old.views }
+    ensures fields { keep.new.fields ≡ keep.old.fields }
+    ensures count { length keep.new.views ≡ length keep.old.views }
+    ensures views { (seat : ℕ) → view_at seat keep.new.views ≡ placed_if placed seat (view_at seat keep.old.views) }
+{
+    let Some(placed) = placed else {
+        return;
+    };
+    let Some(master) = SeatNo::new(0) else {
+        unreachable!();
+    };
+    keep.place(master, &placed);
+}
+
+/// Where the token stands, where that is all that changed in the game master's view.
+fn placed_in_change(changed: &Option<Boxed<Changed>>) -> Option<Placed>
+    ensures { result ≡ placed_reaching (reach_of_lem changed.now) }
+{
+    match changed {
+        Some(changed) => placed_in_reach(reach_of(changed.get())),
+        None => None,
+    }
+}
+
 /// Puts in the views that were made.
 fn put_views(keep: &mut Keep, views: Vec<Option<Boxed<View>>>)
     requires count { length views.items ≤ length keep.old.views }
     requires seats { length keep.old.views ≤ 33 }
     ensures fields { keep.new.fields ≡ keep.old.fields }
     ensures count { length keep.new.views ≡ length keep.old.views }
-    ensures views { (seat : ℕ) → view_at seat keep.new.views ≡ view_then views.items keep.old.views seat }
+    ensures views { (seat : ℕ) → view_at seat keep.new.views ≡ view_then None views.items keep.old.views seat }
 {
     let mut number: u8 = 0;
     for made in views {
@@ -412,6 +456,20 @@ fn put_views(keep: &mut Keep, views: Vec<Option<Boxed<View>>>)
         put_made(keep, seat, made);
         number += 1;
     }
+}
+
+/// Places the token and puts in the views that were made.
+#[tactic(auto, using(crate::proofs::Shows::views_after))]
+fn put_all_views(keep: &mut Keep, placed: Option<Placed>, views: Vec<Option<Boxed<View>>>)
+    requires count { length views.items ≤ length keep.old.views }
+    requires one { 1 ≤ length keep.old.views }
+    requires seats { length keep.old.views ≤ 33 }
+    ensures fields { keep.new.fields ≡ keep.old.fields }
+    ensures count { length keep.new.views ≡ length keep.old.views }
+    ensures views { (seat : ℕ) → view_at seat keep.new.views ≡ view_then placed views.items keep.old.views seat }
+{
+    place_token(keep, placed);
+    put_views(keep, views);
 }
 
 /// Puts what an entry made in its place. It takes no memory.
@@ -426,14 +484,16 @@ fn go_on(
     requires room { HaveRoom nexts.items state.old.posts }
     requires players { (scene_in state.old.scene changed).fog.players ≡ state.old.scene.fog.players }
     requires views { length views.items ≤ length keep.old.views }
+    requires one { 1 ≤ length keep.old.views }
     requires seats { length keep.old.views ≤ 33 }
     ensures state { law state.new ≡ record { posts = put_all nexts.items (law state.old).posts; scene = scene_in state.old.scene changed } }
     ensures seats { length state.new.posts ≡ length state.old.posts }
     ensures fields { keep.new.fields ≡ fields_in keep.old.fields changed }
     ensures count { length keep.new.views ≡ length keep.old.views }
-    ensures views { (seat : ℕ) → view_at seat keep.new.views ≡ view_then views.items keep.old.views seat }
+    ensures views { (seat : ℕ) → view_at seat keep.new.views
+        ≡ view_then (placed_reaching (reach_of_lem changed)) views.items keep.old.views seat }
 {
-    put_views(keep, views);
+    put_all_views(keep, placed_in_change(&changed), views);
     match changed {
         Some(changed) => {
             let changed = changed.into_inner();
@@ -474,6 +534,8 @@ pub(crate) fn act(
     ensures answer { result ≡ answer_of (steps_of (world_in (law state.old)) entry.now) (outcome_of (world_in (law state.old)) entry.now) }
 {
     let _entry = entry;
+    // The state tells with its count of seats that there is one.
+    let _seats = state.seats();
     let Prepared {
         nexts,
         views,

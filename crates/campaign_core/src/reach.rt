@@ -1,18 +1,20 @@
 //! Whose views an entry may change, as far as its scene tells.
 ghost use Rattle.std.specs.Prelude.{◌≡◌};
-ghost use Rattle.campaign_core.specs.Shown.{reaches as reaches_lem};
+ghost use Rattle.campaign_core.specs.Shown.{placed_reaching, reaches as reaches_lem};
 
 use names::SeatNo;
+use view_marks::Placed;
 
 /// Whose views may change.
 #[derive(Clone, Copy)]
 pub(crate) enum Reach {
     /// Nobody's: the scene is the same.
     Nobody,
-    /// The game master's alone: players are shown nothing of what changed.
-    Master,
-    /// Anybody's.
-    Anybody,
+    /// The game master's alone: players are shown nothing of what changed. In the game master's that is, where there is one,
+    /// where the token stands.
+    Master(Option<Placed>),
+    /// Anybody's. In the game master's that is, where there is one, where the token stands.
+    Anybody(Option<Placed>),
 }
 
 /// Whether what changed reaches the seat.
@@ -21,7 +23,17 @@ pub(crate) fn reaches(reach: Reach, seat: SeatNo) -> bool
 {
     match reach {
         Reach::Nobody => false,
-        Reach::Master => seat.number() == 0,
-        Reach::Anybody => true,
+        Reach::Master(_) => seat.number() == 0,
+        Reach::Anybody(_) => true,
+    }
+}
+
+/// Where the token stands that is all that changed in the game master's view; none, where that isn't known.
+pub(crate) fn placed_in_reach(reach: Reach) -> Option<Placed>
+    ensures { result ≡ placed_reaching reach }
+{
+    match reach {
+        Reach::Nobody => None,
+        Reach::Master(placed) | Reach::Anybody(placed) => placed,
     }
 }

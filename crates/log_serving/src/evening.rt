@@ -1,5 +1,5 @@
 //! A hall with a log beside it.
-ghost use Rattle.std.specs.Prelude.{◌≡◌, ◌≤◌, length, take, IfOk, IfErr};
+ghost use Rattle.std.specs.Prelude.{◌≡◌, ◌≤◌, length, take, IfOk, IfErr, IfSome};
 ghost use Rattle.std.specs.Arc.{arc_value};
 ghost use Rattle.turn_lock.specs.Pass.{IsPassOf, IsUsherOf, first_pass};
 ghost use Rattle.crash_log.specs.Log.{HoldsLog};
@@ -46,13 +46,28 @@ pub(crate) fn open_evening<R: Wait, K: Disk + Drop>(
     ensures campaign { IfOk result (λ e. ((arc_value e.hall).origin ≡ campaign.origin) × (e.pass.front ≡ campaign.history)) }
     ensures back { K.tells → IfErr result (HasStayed K.left_since text recovered campaign.history (K.moment disk)) }
 {
-    let Ok((hall, usher, pass)) = Hall::open(alloc, campaign) else {
-        return Err(disk);
-    };
-    let Ok(hall) = Arc::new(alloc, hall) else {
+    let Some((hall, usher, pass)) = shared_hall(alloc, campaign) else {
         return Err(disk);
     };
     with_keeper(rt, alloc, hall, usher, pass, recovered, text, disk, journal)
+}
+
+// A hall for the campaign, with its usher and its first pass. `None` is want of memory.
+fn shared_hall(
+    alloc: Global,
+    campaign: Table,
+) -> Option<(Arc<Hall<Table>>, Usher<Table>, Pass<Table>)>
+    ensures origin { IfSome result (λ opened. (arc_value opened.0).origin ≡ campaign.origin) }
+    ensures usher { IfSome result (λ opened. IsUsherOf (arc_value opened.0) opened.1 × (opened.1.count ≡ 1)) }
+    ensures pass { IfSome result (λ opened. opened.2 ≡ first_pass (arc_value opened.0) campaign.history) }
+{
+    let Ok((hall, usher, pass)) = Hall::open(alloc, campaign) else {
+        return None;
+    };
+    match Arc::new(alloc, hall) {
+        Ok(hall) => Some((hall, usher, pass)),
+        Err(_) => None,
+    }
 }
 
 // Opens the keeper's hall beside this one.

@@ -29,7 +29,7 @@ fn still_outcome(alloc: Global, machine: &Machine, entry: &Entry) -> Result<Outc
                 view: &machine.last,
                 whole: None,
             };
-            present_outcome(alloc, &asking, &seat.book, entry)
+            present_outcome(alloc, &asking, &seat.book, entry, None)
         }
         None => absent_outcome(alloc, entry),
     }

@@ -1,9 +1,9 @@
 //! Serves the campaign of a text.
-ghost use Rattle.std.specs.Prelude.{◌≡◌, ◌≤◌, ◌<◌, ◌⊎◌, []};
+ghost use Rattle.std.specs.Prelude.{◌≡◌, ◌≤◌, ◌<◌, ◌⊎◌, [], IfSome};
 ghost use Rattle.line_io.specs.Counts.{CountRose};
 ghost use Rattle.campaign_law.specs.Law.{IsOpening};
 ghost use Rattle.campaign_core.specs.Opening.{world_of_text, IsOpenFault};
-ghost use Rattle.turn_lock.specs.Pass.{IsPassOf, IsUsherOf};
+ghost use Rattle.turn_lock.specs.Pass.{IsPassOf, IsUsherOf, first_pass};
 ghost use Rattle.std.specs.Arc.{arc_value};
 ghost use Rattle.serving.specs.Outside.{as_told};
 ghost use Rattle.serving.specs.Endings.{EndsWith};
@@ -22,7 +22,7 @@ use sight_sweep::SweepEye;
 use std::alloc::Global;
 use std::sync::{Arc, Wait};
 use std::thread::Threads;
-use turn_lock::{Hall, Pass};
+use turn_lock::{Hall, Pass, Usher};
 
 /// How serving the campaign of a text ended.
 #[derive(Drop)]
@@ -80,6 +80,25 @@ where
     host_campaign(rt, alloc, campaign, port, count, end, out, door, spawner)
 }
 
+// A hall for the campaign, with its usher and its first pass. `None` is want of memory.
+fn open_hall(
+    alloc: Global,
+    campaign: Table,
+) -> Option<(Arc<Hall<Table>>, Usher<Table>, Pass<Table>)>
+    requires { campaign.history ≡ [] }
+    ensures origin { IfSome result (λ opened. (arc_value opened.0).origin ≡ campaign.origin) }
+    ensures usher { IfSome result (λ opened. IsUsherOf (arc_value opened.0) opened.1 × (opened.1.count ≡ 1)) }
+    ensures pass { IfSome result (λ opened. opened.2 ≡ first_pass (arc_value opened.0) []) }
+{
+    let Ok((hall, usher, pass)) = Hall::open(alloc, campaign) else {
+        return None;
+    };
+    match Arc::new(alloc, hall) {
+        Ok(hall) => Some((hall, usher, pass)),
+        Err(_) => None,
+    }
+}
+
 // Opens a hall for a campaign that has just been opened, and the door at the port, and serves the hall.
 fn host_campaign<
     R: Threads + Wait + Sync + Clone + Drop,
@@ -116,10 +135,7 @@ where
     ensures out_count { O.faults_of out.old ≤ O.faults_of out.new }
     ensures door_count { L.faults_of door.old ≤ L.faults_of door.new }
 {
-    let Ok((hall, mut usher, pass)) = Hall::open(alloc, campaign) else {
-        return Hosted::Memory;
-    };
-    let Ok(hall) = Arc::new(alloc, hall) else {
+    let Some((hall, mut usher, pass)) = open_hall(alloc, campaign) else {
         return Hosted::Memory;
     };
     if door.open(port).is_err() {

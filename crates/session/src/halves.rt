@@ -21,6 +21,7 @@ use crate::pen::{Ends, Pen};
 use crate::start::Start;
 use crate::writing::{Wrote, write_half};
 use line_io::{LineReader, Outlet, Source};
+use std::alloc::Global;
 use std::marker::Brand;
 use std::sync::{Mutex, Wait};
 use std::thread::{Threads, join_mut};
@@ -38,6 +39,7 @@ struct Sides<'a, I, O> {
 /// The two halves of an accepted session, each by its own pass and in a thread of its own.
 pub(crate) fn run_halves<R: Threads + Wait + Sync, I: Source + Send, O: Outlet + Send>(
     rt: &R,
+    alloc: Global,
     hall: &Hall<Table>,
     reading: &mut Pass<Table>,
     writing: &mut Pass<Table>,
@@ -71,7 +73,7 @@ pub(crate) fn run_halves<R: Threads + Wait + Sync, I: Source + Send, O: Outlet +
         read: (ReadEnd::Bye, false),
         wrote: Wrote::All,
     };
-    let sides = run_begun::<Brand, R, I, O>(rt, hall, reading, hold, lines, sides);
+    let sides = run_begun::<Brand, R, I, O>(rt, alloc, hall, reading, hold, lines, sides);
     let Sides {
         writing: _,
         output: _,
@@ -91,6 +93,7 @@ fn run_begun<
     O: Outlet + Send,
 >(
     rt: &R,
+    alloc: Global,
     hall: &Hall<Table>,
     reading: &mut Pass<Table>,
     hold: &Hold,
@@ -132,7 +135,7 @@ fn run_begun<
     };
     let pace = Pace::new(hold.place.saturating_add(1));
     let pen: Mutex<Pen<'a, S, O>> = Mutex::new(Pen::new(rt, hall, hold, ends));
-    let (input, read) = side_by_side(rt, hall, reading, hold, &pace, &pen, lines, input);
+    let (input, read) = side_by_side(rt, alloc, hall, reading, hold, &pace, &pen, lines, input);
     let mut pen = pen.into_inner();
     let wrote = pen.write_to_end(rt, hall, hold, &pace);
     let Ends {
@@ -157,6 +160,7 @@ fn side_by_side<
     O: Outlet + Send,
 >(
     rt: &R,
+    alloc: Global,
     hall: &Hall<Table>,
     reading: &mut Pass<Table>,
     hold: &Hold,
@@ -187,7 +191,7 @@ fn side_by_side<
     let (_, read) = join_mut(
         rt,
         &mut || write_half(rt, hall, hold, pace, pen),
-        &mut || read_half(rt, hall, reading, hold, pace, lines, &mut attended),
+        &mut || read_half(rt, alloc, hall, reading, hold, pace, lines, &mut attended),
     );
     let Attended {
         rt: _,

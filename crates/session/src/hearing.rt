@@ -16,8 +16,10 @@ use crate::input::{Stop, next_line, read_on};
 use crate::leaving::Leaving;
 use crate::pace::Pace;
 use crate::speaking::{Said, Speaking};
+use entry_outcomes::ReadLine;
 use line_io::{LineReader, Source};
 use names::LineText;
+use std::alloc::Global;
 use std::sync::Wait;
 use turn_lock::{Hall, Pass};
 
@@ -48,6 +50,7 @@ impl ReadEnd {
 /// another cause, it reads on to the end and enters nothing more; the second part of the answer tells that.
 pub(crate) fn read_half<R: Wait, I: Source>(
     rt: &R,
+    alloc: Global,
     hall: &Hall<Table>,
     pass: &mut Pass<Table>,
     hold: &Hold,
@@ -75,7 +78,7 @@ pub(crate) fn read_half<R: Wait, I: Source>(
             }
         };
         pace.wait(rt);
-        match speak(rt, hall, pass, hold, pace, line) {
+        match speak(rt, alloc, hall, pass, hold, pace, line) {
             Said::Goes => {}
             Said::Bye => return (ReadEnd::Bye, false),
             Said::Spent => return (ReadEnd::Spent, false),
@@ -100,9 +103,10 @@ fn stopped(stop: Stop, cut: bool) -> ReadEnd
     ReadEnd::Stopped(stop)
 }
 
-// One turn: the line is entered, where the passes hold the seat as Joined.
+// One turn: the line, which is read before it, is entered, where the passes hold the seat as Joined.
 fn speak<R: Wait>(
     rt: &R,
+    alloc: Global,
     hall: &Hall<Table>,
     pass: &mut Pass<Table>,
     hold: &Hold,
@@ -113,9 +117,11 @@ fn speak<R: Wait>(
     ensures hall { IsPassOf hall.now pass.new }
     ensures turn { SpeaksIn hall.now.origin hold.now line result pass.old pass.new }
 {
+    let ahead = ReadLine::of(alloc, line.bytes(), hold.seat.number() == 0);
     let mut turn = Speaking {
         hold: hold.copy(),
         line: Some(line),
+        ahead,
         said: Said::Gone,
         length: 0,
         queued: 0,

@@ -100,7 +100,7 @@ fn serve<R: Threads + Wait + Sync, I: Source + Send, O: Outlet + Send>(
     };
     match read_first(alloc, &mut lines, input) {
         FirstLine::Hello { seat, key } => sit(
-            rt, hall, reader, writer, seat, key, &mut lines, input, output,
+            rt, alloc, hall, reader, writer, seat, key, &mut lines, input, output,
         ),
         FirstLine::Other => no_hello(rt, alloc, output),
         FirstLine::Missing(stop) => stopped(stop),

@@ -21,6 +21,7 @@ use crate::writing::{Wrote, write_alone};
 use line_io::{LineReader, Outlet, Source};
 use names::{LineText, SeatNo};
 use seats::JoinRefusal;
+use std::alloc::Global;
 use std::sync::Wait;
 use std::thread::Threads;
 use turn_lock::{Hall, Pass};
@@ -50,6 +51,7 @@ pub enum Ended {
 /// Joins by the hello, and then runs both halves.
 pub(crate) fn sit<R: Threads + Wait + Sync, I: Source + Send, O: Outlet + Send>(
     rt: &R,
+    alloc: Global,
     hall: &Hall<Table>,
     reader: &mut Pass<Table>,
     writer: &mut Pass<Table>,
@@ -109,7 +111,9 @@ pub(crate) fn sit<R: Threads + Wait + Sync, I: Source + Send, O: Outlet + Send>(
         reader: reader.number(),
         writer: number,
     };
-    let ((read, _), wrote) = run_halves(rt, hall, reader, writer, &hold, lines, input, output);
+    let ((read, _), wrote) = run_halves(
+        rt, alloc, hall, reader, writer, &hold, lines, input, output,
+    );
     ended_by(read, wrote)
 }
 

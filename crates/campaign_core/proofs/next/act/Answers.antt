@@ -24,6 +24,13 @@ go_on-requires-clause-views c =
     let count = c.requires.count in
     omega (arith, posts, views, count)
 
+pub go_on-requires-clause-one : goal.go_on-requires-clause-one
+go_on-requires-clause-one c =
+    let count = c.requires.count in
+    let seats = c.seats-seats.ensures.value in
+    let players = c.seats-seats.ensures.players in
+    omega (arith, count, seats, players)
+
 pub returns-clause-fields : goal.returns-clause-fields
 returns-clause-fields c =
     let p = c.requires.prepared in

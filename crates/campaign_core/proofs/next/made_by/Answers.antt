@@ -9,7 +9,7 @@ use Rattle.campaign_law.proofs.Lists.{length-mapped_from, mapped_from-map}
 use Rattle.campaign_core.specs.Changed.{IsChanged, reach_of}
 use Rattle.campaign_core.specs.Places.{Place, posted, world_at}
 use Rattle.campaign_core.specs.Steps.{with_book}
-use Rattle.campaign_core.specs.Shown.{view_then}
+use Rattle.campaign_core.specs.Shown.{placed_reaching, view_then}
 use Rattle.campaign_core.proofs.Laws.{world_law}
 use Rattle.campaign_core.proofs.Shows.{stays_in_view, views_stand}
 use Rattle.campaign_core.proofs.next.made_by.Goals as goal
@@ -31,7 +31,7 @@ returns-clause-prepared g c =
       changed = subst (λ (x : World). IsChanged x e c.args.keep.now.fields c.in_ok-changed.changed) same c.in_ok-changed.ensures.changed;
       nexts = omega (arith, posts, nexts);
       count = omega (arith, posts, views);
-      views = subst (λ (x : World). (seat : ℕ) → was_joined (seat_at (step x e) seat) ≡ true → view_then p.views.items c.args.keep.now.views seat ≡ Some (view_of (scene_after x e) seat)) same seen;
+      views = subst (λ (x : World). (seat : ℕ) → was_joined (seat_at (step x e) seat) ≡ true → view_then (placed_reaching (reach_of c.in_ok-changed.changed)) p.views.items c.args.keep.now.views seat ≡ Some (view_of (scene_after x e) seat)) same seen;
       said = c.told-answer.ensures.said ∙ ap (λ (o : Outcome). o.messages) c.take_book-book.ensures.outcome ∙ ap (λ (o : Outcome). o.messages) c.in_ok-steps.ensures.outcome
           ∙ ap (λ (x : World). (outcome_of x e).messages) same;
       answer = c.told-answer.ensures.answer ∙ ap (answer_of _) c.take_book-book.ensures.outcome ∙ (λ i. answer_of (c.in_ok-steps.ensures.steps i) (c.in_ok-steps.ensures.outcome i))

@@ -65,4 +65,4 @@ next_seats-requires-clause-still c =
     (subst (λ (s : Scene). AreStill (reach_of c.args.changed.now) (outcome_of w c.args.entry.now) s c.glances-glances.result.after.now) (sym c.glances-glances.ensures.before)
     (subst (AreStill (reach_of c.args.changed.now) (outcome_of w c.args.entry.now) c.args.state.now.scene) (sym after)
     (stays_in_view w c.args.entry.now c.args.keep.now.fields c.args.changed.now c.requires.fits c.requires.tables c.requires.settled c.requires.changed)))) in
-    record { each = still.each; letters = still.letters }
+    record { each = still.each; letters = still.letters; placed = still.placed }
