@@ -20,6 +20,9 @@ const LOOK: u64 = 10;
 /// So many milliseconds the writing half naps.
 const NAP: u64 = 4;
 
+/// So many milliseconds the writing half takes a break behind what it wrote.
+const BREAK: u64 = 1;
+
 /// What the halves of a session tell each other: how long the history was behind the last entry of the reading half, the Join at
 /// first, and in the last turn of the writing half. No clause speaks of it: who waits here enters nothing meanwhile.
 #[derive(Drop)]
@@ -97,6 +100,12 @@ impl Pace {
             napped = true;
         }
         unreachable!()
+    }
+
+    /// A break of the writing half behind what it wrote, unless it is to look. However much is said, who only listens is woken no more
+    /// often than that, and is sent together what came meanwhile.
+    pub(crate) fn take_break<R: Wait>(&self, rt: &R) {
+        self.looks.park_timeout(rt, 0, Duration::from_millis(BREAK));
     }
 
     /// The writing half, which isn't napping, is to look once more before it naps.

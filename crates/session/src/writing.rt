@@ -55,8 +55,9 @@ pub(crate) fn write_half<S: Start, R: Wait, O: Outlet>(
     unreachable!()
 }
 
-// Naps, or waits for an act.
+// Takes a break, and then naps or waits for an act.
 fn rest<R: Wait>(rt: &R, hall: &Hall<Table>, pace: &Pace, seen: u64) {
+    pace.take_break(rt);
     if !pace.nap(rt) {
         hall.wait_act(rt, seen);
     }
