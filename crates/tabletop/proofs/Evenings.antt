@@ -1,5 +1,5 @@
 -- How an evening with a log ends, from what its parts did.
-use Rattle.std.proofs.Common.{◌≡◌, ◌≤◌, ◌+◌, ◌⊎◌, inl, inr, ℕ, List, [], ◌++◌, length, take, refl, sym, ◌∙◌, ap, subst, arith, length-append}
+use Rattle.std.proofs.Common.{◌≡◌, ◌≤◌, ◌⊎◌, inl, inr, ℕ, List, [], ◌++◌, length, take, sym, ◌∙◌, ap, subst, arith, length-append}
 use Rattle.std.specs.Prelude.{Option, Some, None}
 use Rattle.std.specs.Io.KnownBytes.{append_known}
 use Rattle.std.proofs.lemmas.List.{take-append-le}
@@ -18,31 +18,13 @@ use Rattle.tabletop.specs.declared.log_end.LogEnded.{LogEnded}
 use Rattle.tabletop.specs.declared.log_end.LogEnded.TheVariants.{Plain, Usage, DiskFault, BadLog, OtherCampaign, Full}
 use Rattle.campaign_core.specs.declared.campaign.OpenFault.{OpenFault}
 use Rattle.campaign_core.specs.declared.campaign.OpenFault.TheVariants as faults
-use Rattle.tabletop.specs.LogEndings.{log_status, log_line, IsToldInLog, unopened}
+use Rattle.tabletop.specs.LogEndings.{log_status, IsToldInLog, unopened}
 use Rattle.tabletop.specs.Logged.{HasNoLog, leaves}
 use Rattle.campaign_law.specs.declared.entry.Entry.{Entry}
 use Rattle.campaign_law.specs.World.{World, replay}
 use Rattle.log_serving.specs.Evening.{ServesEvening, ServesNobody}
 use Rattle.tabletop.specs.ServesLogged.{HasEndedServingLogged, HasEvening, JobServesLogged, evening_line, served_as}
 use Rattle.tabletop.proofs.EndsLemmas.{count_after}
-
--- ---- what it ends as
-
-pub never_reads : (answer : LogServed) → served_as answer ≡ Plain plain.ReadFault → ⊥
-never_reads served.Done e = cc
-never_reads served.WriteFault e = cc
-never_reads served.DoorFault e = cc
-never_reads served.Memory e = cc
-never_reads served.DiskFault e = cc
-never_reads served.Full e = cc
-
-pub wrote_as : (answer : LogServed) → served_as answer ≡ Plain plain.WriteFault → answer ≡ served.WriteFault
-wrote_as served.Done e = cc
-wrote_as served.WriteFault e = refl
-wrote_as served.DoorFault e = cc
-wrote_as served.Memory e = cc
-wrote_as served.DiskFault e = cc
-wrote_as served.Full e = cc
 
 -- ---- the log's entries and what stands behind them
 
@@ -53,30 +35,7 @@ first_part xs ys = take-append-le (length xs) xs ys (omega arith) ∙ take_all (
 pub first_within : {A : Type 0} (xs ys : List A) → length xs ≤ length (xs ++ ys)
 first_within xs ys = let size = length-append xs ys in omega (arith, size)
 
--- ---- the last line
-
-pub other_line : (ended : LogEnded) → (ended ≡ Usage → ⊥) → evening_line ended ≡ log_line ended
-other_line (Plain e) other = refl
-other_line Usage other = absurd (other refl)
-other_line DiskFault other = refl
-other_line (BadLog at) other = refl
-other_line OtherCampaign other = refl
-other_line Full other = refl
-
--- nothing else is told as that the words aren't the form
-pub told_no_usage : (ended told : LogEnded) → (ended ≡ Usage → ⊥) → IsToldInLog ended told → told ≡ Usage → ⊥
-told_no_usage ended told other (inl same) is = other (sym same ∙ is)
-told_no_usage ended told other (inr less) is = let z : Plain plain.Memory ≡ Usage = sym less.1 ∙ is in cc
-
 -- ---- the status of words that aren't the form
-
-pub served_not_two : (answer : LogServed) → log_status (served_as answer) ≡ 2 → ⊥
-served_not_two served.Done e = absurd (omega (arith, e))
-served_not_two served.WriteFault e = absurd (omega (arith, e))
-served_not_two served.DoorFault e = absurd (omega (arith, e))
-served_not_two served.Memory e = absurd (omega (arith, e))
-served_not_two served.DiskFault e = absurd (omega (arith, e))
-served_not_two served.Full e = absurd (omega (arith, e))
 
 pub no_log_not_two : (Tells : Type 0) (ended : LogEnded) (text file : List ℕ) → HasNoLog Tells ended text file → log_status ended ≡ 2 → ⊥
 no_log_not_two Tells (Plain e) text file h two = let z = sym (ap (λ x. log_status (Plain x)) h) ∙ two in absurd (omega (arith, z))

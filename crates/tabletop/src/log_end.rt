@@ -18,7 +18,7 @@ use std::alloc::Global;
 pub enum LogEnded {
     /// As a run without a log may.
     Plain(Ended),
-    /// The words aren't `play FILE --log LOG [--end]`.
+    /// The words aren't those of the call: `play FILE --log LOG [--end]`, or `serve FILE PORT COUNT --log LOG [--end]`.
     Usage,
     /// The disk failed, and counted it.
     DiskFault,

@@ -8,6 +8,7 @@ mod drills;
 mod faults;
 mod logs;
 mod serve_faults;
+mod served_logs;
 mod serves;
 mod stops;
 

@@ -44,7 +44,7 @@ fn entries_in(rt: &impl Abort, alloc: Global, log: LineText) -> usize {
 }
 
 // The log that a run with an empty script leaves.
-fn new_log(rt: &impl Abort, alloc: Global) -> LineText {
+pub(super) fn new_log(rt: &impl Abort, alloc: Global) -> LineText {
     let came = run_on(rt, alloc, text_of(rt, alloc, ""), None, "");
     assert!(rt; came.status == 0 && came.lines == 0);
     came.safe
