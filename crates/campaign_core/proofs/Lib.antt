@@ -3,7 +3,7 @@ pub mod Judging
 pub mod ViewsDecide
 pub mod Reports
 pub mod Walking
-pub mod UnseenScenes
+pub mod OnlookedScenes
 pub mod PlacedChanges
 pub mod PlacedScenes
 pub mod Nexts

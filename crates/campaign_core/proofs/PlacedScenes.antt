@@ -18,7 +18,7 @@ use Rattle.view_marks.specs.Placed.{placed_by, placed_in}
 use Rattle.view_marks.proofs.Placings.{one_token}
 use Rattle.campaign_core.specs.Shown.{IsPlacing}
 use Rattle.campaign_core.proofs.PlacedChanges.{changes_one}
-use Rattle.campaign_core.proofs.UnseenScenes.{no_way}
+use Rattle.campaign_core.proofs.OnlookedScenes.{no_way}
 
 module _ (steps : ℕ) (intents : List Intent) (seat : ℕ) (s after walked : Scene) (c : Command) (told : Option Told)
     (tables : HasTables s) (may : IsAllowed s seat c)

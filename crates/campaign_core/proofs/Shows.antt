@@ -9,7 +9,7 @@ use Rattle.cells.specs.Cells.{Cells}
 use Rattle.views.specs.declared.view.View.{View}
 use Rattle.view_keep.specs.declared.keep.KeptView.{KeptView}
 use Rattle.view_keep.specs.Kept.{view_at}
-use Rattle.command_effects.specs.Settle.{IsSettled}
+use Rattle.command_effects.specs.Settle.{is_among, IsSettled}
 use Rattle.view_marks.specs.declared.placed.Placed.{Placed}
 use Rattle.view_marks.specs.Placed.{placed_in}
 use Rattle.view_marks.specs.Marks.{leaves_letters, marks}
@@ -35,8 +35,8 @@ use Rattle.campaign_law.proofs.Seats.{joined_before}
 use Rattle.campaign_law.specs.Worlds.{FitsTogether}
 use Rattle.campaign_core.specs.declared.next.Changed.{Changed}
 use Rattle.campaign_core.specs.Changed.{IsChanged, reach_of}
+use Rattle.campaign_core.specs.declared.reach.Reach.TheVariants.{Onlookers}
 use Rattle.campaign_core.specs.declared.reach.Reach.{Reach}
-use Rattle.campaign_core.specs.declared.reach.Reach.TheVariants.{Master, Anybody}
 use Rattle.campaign_core.specs.Places.{Place, Standing, world_at}
 use Rattle.campaign_core.proofs.Cutting.{cut_step}
 use Rattle.campaign_core.proofs.Leaving.{leave_stays}
@@ -134,41 +134,36 @@ fit_at w e seat s at acts =
     let here : seat_at w (seat_of e) ≡ Some s = ap (seat_at w) (same_seat (seat_of e) seat acts) ∙ at in
     subst (λ o. IsFit s (outcome_at (asked_of w (seat_of e)) (report_of w e) o e)) (sym here) (outcome_fits (asked_of w (seat_of e)) (report_of w e) s e)
 
--- a change that doesn't reach the seat is unseen, and the seat is a player's; or else the seat isn't marked
-unreached : (unseen : Bool) (placed : Option Placed) (seat : ℕ) (marked : Bool) → (not (reaches (cond unseen (Master placed) (Anybody placed)) seat) || not marked) ≡ true
-    → ((unseen ≡ true) × (is_gm seat ≡ false)) ⊎ (marked ≡ false)
-unreached unseen placed seat false is = inr refl
-unreached true placed seat true is = by (is_gm seat) refl is
-  where
-    by : (gm : Bool) → is_gm seat ≡ gm → (not gm || false) ≡ true → ((true ≡ true) × (is_gm seat ≡ false)) ⊎ (true ≡ false)
-    by true e kept = let never : false ≡ true = kept in cc
-    by false e kept = inl (refl, e)
-unreached false placed seat true is = let no : false ≡ true = is in cc
+-- a change doesn't reach a player who doesn't look on; or else the seat isn't marked
+neither : (a b : Bool) → (not (a || b) || false) ≡ true → (a ≡ false) × (b ≡ false)
+neither false false is = (refl, refl)
+neither false true is = let no : false ≡ true = is in cc
+neither true b is = let no : false ≡ true = is in cc
+
+unreached : (players : ℕ) (placed : Option Placed) (seat : ℕ) (marked : Bool) → (not (reaches (Onlookers players placed) seat) || not marked) ≡ true
+    → ((is_gm seat ≡ false) × (is_among players seat ≡ false)) ⊎ (marked ≡ false)
+unreached players placed seat false is = inr refl
+unreached players placed seat true is = inl (neither (is_gm seat) (is_among players seat) is)
 
 still_by : (w : World) (e : Entry) (fields : List (TokenId × Cells)) (changed : Option Changed) (seat : ℕ) → IsSettled w.scene → IsChanged w e fields changed
     → is_kept (reach_of changed) (outcome_of w e) seat ≡ true → view_of (scene_after w e) seat ≡ view_of w.scene seat
 unfolding scene_after
 still_by w e fields None seat settled h is = ap (λ (s : Scene). view_of s seat) h
-still_by w e fields (Some changed) seat settled h is = by (unreached changed.unseen changed.placed seat (marks (outcome_of w e).done seat) is)
+still_by w e fields (Some changed) seat settled h is = by (unreached changed.onlookers changed.placed seat (marks (outcome_of w e).done seat) is)
   where
-    by : ((changed.unseen ≡ true) × (is_gm seat ≡ false)) ⊎ (marks (outcome_of w e).done seat ≡ false) → view_of (scene_after w e) seat ≡ view_of w.scene seat
-    by (inl player) = ap (λ (s : Scene). view_of s seat) (sym h.0) ∙ h.3 player.0 seat player.1
+    by : ((is_gm seat ≡ false) × (is_among changed.onlookers seat ≡ false)) ⊎ (marks (outcome_of w e).done seat ≡ false) → view_of (scene_after w e) seat ≡ view_of w.scene seat
+    by (inl apart) = ap (λ (s : Scene). view_of s seat) (sym h.0) ∙ h.3 seat apart.0 apart.1
     by (inr off) = unmarked (steps_of w e) (outcome_of w e).intents (seat_of e) w.scene (outcome_of w e).done seat settled off
 
 same_letters : (w : World) (e : Entry) → leaves_letters (outcome_of w e).done ≡ true → SameLetters w.scene.maps (scene_after w e).maps
 unfolding scene_after
 same_letters w e leaves = letters_are_left (steps_of w e) (outcome_of w e).intents (seat_of e) w.scene (outcome_of w e).done leaves
 
-reached_by : (unseen : Bool) (placed : Option Placed) → placed_reaching (cond unseen (Master placed) (Anybody placed)) ≡ placed
-reached_by true placed = refl
-reached_by false placed = refl
-
 placed_still : (w : World) (e : Entry) (fields : List (TokenId × Cells)) (changed : Option Changed) → IsChanged w e fields changed
     → IfSome (placed_reaching (reach_of changed)) (λ p. IsPlacing p (view_of w.scene 0) (view_of (scene_after w e) 0))
 placed_still w e fields None h = tt
 placed_still w e fields (Some changed) h =
-    subst (λ o. IfSome o (λ p. IsPlacing p (view_of w.scene 0) (view_of (scene_after w e) 0))) (sym (reached_by changed.unseen changed.placed))
-    (subst (λ (s : Scene). IfSome changed.placed (λ p. IsPlacing p (view_of w.scene 0) (view_of s 0))) h.0 h.4)
+    subst (λ (s : Scene). IfSome changed.placed (λ p. IsPlacing p (view_of w.scene 0) (view_of s 0))) h.0 h.4
 
 -- a scene that stays, or a command that doesn't mark the seat; letters that stay; and a token that is placed
 pub stays_in_view : (w : World) (e : Entry) (fields : List (TokenId × Cells)) (changed : Option Changed) → FitsTogether w → HasTables w.scene → IsSettled w.scene → IsChanged w e fields changed

@@ -1,6 +1,7 @@
 -- The views that are kept, and those that an entry makes.
 use Rattle.std.specs.Prelude.{◌≡◌, ℕ, ◌==◌, ◌&&◌, ◌||◌, Bool, true, false, not, if◌then◌else◌, List, length, Option, Some, None, IfSome, is_some, option_map, slice_get}
 use Rattle.seats.specs.SeatState.{is_joined}
+use Rattle.command_effects.specs.Settle.{is_among}
 use Rattle.views.specs.declared.view.View.{View}
 use Rattle.view_keep.specs.declared.keep.KeptView.{KeptView}
 use Rattle.view_keep.specs.Kept.{view_at}
@@ -18,7 +19,7 @@ use Rattle.campaign_law.specs.Outcome.{Outcome}
 use Rattle.campaign_law.specs.World.{World, seat_at}
 use Rattle.campaign_core.specs.Placing.{placed_change}
 use Rattle.campaign_core.specs.declared.reach.Reach.{Reach}
-use Rattle.campaign_core.specs.declared.reach.Reach.TheVariants.{Nobody, Master, Anybody}
+use Rattle.campaign_core.specs.declared.reach.Reach.TheVariants.{Nobody, Onlookers}
 
 -- the kept view of a seat that is Joined is what it sees
 abbrev pub IsShown : Scene → List KeptView → ℕ → Option Seat → Type 0
@@ -43,14 +44,12 @@ new_view kept scene seat = if kept then None else Some (view_of scene seat)
 -- what changed reaches the seat
 abbrev pub reaches : Reach → ℕ → Bool
 reaches Nobody seat = false
-reaches (Master placed) seat = is_gm seat
-reaches (Anybody placed) seat = true
+reaches (Onlookers players placed) seat = is_gm seat || is_among players seat
 
 -- where the token stands that is all that changed in the game master's view, where that is known
 abbrev pub placed_reaching : Reach → Option Placed
 placed_reaching Nobody = None
-placed_reaching (Master placed) = placed
-placed_reaching (Anybody placed) = placed
+placed_reaching (Onlookers players placed) = placed
 
 -- the seat's view is known to stay: what changed doesn't reach the seat, or what was done doesn't mark it
 abbrev pub is_kept : Reach → Outcome → ℕ → Bool

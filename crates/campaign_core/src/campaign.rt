@@ -200,7 +200,7 @@ impl<E: Eye + Drop> Campaign<E> {
             &mut eye,
         )?;
         serve(&scene, &fields);
-        settle(alloc, &mut scene, &fields)?;
+        settle(alloc, &mut scene, None, &fields)?;
         let origin = State::opening(alloc, books, scene)?;
         let state = origin.copy(alloc)?;
         let mut keep = Keep::new(alloc, state.seats())?;

@@ -4,7 +4,7 @@ ghost use Rattle.names.specs.declared.token_id.TokenId.{TokenId};
 ghost use Rattle.player_view.specs.Fields.{HasFields};
 ghost use Rattle.player_view.specs.Seen.{AreSeen};
 ghost use Rattle.player_view.specs.Tables.{HasTables};
-ghost use Rattle.command_effects.specs.Settle.{IsSettled, settled as settled_lem};
+ghost use Rattle.command_effects.specs.Settle.{IsSettled, OthersAreSettled, settled as settled_lem};
 ghost use Rattle.command_looks.specs.Fields.{AreBehind, AreKept, field_for};
 ghost use Rattle.command_looks.specs.Touched.{is_touched, looks_for, touched};
 ghost use Rattle.command_looks.specs.Ways.{IsWayOn};
@@ -23,7 +23,6 @@ ghost use Rattle.campaign_core.specs.Sound.{AreSound};
 ghost use Rattle.campaign_law.specs.Law.{answer_of};
 ghost use Rattle.campaign_core.specs.Changed.{IsChanged, reach_of as reach_of_lem, scene_in, fields_in};
 ghost use Rattle.view_marks.specs.Placed.{placed_by as placed_by_lem};
-ghost use Rattle.view_marks.specs.Unseen.{is_unseen as is_unseen_lem};
 ghost use Rattle.campaign_core.specs.Glances.{AreGlances, ViewsFit};
 ghost use Rattle.campaign_core.specs.Looking.{looks_at};
 ghost use Rattle.campaign_core.specs.Walked.{IsWalked, looks_on_way};
@@ -45,9 +44,10 @@ use entry_outcomes::{Message, Outcome, ReadLine};
 use names::{Memory, SeatNo};
 use seats::SeatBook;
 use std::alloc::Global;
+use tokens::Owners;
 use topology::Eye;
 use view_keep::Keep;
-use view_marks::{Placed, is_unseen, placed_by};
+use view_marks::{Placed, onlookers, placed_by};
 use views::View;
 use vision::Fields;
 use world::Scene;
@@ -58,9 +58,9 @@ use world::Scene;
 pub(crate) struct Changed {
     pub(crate) scene: Scene,
     pub(crate) fields: Option<Fields>,
-    pub(crate) seen: Vec<CellSet>,
-    /// Players see and are shown what they saw and were shown before; then nothing of it stands in `seen`.
-    pub(crate) unseen: bool,
+    pub(crate) seen: Vec<Option<CellSet>>,
+    /// The players to whom it may show something.
+    pub(crate) onlookers: Owners,
     /// Where the token stands, where that is all that changed in the game master's view.
     pub(crate) placed: Option<Placed>,
 }
@@ -177,49 +177,39 @@ fn walk<E: Eye>(
     }
 }
 
-/// The scene in which what players see is exposed to them, and what they see; with `unseen` it is known to be exposed to them
-/// already, and nothing is looked for.
+/// The scene in which what players see is exposed to them, and what those see who may see something else.
 fn settled(
     alloc: Global,
     scene: Scene,
-    unseen: bool,
+    onlookers: Owners,
     next: &Option<Fields>,
     fields: &Fields,
-) -> Result<(Scene, Vec<CellSet>), Memory>
+) -> Result<(Scene, Vec<Option<CellSet>>), Memory>
     requires kept { AreKept scene (unwrap_or next.now fields.now) }
-    requires unseen { unseen ≡ true → IsSettled scene }
+    requires others { OthersAreSettled (Some onlookers) scene }
     ensures scene { IfOk result (λ r. r.0 ≡ settled_lem scene) }
     ensures seen { IfOk result (λ r. AreSeen r.0 r.1.items) }
 {
-    if unseen {
-        return Ok((scene, Vec::new(alloc)));
-    }
     match next {
-        Some(next) => settled_by(alloc, scene, next),
-        None => settled_by(alloc, scene, fields),
+        Some(next) => settled_by(alloc, scene, onlookers, next),
+        None => settled_by(alloc, scene, onlookers, fields),
     }
 }
 
 fn settled_by(
     alloc: Global,
     mut scene: Scene,
+    onlookers: Owners,
     fields: &Fields,
-) -> Result<(Scene, Vec<CellSet>), Memory>
-    requires { AreKept scene fields.now }
+) -> Result<(Scene, Vec<Option<CellSet>>), Memory>
+    requires kept { AreKept scene fields.now }
+    requires others { OthersAreSettled (Some onlookers) scene }
     ensures scene { IfOk result (λ r. r.0 ≡ settled_lem scene) }
     ensures seen { IfOk result (λ r. AreSeen r.0 r.1.items) }
 {
     serve(&scene, fields);
-    let seen = settle(alloc, &mut scene, fields)?;
+    let seen = settle(alloc, &mut scene, Some(onlookers), fields)?;
     Ok((scene, seen))
-}
-
-/// Whether the command, which takes this way, changes a hidden token alone.
-fn is_unseen_by(scene: &Scene, command: &Command, way: &Option<Way>) -> bool
-    ensures command { result ≡ true → is_unseen_lem scene.now (Some command.now) ≡ true }
-    ensures way { result ≡ true → way.now ≡ None }
-{
-    way.is_none() && is_unseen(scene, command)
 }
 
 /// Where the token stands that the command, which made this scene and takes this way, put elsewhere.
@@ -268,16 +258,16 @@ pub(crate) fn changed_scene<E: Eye>(
     };
     // The table tells with its length that no id is there twice.
     let _count = scene.tokens().len();
-    let unseen = is_unseen_by(before, command, &way);
+    let onlookers = onlookers(before, &scene, command);
     let placed = placed_without_way(&scene, command, &way);
     let fields = next_fields(alloc, &scene, command, keep.fields(), eye)?;
     walk(alloc, &mut scene, &way, &fields, keep.fields(), eye)?;
-    let after = settled(alloc, scene, unseen, &fields, keep.fields())?;
+    let after = settled(alloc, scene, onlookers, &fields, keep.fields())?;
     let changed = Changed {
         scene: after.0,
         fields,
         seen: after.1,
-        unseen,
+        onlookers,
         placed,
     };
     Boxed::some(alloc, changed)
@@ -365,11 +355,7 @@ fn glances_still<'s>(state: &'s State, keep: &'s Keep) -> Glances<'s>
 fn reach_of(changed: &Changed) -> Reach
     ensures { result ≡ reach_of_lem (Some changed.now) }
 {
-    if changed.unseen {
-        Reach::Master(changed.placed)
-    } else {
-        Reach::Anybody(changed.placed)
-    }
+    Reach::Onlookers(changed.onlookers, changed.placed)
 }
 
 fn glances_at<'s>(state: &'s State, keep: &'s Keep, changed: &'s Changed) -> Glances<'s>

@@ -3,6 +3,7 @@ ghost use Rattle.std.specs.Prelude.{◌≡◌};
 ghost use Rattle.campaign_core.specs.Shown.{placed_reaching, reaches as reaches_lem};
 
 use names::SeatNo;
+use tokens::Owners;
 use view_marks::Placed;
 
 /// Whose views may change.
@@ -10,11 +11,9 @@ use view_marks::Placed;
 pub(crate) enum Reach {
     /// Nobody's: the scene is the same.
     Nobody,
-    /// The game master's alone: players are shown nothing of what changed. In the game master's that is, where there is one,
-    /// where the token stands.
-    Master(Option<Placed>),
-    /// Anybody's. In the game master's that is, where there is one, where the token stands.
-    Anybody(Option<Placed>),
+    /// Those of the game master and of these players: others are shown nothing of what changed. In the game master's that is,
+    /// where there is one, where the token stands.
+    Onlookers(Owners, Option<Placed>),
 }
 
 /// Whether what changed reaches the seat.
@@ -23,8 +22,7 @@ pub(crate) fn reaches(reach: Reach, seat: SeatNo) -> bool
 {
     match reach {
         Reach::Nobody => false,
-        Reach::Master(_) => seat.number() == 0,
-        Reach::Anybody(_) => true,
+        Reach::Onlookers(players, _) => seat.number() == 0 || players.has(seat),
     }
 }
 
@@ -34,6 +32,6 @@ pub(crate) fn placed_in_reach(reach: Reach) -> Option<Placed>
 {
     match reach {
         Reach::Nobody => None,
-        Reach::Master(placed) | Reach::Anybody(placed) => placed,
+        Reach::Onlookers(_, placed) => placed,
     }
 }

@@ -41,8 +41,7 @@ use Rattle.command_effects.specs.Effects.{own_token, cell_after, after_steps, sc
 use Rattle.command_effects.specs.GmEffects.{gm_scene_by, sight_by, with_fog}
 use Rattle.command_effects.specs.Making.{new_token, players_token, with_new}
 use Rattle.player_view.specs.Tables.{HasTables}
-use Rattle.player_view.specs.Seen.{seen_for}
-use Rattle.command_effects.specs.Settle.{settled}
+use Rattle.command_effects.specs.Settle.{found_for, settled, OthersAreSettled}
 use Rattle.command_effects.specs.Tags.{MakesNew}
 use Rattle.command_effects.proofs.Moves.{may_move, placing, fits_there}
 use Rattle.command_effects.proofs.Allowed.{may_light, may_make, makes_as_player, players_token_belongs, gm_token_belongs}
@@ -173,8 +172,9 @@ rect_kept s seat map rect shown is = record {
 
 pub settled_kept : (s : Scene) → HasTables s → HasTables (settled s)
 settled_kept s is =
-    let seen : List Cells = map (seen_for s) s.fog.sets in
-    let same = is_settled s (record s { fog = record s.fog { sets = with_each_seen s.fog.sets seen } }) seen is.fitting refl refl in
+    let seen : List (Option Cells) = map (found_for None s) s.fog.sets in
+    let asked : OthersAreSettled None s = λ place set there none. (let no : true ≡ false = none in cc) in
+    let same = is_settled None s (record s { fog = record s.fog { sets = with_each_seen s.fog.sets seen } }) seen asked is.fitting refl refl in
     subst HasTables same (record {
       fitting = IsScene-with_each_seen s seen is.fitting;
       maps = is.maps;

@@ -1,5 +1,5 @@
 -- Where the sets of a new map stand.
-use Rattle.std.proofs.Common.{◌≡◌, ◌≤◌, ℕ, zero, suc, ◌+◌, ◌<◌, Bool, true, false, not, cond, List, [], ◌∷◌, ◌++◌, length, take, drop, map, Some, None, Result, Ok, Err, refl, sym, subst, ap, ◌∙◌, arith}
+use Rattle.std.proofs.Common.{◌≡◌, ◌≤◌, ℕ, zero, suc, ◌+◌, ◌<◌, Bool, true, false, not, cond, List, [], ◌∷◌, ◌++◌, length, take, drop, map, Option, Some, None, Result, Ok, Err, refl, sym, subst, ap, ◌∙◌, arith}
 use Rattle.std.specs.Prelude.{nat_lt, OnOk}
 use Rattle.std.proofs.lemmas.Bool.Decides.{nat_tests}
 use Rattle.std.proofs.lemmas.List.Sums.{prefix_len-le-length}
@@ -8,7 +8,7 @@ use Rattle.std.specs.Ordering.{is_lt}
 use Rattle.names.specs.Tag.{tag_cmp}
 use Rattle.fog_book.specs.declared.exposure.Exposure.{Exposure}
 use Rattle.cells.specs.Cells.{Cells, Extent}
-use Rattle.fog_book.specs.Exposures.{Fog, changed_at, blank_sets, is_behind, key, key_of, keys_on, with_each_seen, with_sets}
+use Rattle.fog_book.specs.Exposures.{Fog, changed_at, blank_sets, is_behind, key, key_of, keys_on, with_each_seen, with_found, with_sets}
 
 pub with_sets_at : (name : List ℕ) (fresh sets : List Exposure)
     → take (position_or_len (is_behind name) sets) sets ++ (fresh ++ drop (position_or_len (is_behind name) sets) sets) ≡ with_sets name fresh sets
@@ -63,10 +63,14 @@ keys-changed_at test change (set ∷ sets) = here (test set) (keys-changed_at te
     here true i = refl
     here false i = ap (λ l. key_of set ∷ l) i
 
-pub keys-with_each_seen : (sets : List Exposure) (seen : List Cells) → map key_of (with_each_seen sets seen) ≡ map key_of sets
+key-with_found : (set : Exposure) (found : Option Cells) → key_of (with_found set found) ≡ key_of set
+key-with_found set None = refl
+key-with_found set (Some seen) = refl
+
+pub keys-with_each_seen : (sets : List Exposure) (seen : List (Option Cells)) → map key_of (with_each_seen sets seen) ≡ map key_of sets
 keys-with_each_seen [] seen = refl
 keys-with_each_seen (set ∷ sets) [] = refl
-keys-with_each_seen (set ∷ sets) (cells ∷ seen) = ap (λ l. key_of set ∷ l) (keys-with_each_seen sets seen)
+keys-with_each_seen (set ∷ sets) (found ∷ seen) = λ i. key-with_found set found i ∷ keys-with_each_seen sets seen i
 
 -- the same place among keys
 abbrev pub with_keys : List ℕ → List (ℕ × List ℕ) → List (ℕ × List ℕ) → List (ℕ × List ℕ)

@@ -1,5 +1,5 @@
 -- What is exposed to the players of a campaign.
-use Rattle.std.specs.Prelude.{◌≡◌, ◌≢◌, ◌≤◌, ◌⊎◌, ℕ, zero, suc, Bool, false, not, nat_eq, ◌&&◌, ◌||◌, cond, if◌then◌else◌, List, [], ◌∷◌, ◌++◌, map, Option, Some, None, option_map, find}
+use Rattle.std.specs.Prelude.{◌≡◌, ◌≢◌, ◌≤◌, ◌⊎◌, ℕ, zero, suc, Bool, false, not, nat_eq, ◌&&◌, ◌||◌, cond, if◌then◌else◌, List, [], ◌∷◌, ◌++◌, map, Option, Some, None, IfSome, option_map, find}
 use Rattle.std.specs.List.{range_with_len}
 use Rattle.std.specs.Ordering.{is_lt}
 use Rattle.std.specs.Str.{bytes_eq}
@@ -80,12 +80,17 @@ pub record AddsMap (old new : Fog) (name : List ℕ) (size : Extent) : Type 0 wh
 abbrev pub with_seen : Exposure → Cells → Exposure
 with_seen set seen = record set { cells = joined set.cells seen }
 
--- each set with what is seen of its map by its player
-abbrev pub with_each_seen : List Exposure → List Cells → List Exposure
+-- where it was looked for
+abbrev pub with_found : Exposure → Option Cells → Exposure
+with_found set None = set
+with_found set (Some seen) = with_seen set seen
+
+-- each set with what is seen of its map by its player, where it was looked for
+abbrev pub with_each_seen : List Exposure → List (Option Cells) → List Exposure
 with_each_seen [] seen = []
 with_each_seen (set ∷ sets) [] = set ∷ sets
-with_each_seen (set ∷ sets) (cells ∷ seen) = with_seen set cells ∷ with_each_seen sets seen
+with_each_seen (set ∷ sets) (found ∷ seen) = with_found set found ∷ with_each_seen sets seen
 
 -- the set and what is seen have one size
-abbrev pub HaveOneSize : Exposure → Cells → Type 0
-HaveOneSize set seen = seen.extent ≡ set.cells.extent
+abbrev pub HaveOneSize : Exposure → Option Cells → Type 0
+HaveOneSize set seen = IfSome seen (λ cells. cells.extent ≡ set.cells.extent)

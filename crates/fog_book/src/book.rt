@@ -2,7 +2,7 @@
 ghost use Rattle.std.specs.Prelude.{◌≡◌, ◌≤◌, [], ◌∷◌, ◌++◌, Some, true, false, length, take, drop, IsSome, IfOk, OnOk, OnErr};
 ghost use Rattle.std.specs.Option.{ForSome};
 ghost use Rattle.std.specs.List.{AllZip};
-ghost use Rattle.fog_book.specs.Exposures.{joined, blank_sets, with_each_seen, with_seen, HaveOneSize};
+ghost use Rattle.fog_book.specs.Exposures.{joined, blank_sets, with_each_seen, with_found, HaveOneSize};
 ghost use Rattle.fog_book.specs.Rects.{with_rect};
 
 use crate::exposure::{Exposure, join_with, place_for, place_of, set_rect_of};
@@ -113,8 +113,9 @@ impl FogBook {
         self.sets.as_slice()
     }
 
-    /// Exposes what is seen: to each set, in their order, the cells at its place in `seen`, which are of its size.
-    pub fn join_each(&mut self, seen: &[CellSet])
+    /// Exposes what is seen: to each set, in their order, the cells at its place in `seen`, where there are any, which are of
+    /// its size.
+    pub fn join_each(&mut self, seen: &[Option<CellSet>])
         requires { AllZip HaveOneSize self.old.sets seen.now }
         ensures { self.new ≡ record self.old { sets = with_each_seen self.old.sets seen.now } }
     {
@@ -132,21 +133,23 @@ impl FogBook {
 }
 
 /// Adds to each set the cells at its place.
-fn join_all(sets: &mut Vec<Exposure>, seen: &[CellSet])
+fn join_all(sets: &mut Vec<Exposure>, seen: &[Option<CellSet>])
     requires { AllZip HaveOneSize sets.old.items seen.now }
     ensures { sets.new.items ≡ with_each_seen sets.old.items seen.now }
 {
-    for (place, cells) in seen.iter().enumerate() {
-        join_seen(&mut sets[place], cells);
+    for (place, found) in seen.iter().enumerate() {
+        join_found(&mut sets[place], found);
     }
 }
 
-/// Adds to a set what is seen of its map by its player.
-fn join_seen(set: &mut Exposure, seen: &CellSet)
-    requires { HaveOneSize set.old seen.now }
-    ensures { set.new ≡ with_seen set.old seen.now }
+/// Adds to a set what is seen of its map by its player, where it was looked for.
+fn join_found(set: &mut Exposure, found: &Option<CellSet>)
+    requires { HaveOneSize set.old found.now }
+    ensures { set.new ≡ with_found set.old found.now }
 {
-    set.cells.join_with(seen);
+    if let Some(seen) = found {
+        set.cells.join_with(seen);
+    }
 }
 
 fn copied(sets: &Vec<Exposure>) -> Result<Vec<Exposure>, Memory>

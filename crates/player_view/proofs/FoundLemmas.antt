@@ -36,15 +36,16 @@ below : (n m : ℕ) → nat_lt n m ≡ true → n < m
 below n m h = grind (arith, nat_tests)
 
 -- what a look into the sets gives at the place of the player's set
-pub found_before : {B : Type 0} (now : B → Cells) (s : Scene) (seat : ℕ) (m : Grid) (seen : List Cells) (place : ℕ) (found : Option B)
+pub found_before : {B : Type 0} (now : B → Option Cells) (s : Scene) (seat : ℕ) (m : Grid) (seen : List (Option Cells)) (place : ℕ) (found : Option B)
     → map_of m.name s.maps ≡ Some m → AreSeen s seen → position (is_of seat m.name) s.fog.sets ≡ Some place
     → is_some found ≡ nat_lt place (length seen) → IfSome found (λ x. now x ≡ get_or seen place (now x))
-    → IfSome (option_map now found) (λ cells. cells ≡ visible s seat m)
+    → IfSome (option_map now found) (λ o. IfSome o (λ cells. cells ≡ visible s seat m))
 found_before now s seat m seen place None there are at some is = tt
-found_before now s seat m seen place (Some x) there are at some is =
-    let set = set_at (is_of seat m.name) s.fog.sets place at in
-    are.each place set.0 (now x) set.1 (slice_get_read seen (length seen) place (now x) refl (below _ _ (sym some)) is)
-    ∙ seen_of s seat m set.0 there set.2
+found_before now s seat m seen place (Some x) there are at some is = by (now x) (slice_get_read seen (length seen) place (now x) refl (below _ _ (sym some)) is)
+  where
+    by : (o : Option Cells) → slice_get seen place ≡ Some o → IfSome o (λ cells. cells ≡ visible s seat m)
+    by None at_place = tt
+    by (Some cells) at_place = let set = set_at (is_of seat m.name) s.fog.sets place at in are.each place set.0 cells set.1 at_place ∙ seen_of s seat m set.0 there set.2
 
 -- nothing was found
 pub none_seen : (s : Scene) → AreSeen s []

@@ -8,6 +8,7 @@ pub mod Lettered
 pub mod Asked
 pub mod Fields
 pub mod Walk
+pub mod Lookouts
 pub mod Told
 pub mod Laws
 pub mod Tables

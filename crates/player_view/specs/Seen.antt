@@ -14,6 +14,6 @@ abbrev pub seen_for : Scene → Exposure → Cells
 seen_for s set = seen_on s set (map_of set.map s.maps)
 
 -- the cells at the place of an exposed set, where there are any, are what its player sees of its map
-pub record AreSeen (s : Scene) (seen : List Cells) : Type 0 where
-  pub each : (place : ℕ) (set : Exposure) (cells : Cells) → slice_get s.fog.sets place ≡ Some set → slice_get seen place ≡ Some cells
+pub record AreSeen (s : Scene) (seen : List (Option Cells)) : Type 0 where
+  pub each : (place : ℕ) (set : Exposure) (cells : Cells) → slice_get s.fog.sets place ≡ Some set → slice_get seen place ≡ Some (Some cells)
       → cells ≡ seen_for s set

@@ -1,16 +1,15 @@
 -- What is found on the way, token by token and run by run.
-use Rattle.std.specs.Prelude.{ℕ, ◌+◌, ◌-◌, ◌&&◌, Bool, false, if◌then◌else◌, List, map, take, Option, Some, None}
-use Rattle.std.specs.List.{list_any, range_with_len}
+use Rattle.std.specs.Prelude.{ℕ, ◌+◌, ◌-◌, ◌&&◌, Bool, false, if◌then◌else◌, List, map, Option, Some, None}
+use Rattle.std.specs.List.{range_with_len}
 use Rattle.names.specs.declared.kinds.Layer.{Layer}
 use Rattle.names.specs.declared.kinds.Layer.TheVariants.{Token as TokenLayer, Hidden, Object, Background}
-use Rattle.cells.specs.Cells.{Cells, cells_where}
 use Rattle.cells.specs.declared.cell.Run.{Run}
 use Rattle.maps.specs.Maps.{Grid}
 use Rattle.sight_types.specs.declared.Sight.{Sight}
 use Rattle.tokens.specs.declared.token.Token.{Token}
 use Rattle.views.specs.Keys.{Letter}
 use Rattle.views.specs.declared.view.MapView.{MapView}
-use Rattle.player_view.specs.Sight.{is_on, named_type, owns, shows_cell}
+use Rattle.player_view.specs.Sight.{is_on, named_type, owns}
 use Rattle.player_view.specs.Shown.{touches}
 use Rattle.player_view.specs.View.{lettered}
 use Rattle.world.specs.Scene.{Scene}
@@ -18,10 +17,6 @@ use Rattle.world.specs.Scene.{Scene}
 -- the sight with which the token adds to what the player sees of the map
 abbrev pub sight_on : Scene → ℕ → Grid → Token → Option Sight
 sight_on s p m t = if is_on m.name t && (owns s p t && m.shown) then named_type s.sights t.sight else None
-
--- what the first so many tokens show the player of the map
-unfoldable pub visible_to_first : Scene → ℕ → Grid → ℕ → Cells
-visible_to_first s p m count = cells_where m.walls.extent (λ x y. list_any (shows_cell s p m x y) (take count s.tokens))
 
 -- the letters of the run's cells
 abbrev pub run_letters : Grid → Run → List Letter

@@ -56,20 +56,37 @@ fn place_of(sets: &[Exposure], seat: SeatNo, name: Tag) -> Option<usize>
         .position(|set| set.seat == seat && set.map == name)
 }
 
+/// What stands at the place of the player's set on the map, if anything does.
+fn found_at<'a>(
+    scene: &Scene,
+    seat: SeatNo,
+    map: &GridMap,
+    seen: &'a [Option<CellSet>],
+) -> Option<&'a Option<CellSet>>
+    requires there { map_of map.now.name scene.now.maps ≡ Some map.now }
+    requires seen { AreSeen scene.now seen.now }
+    ensures { IfSome (option_copied result) (λ found. IfSome found (λ cells. cells ≡ visible scene.now seat map.now)) }
+{
+    match place_of(scene.fog().sets(), seat, map.name()) {
+        Some(place) => seen.get(place),
+        None => None,
+    }
+}
+
 /// What was found before of what the player sees of the map, if it was.
 fn found_before<'a>(
     scene: &Scene,
     seat: SeatNo,
     map: &GridMap,
-    seen: &'a [CellSet],
+    seen: &'a [Option<CellSet>],
 ) -> Option<&'a CellSet>
     requires there { map_of map.now.name scene.now.maps ≡ Some map.now }
     requires seen { AreSeen scene.now seen.now }
     ensures { IfSome (option_copied result) (λ cells. cells ≡ visible scene.now seat map.now) }
 {
-    match place_of(scene.fog().sets(), seat, map.name()) {
-        Some(place) => seen.get(place),
-        None => None,
+    match found_at(scene, seat, map, seen) {
+        Some(Some(cells)) => Some(cells),
+        Some(None) | None => None,
     }
 }
 
@@ -80,7 +97,7 @@ fn visible(
     seat: SeatNo,
     map: &GridMap,
     fields: &Fields,
-    seen: &[CellSet],
+    seen: &[Option<CellSet>],
 ) -> Result<CellSet, Memory>
     requires there { map_of map.now.name scene.now.maps ≡ Some map.now }
     requires fields { HasFields scene.now fields.now }
@@ -100,7 +117,7 @@ fn seen_by(
     seat: SeatNo,
     map: &GridMap,
     fields: &Fields,
-    seen: &[CellSet],
+    seen: &[Option<CellSet>],
 ) -> Result<CellSet, Memory>
     requires there { map_of map.now.name scene.now.maps ≡ Some map.now }
     requires fields { HasFields scene.now fields.now }
@@ -238,7 +255,7 @@ fn map_view(
     map: &GridMap,
     fields: &Fields,
     older: &[MapView],
-    seen: &[CellSet],
+    seen: &[Option<CellSet>],
 ) -> Result<MapView, Memory>
     requires there { map_of map.now.name scene.now.maps ≡ Some map.now }
     requires older { HaveLetters scene.now.maps older.now }
@@ -268,7 +285,7 @@ fn add_map(
     place: usize,
     fields: &Fields,
     older: &[MapView],
-    seen: &[CellSet],
+    seen: &[Option<CellSet>],
     list: &mut Vec<MapView>,
 ) -> Result<(), Memory>
     requires older { HaveLetters scene.now.maps older.now }
@@ -303,7 +320,7 @@ pub(crate) fn map_views(
     seat: SeatNo,
     fields: &Fields,
     older: &[MapView],
-    seen: &[CellSet],
+    seen: &[Option<CellSet>],
 ) -> Result<MapViews, Memory>
     requires older { HaveLetters scene.now.maps older.now }
     requires seat { seat ≤ scene.now.fog.players }

@@ -1,5 +1,5 @@
 -- One seat's bit, set or cleared.
-use Rattle.std.proofs.Common.{◌≡◌, ℕ, ◌*◌, ◌^◌, ◌%◌, ◌<◌, ◌≤◌, Bool, true, false, cond, nat_eq, refl, ap, arith, ◌∙◌, sym, inl, inr, bit_or, bit_and}
+use Rattle.std.proofs.Common.{◌≡◌, ℕ, ◌*◌, ◌^◌, ◌%◌, ◌<◌, ◌≤◌, ◌||◌, Bool, true, false, cond, nat_eq, refl, ap, arith, ◌∙◌, sym, inl, inr, bit_or, bit_and}
 use Rattle.std.specs.Int.{bit_not, w64}
 use Rattle.std.proofs.lemmas.Bool.{cases_eq}
 use Rattle.std.proofs.lemmas.Bool.Decides.{nat_tests}
@@ -8,6 +8,7 @@ use Rattle.std.proofs.lemmas.Nat.Bits.{bit_at-lt, same_from_bits_below, bit_at_s
 use Rattle.std.proofs.Math.Nat.{one-mul, mod-eq_of_lt}
 use Rattle.std.proofs.Math.Pow.{pow-lt}
 use Rattle.cells.specs.Cells.{row_where}
+use Rattle.cells.proofs.RowsLemmas.{bit_or_test}
 use Rattle.cells.proofs.SetLaws.{row_where_lt, bit_at_row_where, bit_of_test}
 use Rattle.tokens.specs.Owners.{has_owner, owners_where, with_owner}
 
@@ -62,3 +63,9 @@ has_with n s k on h =
     test : (b : Bool) → nat_eq (cond b 1 0) 1 ≡ b
     test true = refl
     test false = refl
+
+pub joined_lt : (a b : ℕ) → a < 2 ^ 33 → b < 2 ^ 33 → bit_or a b < 2 ^ 33
+joined_lt a b small also = or_lt 33 a b small also
+
+pub has_joined : (a b k : ℕ) → has_owner (bit_or a b) k ≡ (has_owner a k || has_owner b k)
+has_joined a b k = bit_or_test a b k

@@ -1,5 +1,5 @@
 //! Which seats own a token.
-ghost use Rattle.std.specs.Prelude.{◌≡◌, ◌==◌, ◌<◌, ◌≤◌, ◌^◌, ℕ, if◌then◌else◌};
+ghost use Rattle.std.specs.Prelude.{◌≡◌, ◌==◌, ◌<◌, ◌≤◌, ◌^◌, ◌||◌, ℕ, if◌then◌else◌};
 ghost use Rattle.tokens.specs.Owners.{has_owner, with_owner};
 
 use names::SeatNo;
@@ -37,6 +37,16 @@ impl Owners {
         ensures seats { self < 2 ^ 33 }
     {
         self.seats >> seat.number() & 1 == 1
+    }
+
+    /// The seats of both.
+    #[tactic(auto, using(crate::proofs::OwnerLemmas::joined_lt, crate::proofs::OwnerLemmas::has_joined))]
+    pub fn joined(self, other: Owners) -> Owners
+        ensures { (k : ℕ) → has_owner result k ≡ (has_owner self k || has_owner other k) }
+    {
+        Owners {
+            seats: self.seats | other.seats,
+        }
     }
 
     /// These owners, with the seat among them or not; the other seats stay.

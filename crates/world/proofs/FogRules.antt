@@ -11,7 +11,7 @@ use Rattle.cells.specs.Cells.{Extent, Cells, IsToldByCells, cells_where}
 use Rattle.cells.proofs.SetLaws.{IsToldByCells-cells_where}
 use Rattle.fog_book.specs.declared.exposure.Exposure.{Exposure}
 use Rattle.fog_book.proofs.Joining.{kept_each}
-use Rattle.fog_book.specs.Exposures.{Fog, is_of, changed_at, blank_sets, with_each_seen, exposed_of, with_change, with_map as with_fog_of_map, with_sets, key, key_of, keys_on, AddsMap, ChangesOnly}
+use Rattle.fog_book.specs.Exposures.{Fog, is_of, changed_at, blank_sets, with_each_seen, with_found, exposed_of, with_change, with_map as with_fog_of_map, with_sets, key, key_of, keys_on, AddsMap, ChangesOnly}
 use Rattle.fog_book.proofs.Changes.{changes_only}
 use Rattle.fog_book.proofs.Order.{keys-blank_sets, keys-changed_at, keys-with_each_seen, keys-with_sets, with_keys}
 use Rattle.maps.specs.Maps.{Grid, changed, has_name, map_of, new_map, with_map}
@@ -164,10 +164,14 @@ sized_changed maps test change keeps (set ∷ sets) h = by (test set) (sized_cha
     by true rest = (h.0 ∙ ap Some (sym (keeps set.cells).0), h.1)
     by false rest = (h.0, rest)
 
-sized_each : (maps : List Grid) (sets : List Exposure) (seen : List Cells) → AllByRecursion (IsSized maps) sets → AllByRecursion (IsSized maps) (with_each_seen sets seen)
+sized_found : (maps : List Grid) (set : Exposure) (found : Option Cells) → IsSized maps set → IsSized maps (with_found set found)
+sized_found maps set None h = h
+sized_found maps set (Some seen) h = h
+
+sized_each : (maps : List Grid) (sets : List Exposure) (seen : List (Option Cells)) → AllByRecursion (IsSized maps) sets → AllByRecursion (IsSized maps) (with_each_seen sets seen)
 sized_each maps [] seen h = tt
 sized_each maps (set ∷ sets) [] h = h
-sized_each maps (set ∷ sets) (cells ∷ seen) h = (h.0, sized_each maps sets seen h.1)
+sized_each maps (set ∷ sets) (found ∷ seen) h = (sized_found maps set found h.0, sized_each maps sets seen h.1)
 
 sized_append : (maps : List Grid) (xs ys : List Exposure) → AllByRecursion (IsSized maps) xs → AllByRecursion (IsSized maps) ys → AllByRecursion (IsSized maps) (xs ++ ys)
 sized_append maps [] ys h k = k
@@ -191,7 +195,7 @@ sized_by maps others same [] h = tt
 sized_by maps others same (set ∷ sets) h = (same set.map set.cells.extent h.0, sized_by maps others same sets h.1)
 
 -- what is seen joined to each set
-pub IsFogOf-with_each_seen : (maps : List Grid) (fog : Fog) (seen : List Cells) → IsFogOf maps fog → IsFogOf maps (record fog { sets = with_each_seen fog.sets seen })
+pub IsFogOf-with_each_seen : (maps : List Grid) (fog : Fog) (seen : List (Option Cells)) → IsFogOf maps fog → IsFogOf maps (record fog { sets = with_each_seen fog.sets seen })
 IsFogOf-with_each_seen maps fog seen is = record {
   sets = λ name size seat there player. kept_each (IsSetOf size) (λ cells more h. (h.0, IsToldByCells-cells_where _ _)) fog.sets seen seat name (is.sets name size seat there player);
   no_others = λ name seat none. kept_each (λ set. set ≡ None) (λ cells more h. cc) fog.sets seen seat name (is.no_others name seat none);

@@ -428,9 +428,9 @@ impl Scene {
         self.fog.hide(seat, map, rect);
     }
 
-    /// Exposes what is seen: to each set of the fog, in their order, the cells at its place in `seen`, which are of its
-    /// size. All else stays.
-    pub fn join_each(&mut self, seen: &[CellSet])
+    /// Exposes what is seen: to each set of the fog, in their order, the cells at its place in `seen`, where there are any,
+    /// which are of its size. All else stays.
+    pub fn join_each(&mut self, seen: &[Option<CellSet>])
         requires { AllZip HaveOneSize self.old.fog.sets seen.now }
         ensures { self.new ≡ record self.old { fog = record self.old.fog { sets = with_each_seen self.old.fog.sets seen.now } } }
     {
