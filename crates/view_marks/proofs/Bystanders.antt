@@ -6,14 +6,13 @@ use Rattle.std.proofs.lemmas.Option.{slice_get-map}
 use Rattle.std.specs.List.{cons_option, filter_map, list_any, range_with_len}
 use Rattle.std.specs.Str.{bytes_eq}
 use Rattle.std.proofs.lemmas.Bool.Decides.{nat_tests}
-use Rattle.std.proofs.lemmas.Bool.{and_parts}
 use Rattle.std.proofs.lemmas.Slice.Eq.{bytes_eq-Decides}
 use Rattle.names.specs.declared.kinds.Layer.{Layer}
 use Rattle.names.specs.declared.kinds.Layer.TheVariants.{Token as TokenLayer, Hidden, Object, Background}
 use Rattle.names.specs.declared.token_id.TokenId.{TokenId}
-use Rattle.cells.specs.Cells.{Cells, Extent, cells_where, has}
+use Rattle.cells.specs.Cells.{cells_where, has}
 use Rattle.cells.proofs.SetLaws.{has-cells_where}
-use Rattle.maps.specs.Maps.{Grid, has_name, map_of}
+use Rattle.maps.specs.Maps.{Grid, map_of}
 use Rattle.fog_book.specs.declared.exposure.Exposure.{Exposure}
 use Rattle.fog_book.specs.Exposures.{cells_at, is_of, joined, Fog}
 use Rattle.sight_types.specs.declared.Sight.{Sight}
@@ -22,7 +21,7 @@ use Rattle.tokens.specs.Owners.{has_owner}
 use Rattle.tokens.specs.Tokens.{changed, eye_of, has_id}
 use Rattle.vision.specs.Seen.{sees_test}
 use Rattle.world.specs.Scene.{Scene, with_token}
-use Rattle.player_view.specs.Sight.{is_hidden, is_on, lamp_on, lamp_with, lamps_on, map_shown, named_type, owns, sees, sees_with, shows_cell, visible, visible_test}
+use Rattle.player_view.specs.Sight.{is_hidden, is_on, lamp_on, lamp_with, map_shown, named_type, owns, sees, sees_with, shows_cell, visible, visible_test}
 use Rattle.player_view.specs.Shown.{exposed, is_in, is_shown, is_uncovered, is_uncovered_on, touches}
 use Rattle.player_view.specs.View.{all_cells, has_map, has_token, is_gm, light_text, map_view, sight_text, token_view, view_of}
 use Rattle.player_view.specs.Fights.{fight_in}
@@ -105,7 +104,7 @@ no_lamp s p name t none near = by (is_on name t) refl
 
 -- ---- a map on which the player has no token
 
-none_seen : (s : Scene) (p : ℕ) (m : Grid) (x y : ℕ) → has_token_on s p m.name ≡ false → visible_test s p m x y ≡ false
+pub none_seen : (s : Scene) (p : ℕ) (m : Grid) (x y : ℕ) → has_token_on s p m.name ≡ false → visible_test s p m x y ≡ false
 none_seen s p m x y none = none_within (λ t. is_on m.name t && plays p t) (shows_cell s p m x y) (shows_none s p m x y) s.tokens none
 
 touches_none : (s : Scene) (p : ℕ) (t : Token) (m : Grid) → has_token_on s p m.name ≡ false → touches t (visible s p m) ≡ false
@@ -153,7 +152,7 @@ not_had s p t player none =
 abbrev pub own_sets : ℕ → List Exposure → List Exposure
 own_sets p sets = filter (λ set. nat_eq set.seat p) sets
 
-is_number : (a b : ℕ) → a ≡ b → nat_eq a b ≡ true
+pub is_number : (a b : ℕ) → a ≡ b → nat_eq a b ≡ true
 is_number a b h = grind (arith, nat_tests, h)
 
 pub same_number : (a b : ℕ) → nat_eq a b ≡ true → a ≡ b
@@ -183,7 +182,7 @@ own_map p f keeps (set ∷ sets) = ap (λ n. cond (nat_eq n p) (f set ∷ own_se
     by false rest = rest
 
 -- what holds of each of them holds of one that stands among all sets
-own_at : (P : Exposure → Type 0) (p : ℕ) (sets : List Exposure) (place : ℕ) (set : Exposure) → All P (own_sets p sets) → slice_get sets place ≡ Some set → nat_eq set.seat p ≡ true → P set
+pub own_at : (P : Exposure → Type 0) (p : ℕ) (sets : List Exposure) (place : ℕ) (set : Exposure) → All P (own_sets p sets) → slice_get sets place ≡ Some set → nat_eq set.seat p ≡ true → P set
 own_at P p [] place set all there own = cc
 own_at P p (x ∷ sets) zero set all there own =
     let same : x ≡ set = cc in
@@ -220,6 +219,30 @@ settled_at s place set is there =
 seat_after : (x : Scene) (set : Exposure) (o : Option Grid) → (with_sight x set o).seat ≡ set.seat
 seat_after x set None = refl
 seat_after x set (Some m) = refl
+
+-- where what the player sees stays, so does what is exposed to it
+pub own_stay : (after s : Scene) (p : ℕ) → ((set : Exposure) → set.seat ≡ p → settled_set after set ≡ settled_set s set) → (sets : List Exposure) → own_sets p sets ≡ own_sets p s.fog.sets → IsSettled s
+    → All (λ set. settled_set after set ≡ set) (own_sets p sets)
+own_stay after s p each sets same is =
+    subst (λ (xs : List Exposure). All (λ set. settled_set after set ≡ set) xs) (sym same) (stays (own_sets p s.fog.sets) (own_settled s p is) (filter_passes (λ set. nat_eq set.seat p) s.fog.sets))
+  where
+    stays : (xs : List Exposure) → All (λ set. settled_set s set ≡ set) xs → All (λ set. nat_eq set.seat p ≡ true) xs → All (λ set. settled_set after set ≡ set) xs
+    stays [] all own = All-nil (λ set. settled_set after set ≡ set)
+    stays (set ∷ xs) all own =
+        All-cons (λ set. settled_set after set ≡ set) set xs
+        (each set (same_number set.seat p (All-head (λ set. nat_eq set.seat p ≡ true) set xs own)) ∙ All-head (λ set. settled_set s set ≡ set) set xs all)
+        (stays xs (All-tail (λ set. settled_set s set ≡ set) set xs all) (All-tail (λ set. nat_eq set.seat p ≡ true) set xs own))
+
+-- and what other players see isn't in its view
+own_found : (after : Scene) (p : ℕ) (sets : List Exposure) → All (λ set. settled_set after set ≡ set) (own_sets p sets) → (name : List ℕ) → cells_at (map (settled_set after) sets) p name ≡ cells_at sets p name
+own_found after p sets own name =
+    found_own p name (map (settled_set after) sets)
+    ∙ ap (λ xs. cells_at xs p name) (own_map p (settled_set after) (λ set. seat_after after set (map_of set.map after.maps)) sets ∙ map_fixed (settled_set after) (own_sets p sets) own)
+    ∙ sym (found_own p name sets)
+
+pub own_view : (after : Scene) (p : ℕ) → All (λ set. settled_set after set ≡ set) (own_sets p after.fog.sets) → view_of (settled after) p ≡ view_of after p
+unfolding settled
+own_view after p own = same_under_fog (record after.fog { sets = map (settled_set after) after.fog.sets }) after p (own_found after p after.fog.sets own)
 
 -- ---- tokens change that the player meets neither before nor after
 
@@ -292,25 +315,8 @@ module _ (p : ℕ) (s after : Scene) (w : Token → Token) (is : after ≡ recor
       ap (λ q. record set { cells = joined set.cells (visible (under fog) q m) }) own ∙ ap (λ cells. record set { cells = joined set.cells cells }) (visible_under fog m)
       ∙ sym (ap (λ q. record set { cells = joined set.cells (visible s q m) }) own)
 
-  own_stay : (fog : Fog) (sets : List Exposure) → All (λ set. settled_set s set ≡ set) sets → All (λ set. nat_eq set.seat p ≡ true) sets → All (λ set. settled_set (under fog) set ≡ set) sets
-  own_stay fog [] all own = All-nil (λ set. settled_set (under fog) set ≡ set)
-  own_stay fog (set ∷ sets) all own =
-      All-cons (λ set. settled_set (under fog) set ≡ set) set sets
-      (set_stays fog set (map_of set.map s.maps) (same_number set.seat p (All-head (λ set. nat_eq set.seat p ≡ true) set sets own)) ∙ All-head (λ set. settled_set s set ≡ set) set sets all)
-      (own_stay fog sets (All-tail (λ set. settled_set s set ≡ set) set sets all) (All-tail (λ set. nat_eq set.seat p ≡ true) set sets own))
-
   settled_under : (fog : Fog) → IsSettled s → own_sets p fog.sets ≡ own_sets p s.fog.sets → All (λ set. settled_set (under fog) set ≡ set) (own_sets p fog.sets)
-  settled_under fog settled_before same =
-      subst (λ sets. All (λ set. settled_set (under fog) set ≡ set) sets) (sym same)
-      (own_stay fog (own_sets p s.fog.sets) (own_settled s p settled_before) (filter_passes (λ set. nat_eq set.seat p) s.fog.sets))
-
-  found_same : (fog : Fog) → IsSettled s → own_sets p fog.sets ≡ own_sets p s.fog.sets → (name : List ℕ) → cells_at (map (settled_set (under fog)) fog.sets) p name ≡ cells_at s.fog.sets p name
-  found_same fog settled_before same name =
-      found_own p name (map (settled_set (under fog)) fog.sets)
-      ∙ ap (λ sets. cells_at sets p name)
-      (own_map p (settled_set (under fog)) (λ set. seat_after (under fog) set (map_of set.map s.maps)) fog.sets
-      ∙ map_fixed (settled_set (under fog)) (own_sets p fog.sets) (settled_under fog settled_before same) ∙ same)
-      ∙ sym (found_own p name s.fog.sets)
+  settled_under fog settled_before same = own_stay (under fog) s p (λ set own. set_stays fog set (map_of set.map s.maps) own) fog.sets same settled_before
 
   -- ---- what it is shown
 
@@ -366,10 +372,10 @@ module _ (p : ℕ) (s after : Scene) (w : Token → Token) (is : after ≡ recor
   }
 
   settled_shown : (fog : Fog) → is_gm p ≡ false → IsSettled s → own_sets p fog.sets ≡ own_sets p s.fog.sets → view_of (settled (record after { fog = fog })) p ≡ view_of s p
-  unfolding settled
   settled_shown fog player settled_before same =
       ap (λ (x : Scene). view_of (settled (record x { fog = fog })) p) is
-      ∙ same_under_fog (record fog { sets = map (settled_set (under fog)) fog.sets }) changed_to p (found_same fog settled_before same)
+      ∙ own_view (under fog) p (settled_under fog settled_before same)
+      ∙ same_under_fog fog changed_to p (λ name. found_own p name fog.sets ∙ ap (λ sets. cells_at sets p name) same ∙ sym (found_own p name s.fog.sets))
       ∙ shown_same player
 
 -- ---- the tokens of one id

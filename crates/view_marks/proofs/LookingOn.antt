@@ -1,35 +1,34 @@
 -- A command leaves the view of each player whom it shows nothing.
-use Rattle.std.proofs.Common.{◌≡◌, ℕ, ◌-◌, Bool, true, false, cond, ◌||◌, not, List, map, take, Some, None, refl, sym, ◌∙◌, ap, ℤ}
-use Rattle.std.specs.Prelude.{Option, slice_get}
+use Rattle.std.proofs.Common.{◌≡◌, ℕ, ◌-◌, Bool, true, false, cond, ◌||◌, List, map, take, Some, None, refl, sym, ◌∙◌, ap, subst, ℤ}
+use Rattle.std.specs.Prelude.{◌==◌, All, Option, slice_get}
 use Rattle.fog_book.specs.declared.exposure.Exposure.{Exposure}
-use Rattle.fog_book.specs.Exposures.{Fog}
+use Rattle.fog_book.specs.Exposures.{Fog, with_change}
+use Rattle.fog_book.specs.Rects.{with_rect}
 use Rattle.names.specs.declared.kinds.PropClass.{PropClass}
 use Rattle.names.specs.declared.kinds.PropClass.TheVariants.{Public, Own as OwnClass, Secret as SecretClass}
-use Rattle.names.specs.declared.kinds.WallKind.{WallKind}
-use Rattle.names.specs.declared.kinds.WallKind.TheVariants.{Vbl, Mbl}
 use Rattle.names.specs.declared.token_id.TokenId.{TokenId}
-use Rattle.lattice.specs.Coordinates.{Coordinates}
+use Rattle.cells.specs.Cells.{Cells}
 use Rattle.topology.specs.Order.{wall_between}
 use Rattle.topology.specs.WallLists.{with_wall, without_wall}
-use Rattle.maps.specs.Maps.{Grid, map_of, with_wall_of, without_wall_of}
-use Rattle.command_json.specs.declared.command.Command.{Command}
-use Rattle.command_json.specs.declared.command.Command.TheVariants.{Move, Setprop, Light, Trail, Wall, Unwall, Own, Layer as PutOnLayer, Visible, Sight, Place, Secret}
-use Rattle.macro_eval.specs.declared.intent.Intent.{Intent}
+use Rattle.maps.specs.Maps.{Grid, map_of}
+use Rattle.command_json.specs.declared.command.Command.TheVariants.{Move, Setprop, Light, Trail, Wall, Unwall, Own, Layer as PutOnLayer, Visible, Sight, Place, Secret, Expose, Hide}
 use Rattle.tokens.specs.declared.token.Token.{Token}
-use Rattle.tokens.specs.Tokens.{has_id, on_layer, owned_by, placed, shown_if, with_light, with_prop, with_sight}
-use Rattle.world.specs.Scene.{Scene, with_grid}
+use Rattle.tokens.specs.Tokens.{on_layer, owned_by, placed, shown_if, with_light, with_prop, with_sight}
+use Rattle.world.specs.Scene.{Scene}
+use Rattle.player_view.specs.Sight.{visible}
 use Rattle.player_view.specs.View.{is_gm, view_of}
-use Rattle.command_rules.specs.Places.{cell_at, point_at}
+use Rattle.command_rules.specs.Places.{cell_at, point_at, rect_at}
 use Rattle.command_effects.specs.Effects.{after_steps, cell_after, own_token, scene_by}
 use Rattle.command_effects.specs.GmEffects.{gm_scene_by}
-use Rattle.command_effects.specs.Settle.{settled, settled_set, IsSettled}
+use Rattle.command_effects.specs.Settle.{settled, settled_set, with_sight as seen_by_set, IsSettled}
 use Rattle.command_effects.specs.Way.{after_by, exposed_on, way_by, way_of, way_on, Way}
 use Rattle.command_effects.proofs.Ways.{exposed_on_sets, HasOtherSets}
-use Rattle.view_marks.specs.Onlookers.{blocks_movement, looks_on, meets_any, LeavesOthersSettled, ShowsOthersNothing}
-use Rattle.view_marks.proofs.Bystanders.{own_sets, settled_at, still_settled, still_shown, KeepsId}
-use Rattle.view_marks.proofs.Passing.{way_kept}
+use Rattle.view_marks.specs.Onlookers.{meets_any, LeavesOthersSettled, ShowsOthersNothing}
+use Rattle.view_marks.proofs.Bystanders.{is_number, own_at, own_sets, own_settled, settled_at, still_settled, still_shown, KeepsId}
+use Rattle.view_marks.proofs.Passing.{own_other, way_kept}
 use Rattle.view_marks.proofs.Secrets.{secrets, secrets_settled}
-use Rattle.view_marks.proofs.Walls.{movement_walls, movement_walls_settled, trails, trails_settled}
+use Rattle.view_marks.proofs.Walls.{trails, trails_settled, walls_settled, walls_shown}
+use Rattle.view_marks.proofs.Fogs.{apart, fogs}
 
 neither : (a b : Bool) → (a || b) ≡ false → (a ≡ false) × (b ≡ false)
 neither false b h = (refl, h)
@@ -89,16 +88,6 @@ any_moved_settled : (steps : ℕ) (id : TokenId) (path : List (ℤ × ℤ)) (o :
 any_moved_settled steps id path None s place set is there none = settled_at s place set is there
 any_moved_settled steps id path (Some t) s place set is there none = let both = neither _ _ none in moved_settled set.seat s steps id path t is both.0 both.1 place set there refl
 
--- ---- walls
-
-walled_shown : (s : Scene) (map : List ℕ) (kind : WallKind) (a b : Coordinates) (p : ℕ) → not (blocks_movement kind) ≡ false → IsSettled s → view_of (settled (with_grid map (with_wall_of kind a b) s)) p ≡ view_of s p
-walled_shown s map Vbl a b p none is = let no : true ≡ false = none in cc
-walled_shown s map Mbl a b p none is = movement_walls s map (with_wall (wall_between a b)) p is
-
-unwalled_shown : (s : Scene) (map : List ℕ) (kind : WallKind) (a b : Coordinates) (p : ℕ) → not (blocks_movement kind) ≡ false → IsSettled s → view_of (settled (with_grid map (without_wall_of kind a b) s)) p ≡ view_of s p
-unwalled_shown s map Vbl a b p none is = let no : true ≡ false = none in cc
-unwalled_shown s map Mbl a b p none is = movement_walls s map (without_wall (wall_between a b)) p is
-
 -- ---- what is shown
 
 pub others_nothing : ShowsOthersNothing
@@ -113,19 +102,26 @@ others_nothing steps intents seat s (Sight token sight) p is none player = (let 
 others_nothing steps intents seat s (Place token map cell) p is none player = (let both = neither _ _ none in still_shown p s token (placed map (cell_at cell)) (λ u. refl) both.0 both.1 s.fog is refl player)
 others_nothing steps intents seat s (Secret token name value) p is none player = secrets s token name value p is player
 others_nothing steps intents seat s (Trail map on) p is none player = trails s map on p is
-others_nothing steps intents seat s (Wall map kind a b) p is none player = walled_shown s map kind (point_at a) (point_at b) p none is
-others_nothing steps intents seat s (Unwall map kind a b) p is none player = unwalled_shown s map kind (point_at a) (point_at b) p none is
+others_nothing steps intents seat s (Wall map kind a b) p is none player = walls_shown kind map (with_wall (wall_between (point_at a) (point_at b))) s p none is
+others_nothing steps intents seat s (Unwall map kind a b) p is none player = walls_shown kind map (without_wall (wall_between (point_at a) (point_at b))) s p none is
+others_nothing steps intents seat s (Expose place map rect) p is none player = fogs s place map (λ cells. with_rect cells (rect_at rect) true) p is none
+others_nothing steps intents seat s (Hide place map rect) p is none player = fogs s place map (λ cells. with_rect cells (rect_at rect) false) p is none
 others_nothing steps intents seat s c p is none player = (let no : true ≡ false = none in cc)
 
 -- ---- what is exposed
 
-walled_settled : (s : Scene) (map : List ℕ) (kind : WallKind) (a b : Coordinates) → not (blocks_movement kind) ≡ false → IsSettled s → IsSettled (with_grid map (with_wall_of kind a b) s)
-walled_settled s map Vbl a b none is = let no : true ≡ false = none in cc
-walled_settled s map Mbl a b none is = movement_walls_settled s map (with_wall (wall_between a b)) is
-
-unwalled_settled : (s : Scene) (map : List ℕ) (kind : WallKind) (a b : Coordinates) → not (blocks_movement kind) ≡ false → IsSettled s → IsSettled (with_grid map (without_wall_of kind a b) s)
-unwalled_settled s map Vbl a b none is = let no : true ≡ false = none in cc
-unwalled_settled s map Mbl a b none is = movement_walls_settled s map (without_wall (wall_between a b)) is
+-- a set of another player than the one to whom something is exposed, or hidden
+fog_settled : (s : Scene) (player : ℕ) (name : List ℕ) (change : Cells → Cells) (place : ℕ) (set : Exposure) → IsSettled s → slice_get (with_change s.fog player name change).sets place ≡ Some set → (player == set.seat) ≡ false
+    → settled_set (record s { fog = with_change s.fog player name change }) set ≡ set
+unfolding visible
+fog_settled s player name change place set is there other =
+    under (map_of set.map s.maps)
+    ∙ own_at (λ x. settled_set s x ≡ x) set.seat (with_change s.fog player name change).sets place set
+    (subst (λ (xs : List Exposure). All (λ x. settled_set s x ≡ x) xs) (sym (own_other set.seat player name change (apart player set.seat other) s.fog.sets)) (own_settled s set.seat is)) there (is_number set.seat set.seat refl)
+  where
+    under : (o : Option Grid) → seen_by_set (record s { fog = with_change s.fog player name change }) set o ≡ seen_by_set s set o
+    under None = refl
+    under (Some m) = refl
 
 pub others_settled : LeavesOthersSettled
 unfolding scene_by gm_scene_by way_of
@@ -138,7 +134,9 @@ others_settled steps intents seat s (Visible token on) is place set there none =
 others_settled steps intents seat s (Sight token sight) is place set there none = (let both = neither _ _ none in still_settled set.seat s token (with_sight sight) (λ u. refl) both.0 both.1 s.fog is refl place set there refl)
 others_settled steps intents seat s (Place token map cell) is place set there none = (let both = neither _ _ none in still_settled set.seat s token (placed map (cell_at cell)) (λ u. refl) both.0 both.1 s.fog is refl place set there refl)
 others_settled steps intents seat s (Secret token name value) is place set there none = settled_at _ place set (secrets_settled s token name value is) there
-others_settled steps intents seat s (Trail map on) is place set there none = settled_at _ place set (trails_settled s map on is) there
-others_settled steps intents seat s (Wall map kind a b) is place set there none = settled_at _ place set (walled_settled s map kind (point_at a) (point_at b) none is) there
-others_settled steps intents seat s (Unwall map kind a b) is place set there none = settled_at _ place set (unwalled_settled s map kind (point_at a) (point_at b) none is) there
+others_settled steps intents seat s (Trail map on) is place set there none = trails_settled s map on set ∙ settled_at s place set is there
+others_settled steps intents seat s (Wall map kind a b) is place set there none = walls_settled kind map (with_wall (wall_between (point_at a) (point_at b))) s set none ∙ settled_at s place set is there
+others_settled steps intents seat s (Unwall map kind a b) is place set there none = walls_settled kind map (without_wall (wall_between (point_at a) (point_at b))) s set none ∙ settled_at s place set is there
+others_settled steps intents seat s (Expose player map rect) is place set there none = fog_settled s player map (λ cells. with_rect cells (rect_at rect) true) place set is there none
+others_settled steps intents seat s (Hide player map rect) is place set there none = fog_settled s player map (λ cells. with_rect cells (rect_at rect) false) place set is there none
 others_settled steps intents seat s c is place set there none = (let no : true ≡ false = none in cc)

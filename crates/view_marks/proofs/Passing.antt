@@ -1,9 +1,8 @@
 -- A way that a token takes exposes nothing to a player who isn't shown the token, and doesn't see by it.
-use Rattle.std.proofs.Common.{◌≡◌, ℕ, zero, suc, Bool, true, false, cond, ◌&&◌, ◌||◌, not, List, [], ◌∷◌, map, filter, Some, None, refl, sym, ◌∙◌, ap, subst, arith}
-use Rattle.std.specs.Prelude.{Option, All, nat_eq}
+use Rattle.std.proofs.Common.{◌≡◌, ℕ, zero, suc, Bool, true, false, cond, ◌&&◌, ◌||◌, not, List, [], ◌∷◌, Some, refl, sym, ◌∙◌, ap, subst}
+use Rattle.std.specs.Prelude.{All, nat_eq}
 use Rattle.std.specs.List.{list_any}
 use Rattle.std.specs.Str.{bytes_eq}
-use Rattle.std.proofs.lemmas.Bool.Decides.{nat_tests}
 use Rattle.std.proofs.lemmas.Bool.{and_parts}
 use Rattle.std.proofs.lemmas.List.Elements.{All-cons, All-head, All-nil, All-tail}
 use Rattle.std.proofs.lemmas.Slice.Eq.{bytes_eq-Decides}
@@ -12,23 +11,22 @@ use Rattle.cells.specs.Cells.{Cells}
 use Rattle.cells.specs.declared.cell.Cell.{Cell}
 use Rattle.maps.specs.Maps.{Grid, map_of}
 use Rattle.fog_book.specs.declared.exposure.Exposure.{Exposure}
-use Rattle.fog_book.specs.Exposures.{changed_at, is_of, joined, with_change, Fog}
+use Rattle.fog_book.specs.Exposures.{changed_at, is_of, joined}
 use Rattle.tokens.specs.declared.token.Token.{Token}
 use Rattle.tokens.specs.Owners.{has_owner}
 use Rattle.tokens.specs.Tokens.{changed, has_id, placed}
 use Rattle.world.specs.Scene.{Scene, with_token}
-use Rattle.player_view.specs.Sight.{is_hidden, is_on, visible}
-use Rattle.player_view.proofs.SceneLemmas.{name_found}
+use Rattle.player_view.specs.Sight.{is_hidden, visible}
 use Rattle.command_effects.specs.Settle.{settled_set, with_sight, IsSettled}
-use Rattle.command_effects.specs.Way.{Way, along, exposed_from, exposed_on, exposed_to, exposed_to_first}
+use Rattle.command_effects.specs.Way.{along, exposed_from, exposed_to, exposed_to_first}
 use Rattle.command_effects.proofs.Ways.{both_sets, itself, to_first, HasOtherSets}
-use Rattle.view_marks.specs.Onlookers.{has_token_on, lies, meets, meets_any, meets_as, plays, plays_on}
+use Rattle.view_marks.specs.Onlookers.{has_token_on, lies, meets_any, meets_as, plays_on}
 use Rattle.view_marks.proofs.Bystanders.{own_sets, own_settled, same_number, still_seen}
 
 -- ---- one set is changed
 
 -- of another player
-own_other : (p q : ℕ) (name : List ℕ) (change : Cells → Cells) → nat_eq q p ≡ false → (sets : List Exposure) → own_sets p (changed_at (is_of q name) change sets) ≡ own_sets p sets
+pub own_other : (p q : ℕ) (name : List ℕ) (change : Cells → Cells) → nat_eq q p ≡ false → (sets : List Exposure) → own_sets p (changed_at (is_of q name) change sets) ≡ own_sets p sets
 own_other p q name change other [] = refl
 own_other p q name change other (set ∷ sets) = by (is_of q name set) refl (own_other p q name change other sets)
   where

@@ -1,5 +1,5 @@
 -- Whom a change of one token may show something.
-use Rattle.std.specs.Prelude.{◌≡◌, ◌≤◌, ℕ, ◌&&◌, ◌||◌, not, Bool, true, false, List, Option, Some, None, slice_get}
+use Rattle.std.specs.Prelude.{◌≡◌, ◌==◌, ◌≤◌, ℕ, ◌&&◌, ◌||◌, not, Bool, true, false, List, Some, slice_get}
 use Rattle.std.specs.List.{list_any}
 use Rattle.names.specs.declared.kinds.Layer.{Layer}
 use Rattle.names.specs.declared.kinds.Layer.TheVariants.{Token as TokenLayer, Hidden, Object, Background}
@@ -7,7 +7,7 @@ use Rattle.names.specs.declared.kinds.WallKind.{WallKind}
 use Rattle.names.specs.declared.kinds.WallKind.TheVariants.{Vbl, Mbl}
 use Rattle.names.specs.declared.token_id.TokenId.{TokenId}
 use Rattle.command_json.specs.declared.command.Command.{Command}
-use Rattle.command_json.specs.declared.command.Command.TheVariants.{Move, Setprop, Light, Trail, Wall, Unwall, Own, Layer as PutOnLayer, Visible, Sight, Place, Secret}
+use Rattle.command_json.specs.declared.command.Command.TheVariants.{Move, Setprop, Light, Trail, Wall, Unwall, Own, Layer as PutOnLayer, Visible, Sight, Place, Secret, Expose, Hide}
 use Rattle.macro_eval.specs.declared.intent.Intent.{Intent}
 use Rattle.tokens.specs.declared.token.Token.{Token}
 use Rattle.tokens.specs.Owners.{has_owner}
@@ -64,7 +64,7 @@ blocks_movement Vbl = false
 blocks_movement Mbl = true
 
 -- the command, by which the one scene becomes the other, may show the player something: a command that changes one token
--- does where the player may be shown it before or after
+-- does where the player may be shown it before or after, and a wall that blocks sight where the player has a token
 abbrev pub looks_on : Scene → Scene → Command → ℕ → Bool
 looks_on s after (Move token path) p = meets_any s token p || meets_any after token p
 looks_on s after (Setprop token class name value) p = meets_any s token p || meets_any after token p
@@ -76,8 +76,10 @@ looks_on s after (Sight token sight) p = meets_any s token p || meets_any after 
 looks_on s after (Place token map cell) p = meets_any s token p || meets_any after token p
 looks_on s after (Secret token name value) p = false
 looks_on s after (Trail map on) p = false
-looks_on s after (Wall map kind a b) p = not (blocks_movement kind)
-looks_on s after (Unwall map kind a b) p = not (blocks_movement kind)
+looks_on s after (Wall map kind a b) p = not (blocks_movement kind) && has_token_on s p map
+looks_on s after (Unwall map kind a b) p = not (blocks_movement kind) && has_token_on s p map
+looks_on s after (Expose player map rect) p = player == p
+looks_on s after (Hide player map rect) p = player == p
 looks_on s after c p = true
 
 -- the scene that the command makes, with what is seen on its way exposed

@@ -1,5 +1,5 @@
 //! Whom a command may show something of what it changes.
-ghost use Rattle.std.specs.Prelude.{◌≡◌, ◌<◌, ◌+◌, ◌&&◌, ◌||◌, not, true, length, take};
+ghost use Rattle.std.specs.Prelude.{◌≡◌, ◌==◌, ◌<◌, ◌+◌, ◌&&◌, ◌||◌, not, true, length, take};
 ghost use Rattle.std.specs.List.{list_any};
 ghost use Rattle.player_view.specs.Sight.{is_hidden, is_on};
 ghost use Rattle.view_marks.specs.Onlookers.{AreWhere, blocks_movement as blocks_movement_lem, has_token_on, lies as lies_lem, looks_on, meets as meets_lem, meets_any, meets_as, plays_on};
@@ -117,14 +117,23 @@ fn blocks_movement(kind: WallKind) -> bool
     matches!(kind, WallKind::Mbl)
 }
 
-fn onlookers_at_wall(kind: WallKind) -> Owners
-    ensures { AreWhere result (λ p. not (blocks_movement_lem kind)) }
+fn onlookers_at_wall(scene: &Scene, map: Tag, kind: WallKind) -> Owners
+    ensures { AreWhere result (λ p. not (blocks_movement_lem kind) && has_token_on scene.now p map) }
 {
     if blocks_movement(kind) {
         Owners::none()
     } else {
-        everybody()
+        players_on(scene, map)
     }
+}
+
+/// The one seat.
+fn alone(seat: SeatNo) -> Owners
+    ensures { AreWhere result (λ p. seat == p) }
+{
+    // A seat tells with its number that it is one of 33.
+    let _number = seat.number();
+    Owners::none().with(seat, true)
 }
 
 /// The players whom the command, by which the one scene became the other, may show something of what it changed, with seat 0
@@ -142,7 +151,10 @@ pub fn onlookers(before: &Scene, after: &Scene, command: &Command) -> Owners
         | Command::Sight { token, .. }
         | Command::Place { token, .. } => met_before_or_after(before, after, token),
         Command::Secret { .. } | Command::Trail { .. } => Owners::none(),
-        Command::Wall { kind, .. } | Command::Unwall { kind, .. } => onlookers_at_wall(*kind),
+        Command::Wall { map, kind, .. } | Command::Unwall { map, kind, .. } => onlookers_at_wall(
+            before, *map, *kind,
+        ),
+        Command::Expose { seat, .. } | Command::Hide { seat, .. } => alone(*seat),
         _ => everybody(),
     }
 }

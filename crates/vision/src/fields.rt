@@ -6,7 +6,7 @@ ghost use Rattle.vision.specs.Fields.{field_at, with_field, without_field};
 
 use cells::CellSet;
 use names::{Memory, TokenId};
-use std::alloc::Global;
+use std::alloc::{AllocError, Global};
 use std::collections::BTreeMap;
 use std::marker::Model;
 use std::sync::Arc;
@@ -26,6 +26,16 @@ impl Model for SharedField {
     ghost view = { λ f. arc_value f.set };
 }
 
+impl Clone for SharedField {
+    ghost is_clone = { λ field copy. copy ≡ field };
+
+    fn clone(&self) -> Result<SharedField, AllocError> {
+        Ok(SharedField {
+            set: Arc::try_clone(&self.set)?,
+        })
+    }
+}
+
 impl SharedField {
     // The field comes back for want of memory.
     fn new(alloc: Global, field: CellSet) -> Result<SharedField, CellSet>
@@ -42,10 +52,7 @@ impl SharedField {
     fn share(&self) -> Result<SharedField, Memory>
         ensures { IfOk result (λ shared. shared ≡ self.now) }
     {
-        match Arc::try_clone(&self.set) {
-            Ok(set) => Ok(SharedField { set }),
-            Err(_) => Err(Memory),
-        }
+        Ok(self.clone()?)
     }
 
     fn get(&self) -> &CellSet
@@ -81,6 +88,17 @@ impl Fields {
             alloc,
             fields: BTreeMap::new(alloc),
         }
+    }
+
+    /// The same fields, without a copy of their cells.
+    #[tactic(auto, using(crate::proofs::FieldLemmas::copied))]
+    pub fn copy(&self) -> Result<Fields, Memory>
+        ensures { IfOk result (λ fields. fields ≡ self.now) }
+    {
+        Ok(Fields {
+            alloc: self.alloc,
+            fields: self.fields.clone()?,
+        })
     }
 
     /// Keeps the field of that id, in place of the one that was kept for it. The fields of other ids stay.

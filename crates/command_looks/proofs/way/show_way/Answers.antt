@@ -5,7 +5,8 @@ use Rattle.maps.specs.Maps.{Grid, map_of}
 use Rattle.tokens.specs.Tokens.{placed}
 use Rattle.world.specs.Scene.{Scene, with_token}
 use Rattle.command_effects.specs.Way.{along, exposed_from}
-use Rattle.command_looks.proofs.Along.{next_cell, maps_stay, side_stays, kept_stay}
+use Rattle.command_looks.specs.Fields.{AreKept}
+use Rattle.command_looks.proofs.Along.{next_cell, maps_stay, placed_due, side_stays, kept_stay}
 use Rattle.command_looks.proofs.way.show_way.Goals as goal
 
 pub loop-cell-preserved : goal.loop-cell-preserved
@@ -29,10 +30,11 @@ loop-cell-preserved g c =
     subst (λ o. IfSome o (λ (m : Grid). along id name m (drop i cells) (with_token id (placed name last) s) ≡ along id name m cells c.args.scene.now)) there c.loop-cell.invariant.rest in
     let inside : i < length cells = subst (λ (cs : List Cell). i < length cs) c.deref-cell-items.ensures.value c.loop-cell-test.true in
     let after = next_cell id name grid last cells i d s new (along id name grid cells c.args.scene.now) inside made before in
+    let found : AreKept (seen cells) c.stop_at.new.fields = subst (λ (cs : List Cell). AreKept (seen cs) c.stop_at.new.fields) c.deref-cell-items.ensures.value c.in_ok-stop_at.ensures.kept in
     record {
       rest = subst (λ o. IfSome o (λ (m : Grid). along id name m (drop (i + 1) cells) (with_token id (placed name last) new) ≡ along id name m cells c.args.scene.now)) (sym there) after;
       maps = maps_stay id name grid (get_or cells i d) s new made ∙ c.loop-cell.invariant.maps;
       side = side_stays id name grid (get_or cells i d) s new made ∙ c.loop-cell.invariant.side;
-      kept = kept_stay id name grid (get_or cells i d) s new made c.args.fields.now c.loop-cell.invariant.kept;
+      kept = kept_stay id name grid (get_or cells i d) s new made c.stop_at.new.fields (λ other apart. found.each other ∙ placed_due id name (get_or cells i d) s other apart);
       looks = omega (arith, c.stop_at.ensures.looks, c.loop-cell.invariant.looks);
     }

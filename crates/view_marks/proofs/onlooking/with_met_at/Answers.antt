@@ -1,4 +1,4 @@
-use Rattle.std.proofs.Common.{◌∙◌, sym}
+use Rattle.std.proofs.Common.{◌∙◌}
 use Rattle.tokens.specs.Owners.{has_owner}
 use Rattle.tokens.specs.Tokens.{has_id}
 use Rattle.view_marks.specs.Onlookers.{meets, meets_as}
