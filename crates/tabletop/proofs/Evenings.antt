@@ -1,5 +1,5 @@
 -- How an evening with a log ends, from what its parts did.
-use Rattle.std.proofs.Common.{◌≡◌, ◌≤◌, ◌⊎◌, inl, inr, ℕ, List, [], ◌++◌, length, take, sym, ◌∙◌, ap, subst, arith, length-append}
+use Rattle.std.proofs.Common.{◌≡◌, ◌≤◌, ◌⊎◌, inl, inr, ℕ, List, ◌++◌, length, take, sym, ◌∙◌, ap, subst, arith, length-append}
 use Rattle.std.specs.Prelude.{Option, Some, None}
 use Rattle.std.specs.Io.KnownBytes.{append_known}
 use Rattle.std.proofs.lemmas.List.{take-append-le}
@@ -9,7 +9,6 @@ use Rattle.script_play.specs.Sending.{WroteFront}
 use Rattle.session.specs.declared.service.Sat.{Sat}
 use Rattle.serving.specs.declared.sittings.Sitting.{Sitting}
 use Rattle.log_serving.specs.declared.answers.LogServed.{LogServed}
-use Rattle.log_serving.specs.declared.answers.LogServed.TheVariants as served
 use Rattle.command_words.specs.LoggedServe.{LoggedService}
 use Rattle.tabletop.specs.declared.endings.Ended.{Ended}
 use Rattle.tabletop.specs.declared.endings.Ended.TheVariants as plain

@@ -1,5 +1,5 @@
 -- The number of connections that words of an evening with a log ask for is in its range.
-use Rattle.std.proofs.Common.{◌≡◌, ◌≤◌, ℕ, Bool, true, false, List, [], ◌∷◌, Some, None, subst}
+use Rattle.std.proofs.Common.{◌≡◌, ◌≤◌, Bool, true, false, List, [], ◌∷◌, Some, None, subst}
 use Rattle.std.specs.Prelude.{Option, if◌then◌else◌, option_and_then}
 use Rattle.command_words.specs.Words.{Text, Asked, Play, Check, Drill, Serve, Verify, Compare, is_file, serve}
 use Rattle.command_words.specs.LoggedServe.{LoggedService, with_log, is_marked, ending, logged_serve_of}

@@ -65,7 +65,10 @@ pub(crate) fn summary_of<E: Eye + Drop>(
     ensures { IfOk result (λ summary. Drills number lines summary) }
 {
     let (mut campaign, script) = open_drill(alloc, number, lines, eye)?;
-    play_drill(alloc, number, &mut campaign, script)
+    let summary = play_drill(alloc, number, &mut campaign, script);
+    // In a call, so that its steps aren't this function's.
+    drop(campaign);
+    summary
 }
 
 // The campaign that the drill opens, and its script, which is played to its end there.

@@ -253,7 +253,11 @@ where
         Ok((entries, journal)) => serve_from_log(
             rt, alloc, asked, campaign, entries, journal, text, out, door, disk, spawner,
         ),
-        Err(ended) => (ended, door, disk),
+        Err(ended) => {
+            // In a call, so that its steps aren't this function's.
+            drop(campaign);
+            (ended, door, disk)
+        }
     }
 }
 
@@ -314,7 +318,11 @@ where
             );
             (served_as(served), door, disk)
         }
-        Err(Memory) => (LogEnded::Plain(Ended::Memory), door, disk),
+        Err(Memory) => {
+            // In a call, so that its steps aren't this function's.
+            drop(campaign);
+            (LogEnded::Plain(Ended::Memory), door, disk)
+        }
     }
 }
 

@@ -155,7 +155,10 @@ fn play_text_logged<S: Source, O: Sink, K: Disk>(
 {
     match Campaign::open(alloc, text.bytes(), SweepEye::new(alloc)) {
         Ok(mut campaign) => {
-            play_with_log(alloc, &mut campaign, log, end, text, script, out, disk)
+            let ended = play_with_log(alloc, &mut campaign, log, end, text, script, out, disk);
+            // In a call, so that its steps aren't this function's.
+            drop(campaign);
+            ended
         }
         Err(fault) => not_opened(fault),
     }

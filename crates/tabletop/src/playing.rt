@@ -59,7 +59,10 @@ fn play_text<S: Source, O: Sink>(
     match Campaign::open(alloc, text.bytes(), SweepEye::new(alloc)) {
         Ok(mut campaign) => {
             let played = play(alloc, &mut campaign, script, out);
-            after_play(alloc, played, end, &campaign, out)
+            let ended = after_play(alloc, played, end, &campaign, out);
+            // In a call, so that its steps aren't this function's.
+            drop(campaign);
+            ended
         }
         Err(OpenFault::Bad(breach)) => Ended::BadCampaign(breach),
         Err(OpenFault::Memory) => Ended::Memory,

@@ -252,6 +252,34 @@ fn fault_of(second: bool, stop: Stop) -> CheckFault
     }
 }
 
+/// What a player may know of the history of a script on a campaign that has no entry yet. The campaign is borrowed: who holds one drops it at
+/// each return, and each of these is proved.
+fn trace_on<E: Eye + Drop>(
+    alloc: Global,
+    campaign: &mut Campaign<E>,
+    script: &[u8],
+    seat: SeatNo,
+) -> Result<Traced, Stop>
+    requires fresh { IsOpening campaign.old.origin }
+    requires history { campaign.old.history ≡ [] }
+    ensures traced { IfOk result (λ traced. (text : List ℕ) → world_of_text text ≡ Some campaign.old.origin
+        → FitsTogether campaign.old.origin → HasTables campaign.old.origin.scene → length campaign.old.origin.seats ≤ 33
+        → IsTraced text script.now seat traced.opening (items_in traced.items.items)) }
+    ensures stopped { IfErr result (IsStopOf (script_of campaign.old.origin script.now)) }
+{
+    let Ok(opening) = opening_of(campaign, seat) else {
+        return Err(Stop::Memory);
+    };
+    let mut follower = Follower::new(alloc, seat);
+    match follower.play(alloc, campaign, script) {
+        Ok(()) => Ok(Traced {
+            opening,
+            items: follower.items,
+        }),
+        Err(stop) => Err(stop),
+    }
+}
+
 /// What a player may know of the history of a script; `second` stands in the faults.
 pub(crate) fn trace_in(
     alloc: Global,
@@ -264,15 +292,11 @@ pub(crate) fn trace_in(
     ensures fault { IfErr result (IsFaultOf second text.now script.now) }
 {
     let mut campaign = opened(alloc, text, second)?;
-    let Ok(opening) = opening_of(&campaign, seat) else {
-        return Err(CheckFault::Memory);
-    };
-    let mut follower = Follower::new(alloc, seat);
-    match follower.play(alloc, &mut campaign, script) {
-        Ok(()) => Ok(Traced {
-            opening,
-            items: follower.items,
-        }),
+    let traced = trace_on(alloc, &mut campaign, script, seat);
+    // In a call, so that its steps aren't this function's.
+    drop(campaign);
+    match traced {
+        Ok(traced) => Ok(traced),
         Err(stop) => Err(fault_of(second, stop)),
     }
 }

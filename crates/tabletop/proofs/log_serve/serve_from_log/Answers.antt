@@ -1,4 +1,4 @@
-use Rattle.std.proofs.Common.{◌≡◌, ◌++◌, length, take, refl, inl, sym, ◌∙◌, ap, subst}
+use Rattle.std.proofs.Common.{◌++◌, length, take, refl, inl, sym, ◌∙◌, ap, subst}
 use Rattle.campaign_law.specs.World.{replay}
 use Rattle.crash_log.specs.Log.{HoldsLog}
 use Rattle.command_words.specs.LoggedServe.{asked_service}

@@ -1,4 +1,4 @@
-use Rattle.std.proofs.Common.{◌≡◌, ◌∙◌, ap, sym, subst, inl, refl}
+use Rattle.std.proofs.Common.{◌∙◌, ap, sym, subst, inl, refl}
 use Rattle.campaign_core.specs.Opening.{world_of_text, IsOpenFault}
 use Rattle.tabletop.specs.LogEndings.{log_status}
 use Rattle.tabletop.proofs.LoggedEnds.{not_opened_ends}
